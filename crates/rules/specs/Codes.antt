@@ -1,0 +1,34 @@
+-- The codes: their names, and the number of each.
+use Prim.Native.Nat.{ℕ}
+use lib.IntN.{ℤ, pos, negℤ}
+
+pub data Code : Type 0 where
+  OK WAITS H-STATE H-CALL H-PAR E-NOEXS E-TPRI E-ILTIME E-CTX E-SELF E-DMT H-NODMT H-SUS E-NOSUS E-NOWAI E-QOVR H-POLL H-MSG H-ILBLK E-TMOUT E-RLWAI : Code
+  deriving Discrete as Code-discrete
+
+abbrev pub minus : ℕ → ℤ
+minus n = negℤ (pos n)
+
+-- normal end is 0, a caller that must wait gets 1, and every refusal is negative
+unfoldable pub number : Code → ℤ
+number OK = pos 0
+number WAITS = pos 1
+number H-STATE = minus 9
+number H-CALL = minus 1
+number H-PAR = minus 2
+number E-NOEXS = minus 2100
+number E-TPRI = minus 1830
+number E-ILTIME = minus 1831
+number E-CTX = minus 2629
+number E-SELF = minus 2097
+number E-DMT = minus 2101
+number H-NODMT = minus 3
+number H-SUS = minus 4
+number E-NOSUS = minus 2104
+number E-NOWAI = minus 2110
+number E-QOVR = minus 2889
+number H-POLL = minus 5
+number H-MSG = minus 6
+number H-ILBLK = minus 10
+number E-TMOUT = minus 3413
+number E-RLWAI = minus 3414

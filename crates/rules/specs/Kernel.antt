@@ -1,0 +1,79 @@
+-- The kernel with queues: its fresh state, and an event on a state that may be damaged.
+use mathlib.Core.Bool.{Bool, true, false, cond}
+use mathlib.Core.List.{List, [], _∷_, map}
+use mathlib.Core.Option.{Option, none, some}
+use Prim.Native.Nat.{ℕ, suc}
+use lib.IntN.{ℤ}
+use lib.ListN.{replicate}
+use Rattle.rules.specs.Codes.{OK, H-STATE}
+use Rattle.rules.specs.State.{dormant, Cell, Task, Body}
+use Rattle.rules.specs.Places.{tabulate}
+use Rattle.rules.specs.Setup.{Entry, Setup}
+use Rattle.rules.specs.Events.{Event}
+use Rattle.rules.specs.Acts.{Act, start}
+use Rattle.rules.specs.View.{View, acts}
+use Rattle.rules.specs.Table.{judge}
+use Rattle.rules.specs.Answers.{Answer, answer, readCell}
+use Rattle.rules.specs.Sound.{Sound}
+use Rattle.rules.specs.Check.{sound?}
+
+-- ---- fresh
+
+abbrev pub idleTask : Entry → Task
+idleTask e = record { state = dormant; priority = e .priority; start = e .priority; wakeups = 0; cell = record { code = OK; word = 0 } }
+
+-- every task dormant, every block free, every mailbox empty, clock 0, wake-up counts 0, answer cells 0 and 0
+unfoldable pub idle : Setup → Body
+idle u = record {
+  tasks = map idleTask (u .tasks);
+  store = record {
+    priorities = u .priorities;
+    semaphores = u .semaphores;
+    flags = u .flags;
+    mailboxes = u .mailboxes;
+    messages = replicate (u .messages) none;
+    pools = map (λ n. replicate n true) (u .pools);
+    clock = 0;
+  };
+}
+
+-- Started tasks enter the ready queues in id order, the others are dormant.
+unfoldable pub starts : ℕ → List Entry → List Act
+starts i [] = []
+starts i (e ∷ l) = cond (e .started) (start i ∷ starts (suc i) l) (starts (suc i) l)
+
+unfoldable pub fresh : Setup → View
+fresh u = acts (starts 1 (u .tasks)) (record { body = idle u; lines = tabulate (idle u .store) (λ q. []) })
+
+-- ---- an event
+
+pub record Outcome : Type 0 where
+  pub answer : Answer
+  pub next : View
+
+-- the state after the acts of the verdict
+unfoldable pub next : View → Event → View
+next v e = acts (judge v e .acts) v
+
+unfoldable pub served : View → Event → Outcome
+served v e = record { answer = answer (judge v e) v (next v e); next = next v e }
+
+-- H_STATE: words 0, 0 released, the running task given as 0, the state unchanged.
+unfoldable pub damaged : View → Outcome
+damaged v = record { answer = record { code = H-STATE; w1 = 0; w2 = 0; runs = 0; released = 0 }; next = v }
+
+-- H_STATE comes before every other refusal, of calls and of ticks.
+unfoldable pub guarded : (v : View) → Event → Dec (Sound v) → Outcome
+guarded v e (yes s) = served v e
+guarded v e (no h) = damaged v
+
+unfoldable pub event : View → Event → Outcome
+event v e = guarded v e (sound? v)
+
+-- the cell of a task: H_STATE with word 0 if the state is damaged
+unfoldable pub guardedCell : (v : View) → ℤ → Dec (Sound v) → Cell
+guardedCell v a (yes s) = readCell (v .body) a
+guardedCell v a (no h) = record { code = H-STATE; word = 0 }
+
+unfoldable pub cell : View → ℤ → Cell
+cell v a = guardedCell v a (sound? v)

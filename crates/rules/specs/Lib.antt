@@ -1,0 +1,20 @@
+-- The rules of the kernel as definitions, in the order in which to read them.
+pub mod Ids
+pub mod Codes
+pub mod Setup
+pub mod Events
+pub mod State
+pub mod Places
+pub mod Acts
+pub mod View
+pub mod Verdicts
+pub mod Tasks
+pub mod Objects
+pub mod Time
+pub mod Table
+pub mod Answers
+pub mod Sound
+pub mod Check
+pub mod Kernel
+pub mod Plain
+pub mod Runs

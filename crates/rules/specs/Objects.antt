@@ -1,0 +1,126 @@
+-- Calls 13 to 25 and 28 to 31: semaphores, flags, mailboxes and pools. Wait queues are first come, first served.
+-- The kinds have one shape: a call that gives (sig, set, snd, rel) serves the first waiter, else stores; a call that takes is
+-- served at once, or else waits (wai, rcv, get) or is refused (the polls); a status call gives the first waiter and what is stored.
+use mathlib.Core.Bool.{Bool, true, false, not, cond, _||_}
+use mathlib.Core.List.{List, [], _∷_, _++_}
+use mathlib.Core.Option.{Option, none, some}
+use Prim.Native.Nat.{ℕ, zero, suc, _%_}
+use lib.Bits.{bitAnd, bitOr}
+use lib.Dec.{eqb, leb}
+use lib.IntN.{ℤ}
+use lib.ListN.{length}
+use Rattle.rules.specs.Ids.{of, first}
+use Rattle.rules.specs.Codes.{OK, E-QOVR, H-POLL, H-MSG, H-ILBLK}
+use Rattle.rules.specs.State.{Kind, semaphore, flag, mailbox, pool, on, Body, task, waitOf, wish}
+use Rattle.rules.specs.Places.{waiters, mail}
+use Rattle.rules.specs.Events.{nat, bits, outside}
+use Rattle.rules.specs.Acts.{Act, release, count, pattern, post, receive, mark}
+use Rattle.rules.specs.View.{View, line}
+use Rattle.rules.specs.Verdicts.{Verdict, refuse, gives, done, waits, check, choose, onFirst, onCount}
+
+-- ---- over the kind
+
+-- the first waiter on object a is released with the word w; if there is none, as r says
+unfoldable pub to-first : View → Kind → ℤ → ℕ → Verdict → Verdict
+to-first v k a w r = onFirst (line v (waiters k (nat a))) r (λ x. done (release x OK w ∷ []))
+
+-- A poll that can't be served at once.
+abbrev pub polls : Verdict
+polls = refuse H-POLL
+
+-- the caller waits on object a
+abbrev pub waits-on : ℕ → Kind → ℤ → Verdict
+waits-on me k a = waits me (on k (nat a) 0 0)
+
+-- w1 the first waiter or 0, w2 n
+unfoldable pub obj-sts : View → Kind → ℤ → ℕ → Verdict
+obj-sts v k a n = gives (first (line v (waiters k (nat a)))) n []
+
+-- ---- semaphores
+
+abbrev pub countOf : View → ℤ → ℕ
+countOf v a = of (v .body .store .semaphores) (nat a) 0
+
+-- 13 sig_sem(a): releases the first waiter, else adds one.
+unfoldable pub sig-sem : View → ℤ → Verdict
+sig-sem v a = to-first v semaphore a 0 (check (leb 65535 (countOf v a)) E-QOVR (done (count (nat a) (suc (countOf v a)) ∷ [])))
+
+-- 14 wai_sem(a) T, 15 preq_sem(a): takes one if the count is above 0.
+unfoldable pub take-sem : View → ℤ → Verdict → Verdict
+take-sem v a other = onCount (countOf v a) other (λ n. done (count (nat a) n ∷ []))
+
+-- ---- flags
+
+abbrev pub patternOf : View → ℤ → ℕ
+patternOf v a = of (v .body .store .flags) (nat a) 0
+
+-- Mode 1-bit set means any bit of what is asked for, unset means all bits.
+abbrev pub met : ℕ → ℕ → ℕ → Bool
+met have want mode = cond (eqb (mode % 2) 1) (not (eqb (bitAnd have want) 0)) (eqb (bitAnd have want) want)
+
+-- Mode 2-bit set means clear the whole pattern on success.
+abbrev pub left : ℕ → ℕ → ℕ
+left have mode = cond (leb 2 mode) 0 have
+
+-- Goes through the waiters in order; each whose condition holds is released with the pattern of that moment, and if it asked for
+-- clearing the pattern becomes 0 before the next is looked at.
+abbrev pub serve-flag : Body → ℕ → ℕ → List ℕ → List Act
+serve-flag b f have [] = pattern f have ∷ []
+serve-flag b f have (x ∷ l) =
+    let w : ℕ × ℕ = wish (waitOf (task b x .state)) in
+    cond (met have (w .0) (w .1)) (release x OK have ∷ serve-flag b f (left have (w .1)) l) (serve-flag b f have l)
+
+-- 16 set_flg(a, b): ORs b in, then goes through the waiters.
+unfoldable pub set-flg : View → ℤ → ℤ → Verdict
+set-flg v a b = done (serve-flag (v .body) (nat a) (bitOr (patternOf v a) (bits b)) (line v (waiters flag (nat a))))
+
+-- 17 clr_flg(a, b): ANDs.
+unfoldable pub clr-flg : View → ℤ → ℤ → Verdict
+clr-flg v a b = done (pattern (nat a) (bitAnd (patternOf v a) (bits b)) ∷ [])
+
+-- 18 wai_flg(a, b, c) T, 19 pol_flg: w1 is the pattern before clearing.
+unfoldable pub take-flg : View → ℤ → ℤ → ℤ → Verdict → Verdict
+take-flg v a b c other = choose (met (patternOf v a) (bits b) (nat c)) (gives (patternOf v a) 0 (pattern (nat a) (left (patternOf v a) (nat c)) ∷ [])) other
+
+-- ---- mailboxes
+
+-- the message lies in some mailbox
+abbrev pub laid : Option ℕ → Bool
+laid none = false
+laid (some m) = true
+
+-- 20 snd_msg(a, b): to the first waiter, else last in the mailbox.
+unfoldable pub snd-msg : View → ℤ → ℤ → Verdict
+snd-msg v a b = check (laid (of (v .body .store .messages) (nat b) none)) H-MSG (to-first v mailbox a (nat b) (done (post (nat b) (nat a) ∷ [])))
+
+-- 21 rcv_msg(a) T, 22 prcv_msg(a): w1 the first message.
+unfoldable pub take-msg : View → ℤ → Verdict → Verdict
+take-msg v a other = onFirst (line v (mail (nat a))) other (λ m. gives m 0 (receive m ∷ []))
+
+-- ---- pools
+
+-- the marks of a pool's blocks: true is free
+abbrev pub blocksOf : View → ℤ → List Bool
+blocksOf v a = of (v .body .store .pools) (nat a) []
+
+-- the lowest-numbered free block, where the first has number k; 0 if none is free
+abbrev pub lowest : ℕ → List Bool → ℕ
+lowest k [] = 0
+lowest k (true ∷ l) = k
+lowest k (false ∷ l) = lowest (suc k) l
+
+-- the number of free blocks
+abbrev pub free : List Bool → ℕ
+free [] = 0
+free (true ∷ l) = suc (free l)
+free (false ∷ l) = free l
+
+-- 23 get_blk(a) T, 24 pget_blk(a): w1 is the lowest-numbered free block.
+unfoldable pub take-blk : View → ℤ → Verdict → Verdict
+take-blk v a other = onCount (lowest 1 (blocksOf v a)) other (λ k. gives (suc k) 0 (mark (nat a) (suc k) false ∷ []))
+
+-- 25 rel_blk(a, b): to the first waiter, else free. A block number outside the pool, or free, is refused.
+unfoldable pub rel-blk : View → ℤ → ℤ → Verdict
+rel-blk v a b =
+    check (outside b (length (blocksOf v a)) || of (blocksOf v a) (nat b) true) H-ILBLK
+    (to-first v pool a (nat b) (done (mark (nat a) (nat b) true ∷ [])))

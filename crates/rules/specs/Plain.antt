@@ -1,0 +1,64 @@
+-- The plain kernel (the paper's word): no queues, but arrival numbers from one count that only rises. It is fed the setup and the
+-- events alone, and judges an event by the same rules, all over its own queues, its own running task and its own states.
+use mathlib.Core.Bool.{Bool, true, false}
+use mathlib.Core.List.{List, [], _∷_}
+use Prim.Native.Nat.{ℕ, suc}
+use lib.IntN.{ℤ}
+use lib.ListN.{length, replicate}
+use Rattle.rules.specs.Ids.{of, put, ids, keep, byNumber}
+use Rattle.rules.specs.State.{Body}
+use Rattle.rules.specs.Places.{Place, Item, aTask, aMessage, item, many, belongs, tabulate}
+use Rattle.rules.specs.Setup.{Setup}
+use Rattle.rules.specs.Events.{Event}
+use Rattle.rules.specs.Acts.{Act, after, Move, stay, leave, last, move}
+use Rattle.rules.specs.View.{View}
+use Rattle.rules.specs.Table.{judge}
+use Rattle.rules.specs.Answers.{Answer, answer}
+use Rattle.rules.specs.Kernel.{idle, starts}
+
+-- all but queues, an arrival number for each task and each message, and the count
+pub record Plain : Type 0 where
+  pub body : Body
+  pub tasks : List ℕ
+  pub messages : List ℕ
+  pub count : ℕ
+
+abbrev pub numberOf : Plain → Item → ℕ
+numberOf s (aTask i) = of (s .tasks) i 0
+numberOf s (aMessage i) = of (s .messages) i 0
+
+-- A queue is those that belong to it, by rising number.
+unfoldable pub queueOf : Plain → Place → List ℕ
+queueOf s q = byNumber (λ i. numberOf s (item q i)) (keep (belongs (s .body) q) (ids (many (s .body) q)))
+
+-- its own view: its state, with its queues listed by number
+unfoldable pub viewOf : Plain → View
+viewOf s = record { body = s .body; lines = tabulate (s .body .store) (queueOf s) }
+
+-- A task takes a new number when made ready, moved, or put into a wait; a message when laid in a mailbox.
+unfoldable pub numbered : Body → Move → Plain → Plain
+numbered b stay s = record { body = b; tasks = s .tasks; messages = s .messages; count = s .count }
+numbered b (leave x) s = record { body = b; tasks = s .tasks; messages = s .messages; count = s .count }
+numbered b (last (aTask i)) s = record { body = b; tasks = put (s .tasks) i (s .count); messages = s .messages; count = suc (s .count) }
+numbered b (last (aMessage i)) s = record { body = b; tasks = s .tasks; messages = put (s .messages) i (s .count); count = suc (s .count) }
+
+unfoldable pub plainAct : Act → Plain → Plain
+plainAct a s = numbered (after a (s .body)) (move (s .body) a) s
+
+unfoldable pub plainActs : List Act → Plain → Plain
+plainActs [] s = s
+plainActs (a ∷ l) s = plainActs l (plainAct a s)
+
+-- before any task is started
+unfoldable pub unstarted : Setup → Plain
+unstarted u = record { body = idle u; tasks = replicate (length (u .tasks)) 0; messages = replicate (u .messages) 0; count = 1 }
+
+-- Fresh numbers follow id order.
+unfoldable pub plainFresh : Setup → Plain
+plainFresh u = plainActs (starts 1 (u .tasks)) (unstarted u)
+
+unfoldable pub plainNext : Plain → Event → Plain
+plainNext s e = plainActs (judge (viewOf s) e .acts) s
+
+unfoldable pub plainAnswer : Plain → Event → Answer
+plainAnswer s e = answer (judge (viewOf s) e) (viewOf s) (viewOf (plainNext s e))

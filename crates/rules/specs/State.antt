@@ -1,0 +1,128 @@
+-- What both kernels keep: everything but the queues.
+use mathlib.Core.Bool.{Bool, true, false}
+use mathlib.Core.List.{List, [], _∷_}
+use mathlib.Core.Option.{Option, none, some}
+use Prim.Native.Nat.{ℕ}
+use lib.ListN.{length}
+use Rattle.rules.specs.Ids.{of}
+use Rattle.rules.specs.Codes.{Code, OK}
+
+-- the four kinds of object that a task can wait on
+pub data Kind : Type 0 where
+  semaphore flag mailbox pool : Kind
+
+-- What a task waits for: a wake-up, for ever or for so many ticks; or an object of a kind, by its id. A waiter on a flag also has
+-- the pattern that it asks for and its mode; for any other kind these two are 0.
+pub data Wait : Type 0 where
+  asleep : Wait
+  timed : ℕ → Wait
+  on : Kind → ℕ → ℕ → ℕ → Wait
+
+-- RUN is not kept: it is the running rule's task, one of the ready ones
+pub data State : Type 0 where
+  dormant ready suspended : State
+  waiting waiting-suspended : Wait → State
+
+-- the answer cell (the paper's word) of a task: how its last wait ended
+pub record Cell : Type 0 where
+  pub code : Code
+  pub word : ℕ
+
+pub record Task : Type 0 where
+  pub state : State
+  pub priority : ℕ
+  -- its starting priority
+  pub start : ℕ
+  -- its wake-up count
+  pub wakeups : ℕ
+  pub cell : Cell
+
+-- of semaphores the count, of flags the pattern, of messages the mailbox in which each lies, of pools a mark for each block: true is free
+pub record Store : Type 0 where
+  pub priorities : ℕ
+  pub semaphores : List ℕ
+  pub flags : List ℕ
+  pub mailboxes : ℕ
+  pub messages : List (Option ℕ)
+  pub pools : List (List Bool)
+  pub clock : ℕ
+
+pub record Body : Type 0 where
+  pub tasks : List Task
+  pub store : Store
+
+-- what is read at an id that no task has
+abbrev pub nobody : Task
+nobody = record { state = dormant; priority = 0; start = 0; wakeups = 0; cell = record { code = OK; word = 0 } }
+
+abbrev pub task : Body → ℕ → Task
+task b i = of (b .tasks) i nobody
+
+-- how many objects of a kind there are
+abbrev pub objects : Store → Kind → ℕ
+objects u semaphore = length (u .semaphores)
+objects u flag = length (u .flags)
+objects u mailbox = u .mailboxes
+objects u pool = length (u .pools)
+
+-- ---- what is asked of a state
+
+abbrev pub waitOf : State → Option Wait
+waitOf dormant = none
+waitOf ready = none
+waitOf suspended = none
+waitOf (waiting w) = some w
+waitOf (waiting-suspended w) = some w
+
+abbrev pub isDormant : State → Bool
+isDormant dormant = true
+isDormant ready = false
+isDormant suspended = false
+isDormant (waiting w) = false
+isDormant (waiting-suspended w) = false
+
+-- READY or RUN
+abbrev pub isReady : State → Bool
+isReady dormant = false
+isReady ready = true
+isReady suspended = false
+isReady (waiting w) = false
+isReady (waiting-suspended w) = false
+
+-- SUSPEND or WAIT-SUSPEND
+abbrev pub isSuspended : State → Bool
+isSuspended dormant = false
+isSuspended ready = false
+isSuspended suspended = true
+isSuspended (waiting w) = false
+isSuspended (waiting-suspended w) = true
+
+-- WAIT or WAIT-SUSPEND
+abbrev pub isWaiting : State → Bool
+isWaiting dormant = false
+isWaiting ready = false
+isWaiting suspended = false
+isWaiting (waiting w) = true
+isWaiting (waiting-suspended w) = true
+
+-- READY, RUN or SUSPEND: where a release leads
+abbrev pub isFreed : State → Bool
+isFreed dormant = false
+isFreed ready = true
+isFreed suspended = true
+isFreed (waiting w) = false
+isFreed (waiting-suspended w) = false
+
+-- a sleeper waits by slp_tsk or wai_tsk
+abbrev pub sleeps : Option Wait → Bool
+sleeps none = false
+sleeps (some asleep) = true
+sleeps (some (timed t)) = true
+sleeps (some (on k o p m)) = false
+
+-- what a waiter on a flag asks for: pattern and mode
+abbrev pub wish : Option Wait → ℕ × ℕ
+wish none = (0, 0)
+wish (some asleep) = (0, 0)
+wish (some (timed t)) = (0, 0)
+wish (some (on k o p m)) = (p, m)
