@@ -1,2 +1,23 @@
 -- The theorems about the rules.
 pub mod Ids
+pub mod Judge
+pub mod Cells
+pub mod Clean
+pub mod Refused
+pub mod Fits
+pub mod Lines
+pub mod Keeps
+pub mod Queues
+pub mod Accepted
+pub mod Waits
+pub mod Blocks
+pub mod Sorting
+pub mod Agree
+pub mod Calls
+pub mod Rising
+pub mod Events
+pub mod Demand3
+pub mod BenchSheet
+pub mod Examples
+pub mod Broken
+pub mod Runs

@@ -1,6 +1,7 @@
 -- The codes: their names, and the number of each.
+use mathlib.Core.Bool.{Bool, true, false}
 use Prim.Native.Nat.{ℕ}
-use lib.IntN.{ℤ, pos, negℤ}
+use lib.IntN.{ℤ, pos, negsuc, negℤ}
 
 pub data Code : Type 0 where
   OK WAITS H-STATE H-CALL H-PAR E-NOEXS E-TPRI E-ILTIME E-CTX E-SELF E-DMT H-NODMT H-SUS E-NOSUS E-NOWAI E-QOVR H-POLL H-MSG H-ILBLK E-TMOUT E-RLWAI : Code
@@ -32,3 +33,12 @@ number H-MSG = minus 6
 number H-ILBLK = minus 10
 number E-TMOUT = minus 3413
 number E-RLWAI = minus 3414
+
+abbrev pub negative : ℤ → Bool
+negative (pos n) = false
+negative (negsuc n) = true
+
+-- the code refuses: it is negative
+unfoldable pub refuses : Code → Bool
+unfolding number
+refuses c = negative (number c)

@@ -5,13 +5,13 @@ use mathlib.Core.Option.{Option, none, some}
 use Prim.Native.Nat.{ℕ, suc}
 use lib.IntN.{ℤ}
 use lib.ListN.{replicate}
-use Rattle.rules.specs.Codes.{OK, H-STATE}
+use Rattle.rules.specs.Codes.{Code, OK, H-STATE}
 use Rattle.rules.specs.State.{dormant, Cell, Task, Body}
 use Rattle.rules.specs.Places.{tabulate}
 use Rattle.rules.specs.Setup.{Entry, Setup}
 use Rattle.rules.specs.Events.{Event}
 use Rattle.rules.specs.Acts.{Act, start}
-use Rattle.rules.specs.View.{View, acts}
+use Rattle.rules.specs.View.{View, running, acts}
 use Rattle.rules.specs.Table.{judge}
 use Rattle.rules.specs.Answers.{Answer, answer, readCell}
 use Rattle.rules.specs.Sound.{Sound}
@@ -61,6 +61,10 @@ served v e = record { answer = answer (judge v e) v (next v e); next = next v e 
 -- H_STATE: words 0, 0 released, the running task given as 0, the state unchanged.
 unfoldable pub damaged : View → Outcome
 damaged v = record { answer = record { code = H-STATE; w1 = 0; w2 = 0; runs = 0; released = 0 }; next = v }
+
+-- A negative code has w1 = w2 = 0, 0 released, the state unchanged and the running task as before.
+unfoldable pub refusal : View → Code → Outcome
+refusal v c = record { answer = record { code = c; w1 = 0; w2 = 0; runs = running v; released = 0 }; next = v }
 
 -- H_STATE comes before every other refusal, of calls and of ticks.
 unfoldable pub guarded : (v : View) → Event → Dec (Sound v) → Outcome

@@ -18,3 +18,9 @@ pub mod Check
 pub mod Kernel
 pub mod Plain
 pub mod Runs
+pub mod Order
+pub mod Blocks
+pub mod Demand3
+pub mod Broken
+pub mod BenchSheet
+pub mod Examples

@@ -1,0 +1,267 @@
+-- What a setup that is accepted says, and that its idle state is sound. A fact about the reader is a predicate on what is read, carried
+-- from read to read (`reads-then`); a refused read has nothing to show. Assumes nothing.
+use mathlib.Core.Bool.{Bool, true, false, cond, _&&_}
+use mathlib.Core.List.{List, [], _∷_, map}
+use mathlib.Core.Logic.{inl}
+use mathlib.Core.Option.{Option, none}
+use mathlib.Core.Path.{_≡_, refl, sym, ap}
+use Prim.Native.Nat.{ℕ, zero, suc, _+_, _-_, _≤_, _<_, _^_}
+use native.Mathlib.Nat.{le-antisymm}
+use native.Mathlib.Omega.{arith}
+use lib.Dec.{leb, lit<}
+use lib.ListN.{length, getD, replicate, length-map, length-replicate}
+use borrow.Author.Tests.{leb-true}
+use Rattle.rules.specs.Ids.{of, In, once, times}
+use Rattle.rules.specs.Setup.{Fault, S1, S2, S3, S4, Read, got, refused, and-then, wordAt, Range, to, within, readWord, Section, priorities, sections, readEntry, readEntries, readSection, readSections, Entry, Setup, setupOf, readSetup, at-end, setup, taskEntry, wordOf}
+use Rattle.rules.specs.State.{dormant, nobody}
+use Rattle.rules.specs.Places.{Place, readyAt, waiters, mail, belongs, tabulate}
+use Rattle.rules.specs.Sound.{SoundTask, SoundBody, Sound}
+use Rattle.rules.specs.Kernel.{idleTask, idle}
+use Rattle.rules.proofs.Lines.{line-tabulate, shape-tabulate}
+
+-- ---- what holds of each of a list
+
+module _ {A : Type 0} where
+  abbrev pub Each : (A → Type 0) → List A → Type 0
+  Each P [] = Unit {0}
+  Each P (x ∷ l) = P x × Each P l
+
+  each-of : (P : A → Type 0) (l : List A) (i : ℕ) (d : A) → Each P l → In i (length l) → P (of l i d)
+  each-of P l zero d h r = absurd (omega (arith, r .0))
+  each-of P [] (suc i) d h r = absurd (omega (arith, r .1))
+  each-of P (x ∷ l) (suc zero) d h r = h .0
+  each-of P (x ∷ l) (suc (suc i)) d h r = each-of P l (suc i) d (h .1) (omega arith, omega (arith, r .1))
+
+each-map : {A B : Type 0} (P : A → Type 0) (Q : B → Type 0) (f : A → B) (l : List A) → ((x : A) → P x → Q (f x)) → Each P l → Each Q (map f l)
+each-map P Q f [] h g = tt
+each-map P Q f (x ∷ l) h g = (h x (g .0), each-map P Q f l h (g .1))
+
+-- ---- an accepted setup
+
+pub record GoodSetup (u : Setup) : Type 0 where
+  pub priorities : In (u .priorities) 16
+  pub tasks : In (length (u .tasks)) 32
+  -- starting priorities
+  pub starts : Each (λ e. In (e .priority) (u .priorities)) (u .tasks)
+  pub semaphores : length (u .semaphores) ≤ 16
+  pub counts : Each (λ n. n ≤ 65535) (u .semaphores)
+  pub flags : length (u .flags) ≤ 16
+  pub patterns : Each (λ p. p < 2 ^ 32) (u .flags)
+  pub mailboxes : u .mailboxes ≤ 16
+  pub messages : u .messages ≤ 256
+  pub pools : length (u .pools) ≤ 8
+  pub blocks : Each (λ n. In n 32) (u .pools)
+
+-- ---- what is read
+
+-- P of what was read and the next offset
+abbrev pub Reads : {A : Type 0} → (A → ℕ → Type 0) → Read A → Type 0
+Reads P (got a next) = P a next
+Reads P (refused d place) = Unit {0}
+
+module _ {A B : Type 0} (P : A → ℕ → Type 0) (Q : B → ℕ → Type 0) where
+  reads-then : (r : Read A) (f : A → ℕ → Read B) → Reads P r → ((a : A) (i : ℕ) → P a i → Reads Q (f a i)) → Reads Q (and-then r f)
+  unfolding and-then
+  reads-then (got a next) f h g = g a next h
+  reads-then (refused d place) f h g = tt
+
+abbrev pub InRange : Range → ℕ → Type 0
+InRange r w = (r .least ≤ w) × (w ≤ r .most)
+
+-- an entry has as many words as there are ranges, each in its range
+abbrev pub Fits : List Range → List ℕ → Type 0
+Fits [] [] = Unit {0}
+Fits [] (w ∷ ws) = ⊥
+Fits (r ∷ l) [] = ⊥
+Fits (r ∷ l) (w ∷ ws) = InRange r w × Fits l ws
+
+-- the number of entries lies in the count's range, and each entry fits
+abbrev pub SectionFits : Section → List (List ℕ) → Type 0
+SectionFits t l = InRange (t .count) (length l) × Each (Fits (t .entry)) l
+
+abbrev pub SectionsFit : List Section → List (List (List ℕ)) → Type 0
+SectionsFit [] [] = Unit {0}
+SectionsFit [] (x ∷ xs) = ⊥
+SectionsFit (t ∷ l) [] = ⊥
+SectionsFit (t ∷ l) (x ∷ xs) = SectionFits t x × SectionsFit l xs
+
+both-true : (s t : Bool) → (s && t) ≡ true → (s ≡ true) × (t ≡ true)
+both-true true t e = (refl, e)
+both-true false t e = absurd (mathlib.Core.Bool.false≢true e)
+
+-- nothing is read past the end
+module _ (s : List ℕ) where
+  abbrev Within : {A : Type 0} → (A → Type 0) → A → ℕ → Type 0
+  Within P a j = P a × (j ≤ length s)
+
+  word-reads : (r : Range) (f : Fault) (i : ℕ) → Reads (Within (InRange r)) (readWord s r f i)
+  unfolding readWord
+  word-reads r f i = go (leb (i + 4) (length s)) (within r (wordAt s i)) refl refl
+    where
+      go : (e t : Bool) → leb (i + 4) (length s) ≡ e → within r (wordAt s i) ≡ t → Reads (Within (InRange r)) (cond e (cond t (got (wordAt s i) (i + 4)) (refused f i)) (refused S1 i))
+      go true true p q =
+          let b : (leb (r .least) (wordAt s i) ≡ true) × (leb (wordAt s i) (r .most) ≡ true) = both-true _ _ q in
+          ((leb-true _ _ (b .0), leb-true _ _ (b .1)), leb-true _ _ p)
+      go true false p q = tt
+      go false true p q = tt
+      go false false p q = tt
+
+  entry-reads : (e : List Range) (i : ℕ) → i ≤ length s → Reads (Within (Fits e)) (readEntry s e i)
+  unfolding readEntry
+  entry-reads [] i h = (tt, h)
+  entry-reads (r ∷ l) i h =
+      reads-then (Within (InRange r)) _ (readWord s r S3 i) _ (word-reads r S3 i)
+      (λ w j g. reads-then (Within (Fits l)) _ (readEntry s l j) _ (entry-reads l j (g .1)) (λ ws k a. ((g .0, a .0), a .1)))
+
+  entries-reads : (e : List Range) (n i : ℕ) → i ≤ length s → Reads (Within (λ l. (length l ≡ n) × Each (Fits e) l)) (readEntries s e n i)
+  unfolding readEntries
+  entries-reads e zero i h = ((refl, tt), h)
+  entries-reads e (suc n) i h =
+      reads-then (Within (Fits e)) _ (readEntry s e i) _ (entry-reads e i h)
+      (λ x j g. reads-then (Within (λ l. (length l ≡ n) × Each (Fits e) l)) _ (readEntries s e n j) _ (entries-reads e n j (g .1))
+      (λ xs k a. ((ap suc (a .0 .0), (g .0, a .0 .1)), a .1)))
+
+  pub section-reads : (t : Section) (i : ℕ) → Reads (Within (SectionFits t)) (readSection s t i)
+  unfolding readSection
+  section-reads t i =
+      reads-then (Within (InRange (t .count))) _ (readWord s (t .count) S2 i) _ (word-reads (t .count) S2 i)
+      (λ n j g. counted n j g (readEntries s (t .entry) n j) (entries-reads (t .entry) n j (g .1)))
+    where
+      counted : (n j : ℕ) → Within (InRange (t .count)) n j → (r : Read (List (List ℕ))) → Reads (Within (λ l. (length l ≡ n) × Each (Fits (t .entry)) l)) r
+          → Reads (Within (SectionFits t)) r
+      counted n j g (got l next) h = ((rw (h .0 .0) (g .0), h .0 .1), h .1)
+      counted n j g (refused d place) h = tt
+
+  sections-reads : (l : List Section) (i : ℕ) → i ≤ length s → Reads (Within (SectionsFit l)) (readSections s l i)
+  unfolding readSections
+  sections-reads [] i h = (tt, h)
+  sections-reads (t ∷ l) i h =
+      reads-then (Within (SectionFits t)) _ (readSection s t i) _ (section-reads t i)
+      (λ x j g. reads-then (Within (SectionsFit l)) _ (readSections s l j) _ (sections-reads l j (g .1)) (λ xs k a. ((g .0, a .0), a .1)))
+
+-- the i-th section
+section-at : (ts : List Section) (l : List (List (List ℕ))) (i : ℕ) (d : Section) → SectionsFit ts l → i < length ts → SectionFits (getD ts i d) (getD l i [])
+section-at [] l i d h r = absurd (omega (arith, r))
+section-at (t ∷ ts) [] i d h r = absurd h
+section-at (t ∷ ts) (x ∷ l) zero d h r = h .0
+section-at (t ∷ ts) (x ∷ l) (suc i) d h r = section-at ts l i d (h .1) (omega (arith, r))
+
+-- the first word of an entry
+first-fits : (r : Range) (l : List Range) (w : List ℕ) → Fits (r ∷ l) w → InRange r (wordOf 0 w)
+first-fits r l [] h = absurd h
+first-fits r l (x ∷ w) h = h .0
+
+good-sections : (P : ℕ) (l : List (List (List ℕ))) → In P 16 → SectionsFit (sections P) l → GoodSetup (setupOf P l)
+good-sections P l p h = record {
+  priorities = p;
+  tasks = rw (length-map (getD l 0 []) taskEntry) (at 0 (omega arith) .0);
+  starts = each-map (Fits (to 1 P ∷ to 0 1 ∷ [])) _ taskEntry (getD l 0 []) (first-fits (to 1 P) (to 0 1 ∷ [])) (at 0 (omega arith) .1);
+  semaphores = rw (length-map (getD l 1 []) (wordOf 0)) (at 1 (omega arith) .0 .1);
+  counts = each-map (Fits (to 0 65535 ∷ [])) _ (wordOf 0) (getD l 1 []) (λ w f. first-fits (to 0 65535) [] w f .1) (at 1 (omega arith) .1);
+  flags = rw (length-map (getD l 2 []) (wordOf 0)) (at 2 (omega arith) .0 .1);
+  patterns = each-map (Fits (to 0 (2 ^ 32 - 1) ∷ [])) _ (wordOf 0) (getD l 2 []) (λ w f. omega (arith, first-fits (to 0 (2 ^ 32 - 1)) [] w f .1)) (at 2 (omega arith) .1);
+  mailboxes = at 3 (omega arith) .0 .1;
+  messages = at 4 (omega arith) .0 .1;
+  pools = rw (length-map (getD l 5 []) (wordOf 0)) (at 5 (omega arith) .0 .1);
+  blocks = each-map (Fits (to 1 32 ∷ [])) _ (wordOf 0) (getD l 5 []) (first-fits (to 1 32) []) (at 5 (omega arith) .1);
+}
+  where
+    at : (i : ℕ) → i < 6 → SectionFits (getD (sections P) i priorities) (getD l i [])
+    at i r = section-at (sections P) l i priorities h r
+
+-- ---- the whole
+
+-- P of what was read, if something was read
+from-read : {A : Type 0} (P : A → ℕ → Type 0) (r : Read A) (a : A) (i : ℕ) → r ≡ got a i → Reads P r → P a i
+from-read P r a i e h = rw e at h
+
+module _ (s : List ℕ) where
+  ending-reads : {A : Type 0} (P : A → Type 0) (r : Read A) → Reads (Within s P) r → Reads (λ a i. P a × (i ≡ length s)) (at-end s r)
+  unfolding at-end
+  ending-reads P (got a i) h = go (leb (length s) i) refl
+    where
+      go : (t : Bool) → leb (length s) i ≡ t → Reads (λ a i. P a × (i ≡ length s)) (cond t (got a i) (refused S4 i))
+      go true e = (h .0, le-antisymm (h .1) (leb-true _ _ e))
+      go false e = tt
+  ending-reads P (refused d place) h = tt
+
+  setup-reads : Reads (λ u i. GoodSetup u × (i ≡ length s)) (setup s)
+  unfolding setup readSetup
+  setup-reads = ending-reads GoodSetup (readSetup s 0)
+      (reads-then (Within s (SectionFits priorities)) (Within s GoodSetup) (readSection s priorities 0) _ (section-reads s priorities 0)
+      (λ p j g. reads-then (Within s (SectionsFit (sections (length p)))) (Within s GoodSetup) (readSections s (sections (length p)) j) _ (sections-reads s (sections (length p)) j (g .1))
+      (λ l k a. (good-sections (length p) l (g .0 .0) (a .0), a .1))))
+
+pub setup-good : (s : List ℕ) (u : Setup) (i : ℕ) → setup s ≡ got u i → GoodSetup u
+setup-good s u i e = from-read _ (setup s) u i e (setup-reads s) .0
+
+-- Nothing follows, and nothing is read past the end.
+pub setup-whole : (s : List ℕ) (u : Setup) (i : ℕ) → setup s ≡ got u i → i ≡ length s
+setup-whole s u i e = from-read _ (setup s) u i e (setup-reads s) .1
+
+-- ---- the idle state
+
+idle-state : (l : List Entry) (i : ℕ) → getD (map idleTask l) i nobody .state ≡ dormant
+idle-state [] i = refl
+idle-state (x ∷ l) zero = refl
+idle-state (x ∷ l) (suc i) = idle-state l i
+
+idle-message : (n i : ℕ) → _≡_ {A = Option ℕ} (of (replicate n none) i none) none
+idle-message n zero = refl
+idle-message zero (suc i) = refl
+idle-message (suc n) (suc zero) = refl
+idle-message (suc n) (suc (suc i)) = idle-message n (suc i)
+
+pub nobody-belongs : (u : Setup) (q : Place) (i : ℕ) → belongs (idle u) q i ≡ false
+unfolding belongs idle
+nobody-belongs u (readyAt p) zero = refl
+nobody-belongs u (readyAt p) (suc i) = rw (idle-state (u .tasks) i)
+nobody-belongs u (waiters k o) zero = refl
+nobody-belongs u (waiters k o) (suc i) = rw (idle-state (u .tasks) i)
+nobody-belongs u (mail m) i = rw (idle-message (u .messages) i)
+
+module _ (u : Setup) (g : GoodSetup u) where
+  idle-task : (e : Entry) → In (e .priority) (u .priorities) → SoundTask (idle u .store) (idleTask e)
+  unfolding idle
+  idle-task e h = record {
+    priority = h;
+    start = h;
+    wakeups = omega arith;
+    cell = inl (refl, lit< tt);
+    wait = tt;
+    unserved = tt;
+    sleeper = λ k. refl;
+    dormant = λ k. refl;
+    rest = λ k. refl;
+  }
+
+  pub idle-sound : SoundBody (idle u)
+  unfolding idle
+  idle-sound = record {
+    sizes = record {
+      priorities = g .priorities;
+      tasks = rw (length-map (u .tasks) idleTask) (g .tasks);
+      semaphores = g .semaphores;
+      flags = g .flags;
+      mailboxes = g .mailboxes;
+      messages = rw (length-replicate {A = Option ℕ} (u .messages) none) (g .messages);
+      pools = rw (length-map (u .pools) _) (g .pools);
+    };
+    store = record {
+      semaphores = λ s r. each-of _ (u .semaphores) s 0 (g .counts) r;
+      flags = λ f r. each-of _ (u .flags) f 0 (g .patterns) r;
+      messages = λ j r. rw (idle-message (u .messages) j) tt;
+      pools = λ p r. each-of (λ l. In (length l) 32) _ p [] (each-map _ _ _ (u .pools) (λ n h. rw (length-replicate n true) h) (g .blocks)) r;
+      clock = lit< tt;
+    };
+    tasks = λ i r. each-of (SoundTask (idle u .store)) _ i nobody (each-map _ _ idleTask (u .tasks) idle-task (g .starts)) r;
+  }
+
+  -- before any task is started: nobody stands in a line
+  pub unstarted-sound : Sound (record { body = idle u; lines = tabulate (idle u .store) (λ q. []) })
+  unfolding times
+  unstarted-sound = record {
+    body = idle-sound;
+    shape = shape-tabulate (idle u .store) (λ q. []);
+    queues = λ q e. rw (line-tabulate (idle u .store) (λ q. []) q e) (record { known = tt; stands = λ i r. ap once (sym (nobody-belongs u q i)) });
+  }

@@ -1,0 +1,551 @@
+-- The blocks' accounts: at each event the grants less the returns of a block are the change of its mark. Only get_blk, pget_blk and
+-- rel_blk touch a mark or hand a block over; every other event is still. Assumes nothing.
+use mathlib.Core.Bool.{Bool, true, false, not, cond, _&&_, _||_, and-false, false≢true}
+use mathlib.Core.List.{List, [], _∷_, _++_, map}
+use mathlib.Core.Logic.{_⊎_, inl, inr, _≢_}
+use mathlib.Core.Option.{Option, none, some}
+use mathlib.Core.Path.{_≡_, refl, sym, ap, _∙_, subst}
+use Prim.Native.Nat.{ℕ, zero, suc, _+_, _-_, _≤_, _<_}
+use native.Mathlib.Nat.{add-zero, zero-add}
+use native.Mathlib.Omega.{arith}
+use lib.Dec.{eqb, leb}
+use lib.IntN.{ℤ, pos, negsuc}
+use lib.ListN.{length, getD, set}
+use borrow.Author.Tests.{eqb-true, eqb-false, eq-eqb, ne-eqb, not-false}
+use Rattle.rules.specs.Ids.{of, put, ids, In, keep, once, times, first}
+use Rattle.rules.specs.Codes.{Code, OK, H-CALL, E-CTX, E-SELF, E-DMT, E-TMOUT, E-RLWAI, H-POLL, number}
+use Rattle.rules.specs.State.{Kind, semaphore, flag, mailbox, pool, Wait, asleep, timed, on, State, dormant, ready, suspended, waiting, waiting-suspended, Task, Store, Body, task, nobody, objects, waitOf, wish, isDormant, isWaiting, isFreed, sleeps}
+use Rattle.rules.specs.Places.{Place, waiters, mail, many, belongs, sameKind, waitsOn, awaits, Exists}
+use Rattle.rules.specs.Events.{Event, tick, call, nat, bits, outside}
+use Rattle.rules.specs.Acts.{Act, start, retire, rotate, regrade, wait, release, suspend, resume, wakeups, count, pattern, post, receive, mark, elapse, change, started, retired, freed, releasedTask, halted, resumed, older, with-state, with-priority, with-wakeups, with-cell, after, afters}
+use Rattle.rules.specs.View.{View, line}
+use Rattle.rules.specs.Verdicts.{Verdict, refuse, gives, done, waits, check, choose, onFirst, onCount}
+use Rattle.rules.specs.Tasks.{stateOf, sta-tsk, ext-tsk, ter-tsk, chg-pri, rot-rdq, rel-wai, sus-tsk, rsm-tsk, take-wakeup, slp-tsk, wai-for, wai-tsk, wup-tsk, can-wup, get-tid, tsk-sts}
+use Rattle.rules.specs.Objects.{polls, waits-on, countOf, patternOf, free, to-first, obj-sts, met, left, serve-flag, sig-sem, take-sem, set-flg, clr-flg, take-flg, snd-msg, take-msg, blocksOf, lowest, take-blk, rel-blk}
+use Rattle.rules.specs.Time.{get-tim, ending, endings, timeout, ticked}
+use Rattle.rules.specs.Table.{Refusal, Row, caller, table, judge}
+use Rattle.rules.specs.Sound.{Known, Sound}
+use Rattle.rules.specs.Answers.{Answer, answer}
+use Rattle.rules.specs.Kernel.{next, served}
+use Rattle.rules.specs.Blocks.{isFree, is, ok, taken, handed, handedCount, returned}
+use Rattle.rules.proofs.Ids.{of-put-same, of-put-other, tested, times-keep, times-head, times-tail}
+use Rattle.rules.proofs.Cells.{change-each, map-each, body-acts}
+use Rattle.rules.proofs.Judge.{by-call, by-check, by-first, by-count, Bads, AllRows}
+use Rattle.rules.proofs.Queues.{standing-belongs, first-belongs}
+use Rattle.rules.proofs.Waits.{in-by, neither, waits-other}
+
+-- ---- no block is handed to a task
+
+abbrev Empty-handed : Task → Task → Type 0
+Empty-handed t u = (p k : ℕ) → handed p k t u ≡ false
+
+-- it waits on the same pools as before, or it is not freed, or its cell's code is not 0
+by-state : (t u : Task) → ((p : ℕ) → awaits (t .state) pool p ≡ true → isFreed (u .state) ≡ false) → Empty-handed t u
+by-state t u h p k = go (awaits (t .state) pool p) refl
+  where
+    go : (w : Bool) → awaits (t .state) pool p ≡ w → (w && (isFreed (u .state) && (ok (u .cell .code) && eqb (u .cell .word) k))) ≡ false
+    go true e = rw (h p e)
+    go false e = refl
+
+by-code : (t u : Task) → ok (u .cell .code) ≡ false → Empty-handed t u
+by-code t u e p k = rw (e, and-false, and-false)
+
+waits-not-freed : (s : State) (p : ℕ) → awaits s pool p ≡ true → isFreed s ≡ false
+waits-not-freed dormant p e = absurd (false≢true e)
+waits-not-freed ready p e = absurd (false≢true e)
+waits-not-freed suspended p e = absurd (false≢true e)
+waits-not-freed (waiting w) p e = refl
+waits-not-freed (waiting-suspended w) p e = refl
+
+-- the same pools are waited on
+abbrev Same-pools : Task → Task → Type 0
+Same-pools t u = (p : ℕ) → awaits (u .state) pool p ≡ awaits (t .state) pool p
+
+pools-empty : (t u : Task) → Same-pools t u → Empty-handed t u
+pools-empty t u h = by-state t u (λ p e. waits-not-freed (u .state) p (h p ∙ e))
+
+same-task : (t : Task) → Same-pools t t
+same-task t p = refl
+
+empty-same : (t : Task) → Empty-handed t t
+empty-same t = pools-empty t t (same-task t)
+
+-- a task that waits on no pool
+abbrev No-pool : State → Type 0
+No-pool s = (p : ℕ) → awaits s pool p ≡ false
+
+released-pools : (c : Code) (w : ℕ) (t : Task) → No-pool (t .state) → Same-pools t (releasedTask c w t)
+released-pools c w t h p = go (t .state) refl
+  where
+    go : (s : State) → t .state ≡ s → awaits (releasedTask c w t .state) pool p ≡ awaits (t .state) pool p
+    go dormant e = rw e
+    go ready e = rw e
+    go suspended e = rw e
+    go (waiting x) e = rw (h p) (rw e)
+    go (waiting-suspended x) e = rw (h p) (rw e)
+
+older-pools : (t : Task) → Same-pools t (with-state (older (t .state)) t)
+older-pools t p = go (t .state)
+  where
+    go : (s : State) → awaits (older s) pool p ≡ awaits s pool p
+    go dormant = refl
+    go ready = refl
+    go suspended = refl
+    go (waiting asleep) = refl
+    go (waiting (timed n)) = refl
+    go (waiting (on k o q m)) = refl
+    go (waiting-suspended asleep) = refl
+    go (waiting-suspended (timed n)) = refl
+    go (waiting-suspended (on k o q m)) = refl
+
+halted-pools : (t : Task) → Same-pools t (with-state (halted (t .state)) t)
+halted-pools t p = go (t .state)
+  where
+    go : (s : State) → awaits (halted s) pool p ≡ awaits s pool p
+    go dormant = refl
+    go ready = refl
+    go suspended = refl
+    go (waiting w) = refl
+    go (waiting-suspended w) = refl
+
+resumed-pools : (t : Task) → Same-pools t (with-state (resumed (t .state)) t)
+resumed-pools t p = go (t .state)
+  where
+    go : (s : State) → awaits (resumed s) pool p ≡ awaits s pool p
+    go dormant = refl
+    go ready = refl
+    go suspended = refl
+    go (waiting w) = refl
+    go (waiting-suspended w) = refl
+
+dormant-no-pool : (s : State) → isDormant s ≡ true → No-pool s
+dormant-no-pool dormant e p = refl
+dormant-no-pool ready e p = refl
+dormant-no-pool suspended e p = refl
+dormant-no-pool (waiting w) e p = absurd (false≢true e)
+dormant-no-pool (waiting-suspended w) e p = absurd (false≢true e)
+
+-- released with a code that is not 0
+refused-empty : (c : Code) (w : ℕ) (t : Task) → ok c ≡ false → Empty-handed t (releasedTask c w t)
+refused-empty c w t n = go (isWaiting (t .state)) refl
+  where
+    go : (x : Bool) → isWaiting (t .state) ≡ x → Empty-handed t (releasedTask c w t)
+    go true e = rw e (by-code t (with-cell (record { code = c; word = w }) (with-state (freed (t .state)) t)) n)
+    go false e = rw e (empty-same t)
+
+-- ---- one act
+
+-- what an act needs to hand nothing over and to leave the pools alone
+abbrev Still-act : Body → Act → Type 0
+Still-act b (start i) = isDormant (task b i .state) ≡ true
+Still-act b (retire i) = Unit {0}
+Still-act b (rotate i) = Unit {0}
+Still-act b (regrade i p) = Unit {0}
+Still-act b (wait i w) = Unit {0}
+Still-act b (release i c w) = (ok c ≡ false) ⊎ No-pool (task b i .state)
+Still-act b (suspend i) = Unit {0}
+Still-act b (resume i) = Unit {0}
+Still-act b (wakeups i n) = Unit {0}
+Still-act b (count s n) = Unit {0}
+Still-act b (pattern f n) = Unit {0}
+Still-act b (post j m) = Unit {0}
+Still-act b (receive j) = Unit {0}
+Still-act b (mark p k t) = ⊥
+Still-act b elapse = Unit {0}
+
+-- one task is changed
+changed : (f : Task → Task) (j : ℕ) (b : Body) → ((t : Task) → t ≡ task b j → Empty-handed t (f t)) → (i : ℕ) → Empty-handed (task b i) (task (change f j b) i)
+changed f j b = change-each Empty-handed empty-same f j b
+
+act-empty : (a : Act) (b : Body) → Still-act b a → (i : ℕ) → Empty-handed (task b i) (task (after a b) i)
+unfolding after
+act-empty (start j) b d = changed started j b (λ t e. by-state t (started t) (λ p w. absurd (false≢true (sym (dormant-no-pool (t .state) (rw e d) p) ∙ w))))
+act-empty (retire j) b d = changed retired j b (λ t e. by-state t (retired t) (λ p w. refl))
+act-empty (rotate j) b d = λ i. empty-same (task b i)
+act-empty (regrade j n) b d = changed (with-priority n) j b (λ t e. pools-empty t (with-priority n t) (λ p. refl))
+act-empty (wait j x) b d = changed (with-state (waiting x)) j b (λ t e. by-state t (with-state (waiting x) t) (λ p w. refl))
+act-empty (release j c w) b (inl n) = changed (releasedTask c w) j b (λ t e. refused-empty c w t n)
+act-empty (release j c w) b (inr n) = changed (releasedTask c w) j b (λ t e. pools-empty t (releasedTask c w t) (released-pools c w t (rw e n)))
+act-empty (suspend j) b d = changed (λ t. with-state (halted (t .state)) t) j b (λ t e. pools-empty t (with-state (halted (t .state)) t) (halted-pools t))
+act-empty (resume j) b d = changed (λ t. with-state (resumed (t .state)) t) j b (λ t e. pools-empty t (with-state (resumed (t .state)) t) (resumed-pools t))
+act-empty (wakeups j n) b d = changed (with-wakeups n) j b (λ t e. pools-empty t (with-wakeups n t) (λ p. refl))
+act-empty (count s n) b d = λ i. empty-same (task b i)
+act-empty (pattern f n) b d = λ i. empty-same (task b i)
+act-empty (post j m) b d = λ i. empty-same (task b i)
+act-empty (receive j) b d = λ i. empty-same (task b i)
+act-empty (mark p k t) b d = absurd d
+act-empty elapse b d = λ i. map-each Empty-handed empty-same (λ t. with-state (older (t .state)) t) (λ t. pools-empty t (with-state (older (t .state)) t) (older-pools t)) (b .tasks) i nobody
+
+act-pools : (a : Act) (b : Body) → Still-act b a → after a b .store .pools ≡ b .store .pools
+unfolding after
+act-pools (start j) b d = refl
+act-pools (retire j) b d = refl
+act-pools (rotate j) b d = refl
+act-pools (regrade j n) b d = refl
+act-pools (wait j x) b d = refl
+act-pools (release j c w) b d = refl
+act-pools (suspend j) b d = refl
+act-pools (resume j) b d = refl
+act-pools (wakeups j n) b d = refl
+act-pools (count s n) b d = refl
+act-pools (pattern f n) b d = refl
+act-pools (post j m) b d = refl
+act-pools (receive j) b d = refl
+act-pools (mark p k t) b d = absurd d
+act-pools elapse b d = refl
+
+-- ---- a list of acts: releases of tasks that wait on no pool, a pattern set, a tick gone by
+
+abbrev Pools-kept : Body → Body → Type 0
+Pools-kept b c = (i : ℕ) → Same-pools (task b i) (task c i)
+
+data Aside (b : Body) : Act → Type 0 where
+  frees : (i : ℕ) (c : Code) (w : ℕ) → No-pool (task b i .state) → Aside b (release i c w)
+  sets : (f n : ℕ) → Aside b (pattern f n)
+  elapses : Aside b elapse
+
+abbrev Asides : Body → List Act → Type 0
+Asides b [] = Unit {0}
+Asides b (a ∷ l) = Aside b a × Asides b l
+
+aside-act : (b c : Body) (a : Act) → Aside b a → Pools-kept b c → Pools-kept b (after a c)
+unfolding after
+aside-act b c a (frees j d w n) k i p = change-each Same-pools same-task (releasedTask d w) j c (λ t e. released-pools d w t (λ q. ap (λ (t : Task). awaits (t .state) pool q) e ∙ k j q ∙ n q)) i p ∙ k i p
+aside-act b c a (sets f n) k i p = k i p
+aside-act b c a elapses k i p = map-each Same-pools same-task (λ t. with-state (older (t .state)) t) older-pools (c .tasks) i nobody p ∙ k i p
+
+aside-pools : (b c : Body) (a : Act) → Aside b a → after a c .store .pools ≡ c .store .pools
+unfolding after
+aside-pools b c a (frees j d w n) = refl
+aside-pools b c a (sets f n) = refl
+aside-pools b c a elapses = refl
+
+asides-act : (b c : Body) (l : List Act) → Asides b l → Pools-kept b c → Pools-kept b (afters l c) × (afters l c .store .pools ≡ c .store .pools)
+unfolding afters
+asides-act b c [] g k = (k, refl)
+asides-act b c (a ∷ l) g k = let r = asides-act b (after a c) l (g .1) (aside-act b c a (g .0) k) in (r .0, r .1 ∙ aside-pools b c a (g .0))
+
+-- ---- a verdict that hands nothing over and leaves the pools alone
+
+pub record Still (b : Body) (l : List Act) : Type 0 where
+  pub pools : afters l b .store .pools ≡ b .store .pools
+  pub empty : (i : ℕ) → Empty-handed (task b i) (task (afters l b) i)
+
+still-none : (b : Body) → Still b []
+unfolding afters
+still-none b = record { pools = refl; empty = λ i. empty-same (task b i) }
+
+still-one : (b : Body) (a : Act) → Still-act b a → Still b (a ∷ [])
+unfolding afters
+still-one b a g = record { pools = act-pools a b g; empty = act-empty a b g }
+
+still-list : (b : Body) (l : List Act) → Asides b l → Still b l
+still-list b l g = let r = asides-act b b l g (λ i p. refl) in record { pools = r .1; empty = λ i. pools-empty (task b i) (task (afters l b) i) (r .0 i) }
+
+-- the same as a property of verdicts
+data StillVerdict (b : Body) : Verdict → Type 0 where
+  still : {r : Verdict} → Still b (r .acts) → StillVerdict b r
+
+module _ {b : Body} where
+  still-refuse : (c : Code) → StillVerdict b (refuse c)
+  still-refuse c = still (still-none b)
+
+  still-gives : (x y : ℕ) → StillVerdict b (gives x y [])
+  still-gives x y = still (still-none b)
+
+  still-done : (x y : ℕ) (a : Act) → Still-act b a → StillVerdict b (gives x y (a ∷ []))
+  still-done x y a g = still (still-one b a g)
+
+  still-waits : (i : ℕ) (w : Wait) → StillVerdict b (waits i w)
+  still-waits i w = still (still-one b (wait i w) tt)
+
+  still-check : (t : Bool) (c : Code) (r : Verdict) → (t ≡ false → StillVerdict b r) → StillVerdict b (check t c r)
+  unfolding check
+  still-check true c r h = still-refuse c
+  still-check false c r h = h refl
+
+  still-choose : (t : Bool) (r s : Verdict) → (t ≡ true → StillVerdict b r) → (t ≡ false → StillVerdict b s) → StillVerdict b (choose t r s)
+  unfolding choose
+  still-choose true r s h k = h refl
+  still-choose false r s h k = k refl
+
+  still-first : (l : List ℕ) (r : Verdict) (f : ℕ → Verdict) → StillVerdict b r → ((x : ℕ) (m : List ℕ) → l ≡ x ∷ m → StillVerdict b (f x)) → StillVerdict b (onFirst l r f)
+  unfolding onFirst
+  still-first [] r f h k = h
+  still-first (x ∷ m) r f h k = k x m refl
+
+  still-count : (n : ℕ) (r : Verdict) (f : ℕ → Verdict) → StillVerdict b r → ((x : ℕ) → StillVerdict b (f x)) → StillVerdict b (onCount n r f)
+  unfolding onCount
+  still-count zero r f h k = h
+  still-count (suc n) r f h k = k n
+
+  still-wait : (me : ℕ) (a : ℤ) → StillVerdict b (wai-for me a)
+  unfolding wai-for
+  still-wait me (pos zero) = still-refuse _
+  still-wait me (pos (suc t)) = still-waits me _
+  still-wait me (negsuc t) = still-waits me _
+
+-- ---- who is released by other calls waits on no pool
+
+known-in : (x n : ℕ) (l : List ℕ) → Known n l → times x l ≢ 0 → In x n
+unfolding times
+known-in x n [] k z = absurd (z refl)
+known-in x n (y ∷ l) k z = go (eqb y x) refl z (known-in x n l (k .1))
+  where
+    go : (t : Bool) → eqb y x ≡ t → once t + times x l ≢ 0 → (times x l ≢ 0 → In x n) → In x n
+    go true e z h = subst (λ (i : ℕ). In i n) (eqb-true y x e) (k .0)
+    go false e z h = h (λ w. z (omega arith))
+
+kept-passes : (p : ℕ → Bool) (x : ℕ) (l : List ℕ) → times x (keep p l) ≢ 0 → p x ≡ true
+kept-passes p x l h = go (p x) refl
+  where
+    go : (t : Bool) → p x ≡ t → t ≡ true
+    go true e = refl
+    go false e = absurd (h (times-keep x p l ∙ rw e))
+
+sleeper-no-pool : (x : Option Wait) → sleeps x ≡ true → (p : ℕ) → waitsOn x pool p ≡ false
+sleeper-no-pool none e p = refl
+sleeper-no-pool (some asleep) e p = refl
+sleeper-no-pool (some (timed t)) e p = refl
+sleeper-no-pool (some (on k o q m)) e p = absurd (false≢true e)
+
+ending-no-pool : (x : Option Wait) → ending x ≡ true → (p : ℕ) → waitsOn x pool p ≡ false
+ending-no-pool none e p = refl
+ending-no-pool (some asleep) e p = refl
+ending-no-pool (some (timed t)) e p = refl
+ending-no-pool (some (on k o q m)) e p = absurd (false≢true e)
+
+module _ (v : View) (s : Sound v) where
+  waiter-waits : (k : Kind) (o : ℕ) → In o (objects (v .body .store) k) → (x : ℕ) (m : List ℕ) → line v (waiters k o) ≡ x ∷ m → awaits (task (v .body) x .state) k o ≡ true
+  unfolding belongs
+  waiter-waits k o r x m e = first-belongs v s (waiters k o) r x m e
+
+  -- a waiter on an object of another kind
+  other-kind : (k : Kind) (o : ℕ) → sameKind k pool ≡ false → (x : ℕ) → awaits (task (v .body) x .state) k o ≡ true → No-pool (task (v .body) x .state)
+  other-kind k o n x e p = waits-other (waitOf (task (v .body) x .state)) k pool o p e ∙ rw n
+
+  still-to-first : (k : Kind) (a : ℤ) (w : ℕ) (r : Verdict) → sameKind k pool ≡ false → outside a (objects (v .body .store) k) ≡ false → StillVerdict (v .body) r → StillVerdict (v .body) (to-first v k a w r)
+  unfolding to-first
+  still-to-first k a w r n o h = still-first _ r _ h (λ x m e. still-done 0 0 (release x OK w) (inr (other-kind k (nat a) n x (waiter-waits k (nat a) (in-by a _ o) x m e))))
+
+  -- set_flg
+  flag-asides : (f have : ℕ) (l : List ℕ) → ((x : ℕ) → times x l ≢ 0 → No-pool (task (v .body) x .state)) → Asides (v .body) (serve-flag (v .body) f have l)
+  flag-asides f have [] h = (sets f have, tt)
+  flag-asides f have (x ∷ l) h =
+      go (met have (wish (waitOf (task (v .body) x .state)) .0) (wish (waitOf (task (v .body) x .state)) .1))
+      (flag-asides f (left have (wish (waitOf (task (v .body) x .state)) .1)) l (λ y z. h y (times-tail x y l z))) (flag-asides f have l (λ y z. h y (times-tail x y l z)))
+    where
+      go : (t : Bool) → Asides (v .body) (serve-flag (v .body) f (left have (wish (waitOf (task (v .body) x .state)) .1)) l) → Asides (v .body) (serve-flag (v .body) f have l)
+          → Asides (v .body) (cond t (release x OK have ∷ serve-flag (v .body) f (left have (wish (waitOf (task (v .body) x .state)) .1)) l) (serve-flag (v .body) f have l))
+      go true g k = (frees x OK have (h x (times-head x l)), g)
+      go false g k = k
+
+  standing : (q : Place) → Exists (v .body .store) q → (x : ℕ) → times x (line v q) ≢ 0 → belongs (v .body) q x ≡ true
+  standing q r x z = standing-belongs (v .body) q (line v q) (s .queues q r) x (known-in x (many (v .body) q) (line v q) (s .queues q r .known) z) z
+
+  still-set : (a b : ℤ) → outside a (objects (v .body .store) flag) ≡ false → StillVerdict (v .body) (set-flg v a b)
+  unfolding set-flg belongs
+  still-set a b o = still (still-list (v .body) _ (flag-asides (nat a) _ (line v (waiters flag (nat a))) (λ x z. other-kind flag (nat a) refl x (standing (waiters flag (nat a)) (in-by a _ o) x z))))
+
+-- the tick
+tick-asides : (b : Body) (l : List ℕ) → ((x : ℕ) → times x l ≢ 0 → No-pool (task b x .state)) → Asides b (map timeout l ++ elapse ∷ [])
+tick-asides b [] h = (elapses, tt)
+tick-asides b (x ∷ l) h = (frees x E-TMOUT 0 (h x (times-head x l)), tick-asides b l (λ y z. h y (times-tail x y l z)))
+
+pub tick-still : (b : Body) → Still b (map timeout (endings b) ++ elapse ∷ [])
+tick-still b = still-list b _ (tick-asides b (endings b) (λ x z. ending-no-pool (waitOf (task b x .state)) (kept-passes (λ i. ending (waitOf (task b i .state))) x (ids (length (b .tasks))) z)))
+
+-- ---- handed over, counted
+
+handed-same : (p k : ℕ) (l : List Task) → handedCount p k l l ≡ 0
+unfolding handedCount
+handed-same p k [] = refl
+handed-same p k (t ∷ l) = rw (empty-same t p k, handed-same p k l)
+
+-- nobody is handed anything
+handed-none : (p k : ℕ) (l m : List Task) → ((i : ℕ) → handed p k (getD l i nobody) (getD m i nobody) ≡ false) → handedCount p k l m ≡ 0
+unfolding handedCount
+handed-none p k [] m h = refl
+handed-none p k (t ∷ l) [] h = refl
+handed-none p k (t ∷ l) (u ∷ m) h = rw (h 0, handed-none p k l m (λ i. h (suc i)))
+
+-- one task is changed
+handed-set : (p k : ℕ) (l : List Task) (i : ℕ) (u : Task) → i < length l → handedCount p k l (set l i u) ≡ once (handed p k (getD l i nobody) u)
+unfolding handedCount
+handed-set p k [] i u h = absurd (omega arith)
+handed-set p k (t ∷ l) zero u h = rw (handed-same p k l) (add-zero _)
+handed-set p k (t ∷ l) (suc i) u h = rw (empty-same t p k) (zero-add _ ∙ handed-set p k l i u (omega arith))
+
+handed-put : (p k : ℕ) (l : List Task) (i : ℕ) (u : Task) → In i (length l) → handedCount p k l (put l i u) ≡ once (handed p k (of l i nobody) u)
+handed-put p k l zero u h = absurd (omega (arith, h .0))
+handed-put p k l (suc i) u h = handed-set p k l i u (h .1)
+
+-- ---- the account of one block at one event
+
+-- its mark before and after, and whether it was taken or returned
+abbrev pub Balance : Body → Body → Bool → Bool → ℕ → ℕ → Type 0
+Balance b c took gave p k = once (not (isFree b p k)) + (once took + handedCount p k (b .tasks) (c .tasks)) ≡ once (not (isFree c p k)) + once gave
+
+still-balance : (b : Body) (l : List Act) → Still b l → (p k : ℕ) → Balance b (afters l b) false false p k
+still-balance b l s p k =
+    rw (handed-none p k (b .tasks) (afters l b .tasks) (λ i. s .empty (suc i) p k))
+    (ap (λ (x : List (List Bool)). once (not (of (of x p []) k true)) + 0) (sym (s .pools)))
+
+-- a mark is set
+mark-reads : (b : Body) (q j : ℕ) (x : Bool) (p k : ℕ) → In p (length (b .store .pools)) → In k (length (of (b .store .pools) p []))
+    → isFree (after (mark q j x) b) p k ≡ cond (eqb q p && eqb j k) x (isFree b p k)
+unfolding after
+mark-reads b q j x p k rp rk = go (eqb q p) refl
+  where
+    inner : (t : Bool) → eqb j k ≡ t → of (put (of (b .store .pools) p []) j x) k true ≡ cond t x (isFree b p k)
+    inner true e = rw (eqb-true j k e) (of-put-same (of (b .store .pools) p []) k x true rk)
+    inner false e = of-put-other (of (b .store .pools) p []) j k x true e
+
+    go : (t : Bool) → eqb q p ≡ t → of (of (put (b .store .pools) q (put (of (b .store .pools) q []) j x)) p []) k true ≡ cond (t && eqb j k) x (isFree b p k)
+    go true e = rw (eqb-true q p e, of-put-same (b .store .pools) p (put (of (b .store .pools) p []) j x) [] rp) (inner (eqb j k) refl)
+    go false e = ap (λ (l : List Bool). of l k true) (of-put-other (b .store .pools) q p _ [] e)
+
+-- block j of pool q, whose mark was y, is marked the other way
+mark-balance : (b : Body) (q j : ℕ) (y : Bool) → isFree b q j ≡ y → (p k : ℕ) → In p (length (b .store .pools)) → In k (length (of (b .store .pools) p []))
+    → Balance b (after (mark q j (not y)) b) (y && (eqb q p && eqb j k)) (not y && (eqb q p && eqb j k)) p k
+unfolding after
+mark-balance b q j y e p k rp rk =
+    ap (λ (n : ℕ). once (not (isFree b p k)) + (once (y && (eqb q p && eqb j k)) + n)) (handed-same p k (b .tasks))
+    ∙ go (eqb q p) (eqb j k) refl refl y e
+    ∙ ap (λ (x : Bool). once (not x) + once (not y && (eqb q p && eqb j k))) (sym (mark-reads b q j (not y) p k rp rk))
+  where
+    hit : (y : Bool) → isFree b p k ≡ y → once (not (isFree b p k)) + (once (y && true) + 0) ≡ once (not (not y)) + once (not y && true)
+    hit true e = rw e
+    hit false e = rw e
+
+    miss : (y x : Bool) → once (not x) + (once (y && false) + 0) ≡ once (not x) + once (not y && false)
+    miss true x = refl
+    miss false x = refl
+
+    go : (s t : Bool) → eqb q p ≡ s → eqb j k ≡ t → (y : Bool) → isFree b q j ≡ y
+        → once (not (isFree b p k)) + (once (y && (s && t)) + 0) ≡ once (not (cond (s && t) (not y) (isFree b p k))) + once (not y && (s && t))
+    go true true c d y e = hit y (rw (← eqb-true q p c, ← eqb-true j k d) e)
+    go true false c d y e = miss y (isFree b p k)
+    go false t c d y e = miss y (isFree b p k)
+
+-- a waiter on pool q is released with block j
+handed-over : (t : Task) (q j : ℕ) → awaits (t .state) pool q ≡ true → (p k : ℕ) → handed p k t (releasedTask OK j t) ≡ (eqb q p && eqb j k)
+unfolding ok number
+handed-over t q j e p k = rw (waits-other (waitOf (t .state)) pool pool q p e) (go (t .state) refl e)
+  where
+    go : (s : State) → t .state ≡ s → awaits s pool q ≡ true
+        → (eqb q p && (isFreed (releasedTask OK j t .state) && (ok (releasedTask OK j t .cell .code) && eqb (releasedTask OK j t .cell .word) k))) ≡ (eqb q p && eqb j k)
+    go dormant c w = absurd (false≢true w)
+    go ready c w = absurd (false≢true w)
+    go suspended c w = absurd (false≢true w)
+    go (waiting x) c w = rw c
+    go (waiting-suspended x) c w = rw c
+
+hand-balance : (b : Body) (i q j : ℕ) → awaits (task b i .state) pool q ≡ true → (p k : ℕ) → Balance b (after (release i OK j) b) false (eqb q p && eqb j k) p k
+unfolding after
+hand-balance b i q j e p k =
+    ap (λ (n : ℕ). once (not (isFree b p k)) + (0 + n))
+    (handed-put p k (b .tasks) i (releasedTask OK j (task b i)) (tested (λ t. awaits (t .state) pool q) (b .tasks) i nobody refl e) ∙ ap once (handed-over (task b i) q j e p k))
+    ∙ ap (λ (n : ℕ). once (not (isFree b p k)) + n) (zero-add _)
+
+-- ---- every call
+
+infixr 5 _⊗_
+_⊗_ : {A B : Type 0} → A → B → A × B
+x ⊗ y = (x, y)
+
+-- the lowest free block is free
+lowest-free : (k j : ℕ) (l : List Bool) → lowest k l ≡ suc j → k ≢ 0 → (k ≤ suc j) × (getD l (suc j - k) true ≡ true)
+lowest-free k j [] e z = absurd (omega arith)
+lowest-free k j (true ∷ l) e z = (omega arith, let d : suc j - k ≡ 0 = omega arith in rw d)
+lowest-free k j (false ∷ l) e z =
+    let r = lowest-free (suc k) j l e (λ d. omega arith) in
+    let d : suc j - k ≡ suc (suc j - suc k) = omega (arith, r .0) in (omega (arith, r .0), rw d (r .1))
+
+lowest-block : (j : ℕ) (l : List Bool) → lowest 1 l ≡ suc j → getD l j true ≡ true
+lowest-block j l e = let d : suc j - 1 ≡ j = omega arith in rw d at (lowest-free 1 j l e (λ w. omega arith) .1)
+
+module _ (v : View) (s : Sound v) (x a y z : ℤ) (p k : ℕ) (rp : In p (length (v .body .store .pools))) (rk : In k (length (of (v .body .store .pools) p []))) where
+  abbrev said : Verdict → Answer
+  said r = record { code = r .code; w1 = r .w1; w2 = r .w2; runs = 0; released = 0 }
+
+  -- the account of the block at call n
+  abbrev Books : ℤ → Verdict → Type 0
+  Books n r = Balance (v .body) (afters (r .acts) (v .body)) (taken (call x n a y z) (said r) p k) (returned (call x n a y z) (said r) p k) p k
+
+  abbrev Bad : Code → Type 0
+  Bad c = ok c ≡ false
+
+  -- a code that is not 0 takes nothing and returns nothing
+  no-way : (n : ℤ) (c : Code) → Bad c → Books n (refuse c)
+  no-way n c e = rw (e, and-false (is n 23 || is n 24), and-false (is n 25)) (still-balance (v .body) [] (still-none (v .body)) p k)
+
+  quiet : (n : ℤ) (r : Verdict) → is n 23 ≡ false → is n 24 ≡ false → is n 25 ≡ false → StillVerdict (v .body) r → Books n r
+  quiet n r c d e (still g) = rw (c, d, e) (still-balance (v .body) (r .acts) g p k)
+
+  -- a call that waits takes nothing and returns nothing
+  waits-books : (n : ℤ) (me : ℕ) (q : Kind) (o : ℤ) → is n 25 ≡ false → Books n (waits-on me q o)
+  unfolding ok number
+  waits-books n me q o e = rw (e, and-false) (still-balance (v .body) _ (still-one (v .body) (wait me (on q (nat o) 0 0)) tt) p k)
+
+  -- get_blk and pget_blk
+  takes : (n : ℤ) (other : Verdict) → (is n 23 || is n 24) ≡ true → is n 25 ≡ false → Books n other → Books n (take-blk v a other)
+  unfolding take-blk afters ok number
+  takes n other c d h = by-count Books Bad no-way {n = n} (λ e. h) (λ j e. rw (c, d) (mark-balance (v .body) (nat a) (suc j) true (lowest-block j (blocksOf v a) e) p k rp rk))
+
+  -- rel_blk: to the first waiter, else free
+  gives-back : outside a (objects (v .body .store) pool) ≡ false → Books (pos 25) (rel-blk v a y)
+  unfolding rel-blk to-first afters ok number
+  gives-back o =
+      by-check Books Bad no-way {n = pos 25} refl (λ e. by-first Books Bad no-way {n = pos 25}
+      (λ w. mark-balance (v .body) (nat a) (nat y) false (neither (outside y (length (blocksOf v a))) (of (blocksOf v a) (nat y) true) e .1) p k rp rk)
+      (λ i m w. hand-balance (v .body) i (nat a) (nat y) (waiter-waits v s pool (nat a) (in-by a _ o) i m w) p k))
+
+  module _ (h : Bool) (me : ℕ) where
+    rows : AllRows Books Bad no-way v h me a 1 (table v me a y z)
+    unfolding table sta-tsk ext-tsk ter-tsk chg-pri rot-rdq rel-wai sus-tsk rsm-tsk take-wakeup slp-tsk wai-tsk wup-tsk can-wup get-tid tsk-sts obj-sts sig-sem take-sem clr-flg take-flg snd-msg take-msg get-tim ok number
+    rows =
+        ((refl, tt), λ w c t d. quiet (pos 1) _ refl refl refl (still-check _ _ _ (λ e. still-done 0 0 (start (nat a)) (not-false _ e))))
+        ⊗ (tt, λ w c t d. quiet (pos 2) _ refl refl refl (still-done 0 0 (retire me) tt))
+        ⊗ ((refl, tt), λ w c t d. quiet (pos 3) _ refl refl refl (still-done 0 0 (retire (nat a)) tt))
+        ⊗ ((refl, (refl, tt)), λ w c t d. quiet (pos 4) _ refl refl refl (still-done 0 0 (regrade (nat a) (nat y)) tt))
+        ⊗ ((refl, tt), λ w c t d. quiet (pos 5) _ refl refl refl (still-first _ _ _ (still-gives 0 0) (λ i m e. still-done 0 0 (rotate i) tt)))
+        ⊗ ((refl, tt), λ w c t d. quiet (pos 6) _ refl refl refl (still-check _ _ _ (λ e. still-done 0 0 (release (nat a) E-RLWAI 0) (inl refl))))
+        ⊗ ((refl, tt), λ w c t d. quiet (pos 7) _ refl refl refl (still-check _ _ _ (λ e. still-done 0 0 (suspend (nat a)) tt)))
+        ⊗ ((refl, tt), λ w c t d. quiet (pos 8) _ refl refl refl (still-check _ _ _ (λ e. still-done 0 0 (resume (nat a)) tt)))
+        ⊗ (tt, λ w c t d. quiet (pos 9) _ refl refl refl (still-count _ _ _ (still-waits me _) (λ n. still-done 0 0 (wakeups me n) tt)))
+        ⊗ ((refl, tt), λ w c t d. quiet (pos 10) _ refl refl refl (still-count _ _ _ (still-wait me a) (λ n. still-done 0 0 (wakeups me n) tt)))
+        ⊗ ((refl, tt), λ w c t d. quiet (pos 11) _ refl refl refl (still-choose _ _ _ (λ e. still-done 0 0 (release (nat a) OK 0) (inr (sleeper-no-pool (waitOf (stateOf v a)) e))) (λ e. still-check _ _ _ (λ f. still-done 0 0 (wakeups (nat a) _) tt))))
+        ⊗ ((refl, tt), λ w c t d. quiet (pos 12) (can-wup v a) refl refl refl (still-done _ 0 (wakeups (nat a) 0) tt))
+        ⊗ ((refl, tt), λ w c t d. quiet (pos 13) _ refl refl refl (still-to-first v s semaphore a 0 _ refl (w .0) (still-check _ _ _ (λ f. still-done 0 0 (count (nat a) _) tt))))
+        ⊗ ((refl, tt), λ w c t d. quiet (pos 14) _ refl refl refl (still-count _ _ _ (still-waits me _) (λ n. still-done 0 0 (count (nat a) n) tt)))
+        ⊗ ((refl, tt), λ w c t d. quiet (pos 15) _ refl refl refl (still-count _ _ _ (still-refuse _) (λ n. still-done 0 0 (count (nat a) n) tt)))
+        ⊗ ((refl, tt), λ w c t d. quiet (pos 16) _ refl refl refl (still-set v s a y (w .0)))
+        ⊗ ((refl, tt), λ w c t d. quiet (pos 17) _ refl refl refl (still-done 0 0 (pattern (nat a) _) tt))
+        ⊗ ((refl, (refl, (refl, tt))), λ w c t d. quiet (pos 18) (take-flg v a y z (waits me (on flag (nat a) (bits y) (nat z)))) refl refl refl (still-choose _ _ _ (λ e. still-done _ 0 (pattern (nat a) _) tt) (λ e. still-waits me _)))
+        ⊗ ((refl, (refl, (refl, tt))), λ w c t d. quiet (pos 19) (take-flg v a y z polls) refl refl refl (still-choose _ _ _ (λ e. still-done _ 0 (pattern (nat a) _) tt) (λ e. still-refuse _)))
+        ⊗ ((refl, (refl, tt)), λ w c t d. quiet (pos 20) _ refl refl refl (still-check _ _ _ (λ e. still-to-first v s mailbox a (nat y) _ refl (w .0) (still-done 0 0 (post (nat y) (nat a)) tt))))
+        ⊗ ((refl, tt), λ w c t d. quiet (pos 21) (take-msg v a (waits-on me mailbox a)) refl refl refl (still-first _ _ _ (still-waits me _) (λ i m e. still-done i 0 (receive i) tt)))
+        ⊗ ((refl, tt), λ w c t d. quiet (pos 22) (take-msg v a polls) refl refl refl (still-first _ _ _ (still-refuse _) (λ i m e. still-done i 0 (receive i) tt)))
+        ⊗ ((refl, tt), λ w c t d. takes (pos 23) (waits-on me pool a) refl refl (waits-books (pos 23) me pool a refl))
+        ⊗ ((refl, tt), λ w c t d. takes (pos 24) polls refl refl (no-way (pos 24) H-POLL refl))
+        ⊗ ((refl, tt), λ w c t d. gives-back (w .0))
+        ⊗ (tt, λ w c t d. quiet (pos 26) (get-tid v) refl refl refl (still-gives _ 0))
+        ⊗ ((refl, tt), λ w c t d. quiet (pos 27) (tsk-sts v a) refl refl refl (still-gives _ _))
+        ⊗ ((refl, tt), λ w c t d. quiet (pos 28) (obj-sts v semaphore a (countOf v a)) refl refl refl (still-gives _ _))
+        ⊗ ((refl, tt), λ w c t d. quiet (pos 29) (obj-sts v flag a (patternOf v a)) refl refl refl (still-gives _ _))
+        ⊗ ((refl, tt), λ w c t d. quiet (pos 30) (obj-sts v mailbox a (first (line v (mail (nat a))))) refl refl refl (still-gives _ _))
+        ⊗ ((refl, tt), λ w c t d. quiet (pos 31) (obj-sts v pool a (free (blocksOf v a))) refl refl refl (still-gives _ _))
+        ⊗ (tt, λ w c t d. quiet (pos 32) (get-tim v) refl refl refl (still-gives _ _))
+        ⊗ tt
+
+-- ---- an event
+
+-- the account of every block at every event on a sound state
+pub event-balance : (v : View) → Sound v → (e : Event) (p k : ℕ) → In p (length (v .body .store .pools)) → In k (length (of (v .body .store .pools) p []))
+    → Balance (v .body) (next v e .body) (taken e (served v e .answer) p k) (returned e (served v e .answer) p k) p k
+unfolding next served answer judge ticked ok number
+event-balance v s tick p k rp rk = rw (body-acts (ticked v .acts) v) (still-balance (v .body) _ (tick-still (v .body)) p k)
+event-balance v s (call x n a y z) p k rp rk =
+    rw (body-acts (judge v (call x n a y z) .acts) v)
+    (by-call (Books v s x a y z p k rp rk) (Bad v s x a y z p k rp rk) (no-way v s x a y z p k rp rk) v a y z refl refl refl refl (λ h. rows v s x a y z p k rp rk h (caller v h)) x n)

@@ -1,0 +1,118 @@
+-- Demand 2's broken mark: after an accepted rel_wai the cell reads E_RLWAI and 0 until the task's next release or start. Assumes nothing.
+use mathlib.Core.Bool.{Bool, true, false, not, cond, false≢true}
+use mathlib.Core.List.{List, [], _∷_}
+use mathlib.Core.Logic.{_⊎_, inl, inr}
+use mathlib.Core.Option.{Option, none, some}
+use mathlib.Core.Path.{_≡_, refl, sym, ap, _∙_}
+use Prim.Native.Nat.{ℕ, zero, suc}
+use lib.IntN.{ℤ, pos, negsuc, natAbs}
+use lib.ListN.{length}
+use native.Mathlib.Omega.{arith}
+use borrow.Author.Tests.{not-false}
+use Rattle.rules.specs.Ids.{of, In}
+use Rattle.rules.specs.Codes.{Code, H-CALL, E-NOEXS, E-CTX, E-SELF, E-DMT, E-NOWAI, E-RLWAI, number, negative, refuses}
+use Rattle.rules.specs.State.{State, Cell, Task, Body, task, nobody, isWaiting}
+use Rattle.rules.specs.Events.{Event, tick, call, Words, AllWords, nat, outside}
+use Rattle.rules.specs.Acts.{Act, release, releasedTask, after, afters}
+use Rattle.rules.specs.View.{View}
+use Rattle.rules.specs.Verdicts.{Verdict, refuse, gives, waits, check}
+use Rattle.rules.specs.Tasks.{stateOf, rel-wai}
+use Rattle.rules.specs.Table.{refusals, judged, table, handler, looked-up, called, judge}
+use Rattle.rules.specs.Answers.{answer, readCell}
+use Rattle.rules.specs.Sound.{Sound}
+use Rattle.rules.specs.Kernel.{next, served, event, cell}
+use Rattle.rules.specs.Broken.{broken, isFresh, Unless, StaysBroken}
+use Rattle.rules.proofs.Ids.{of-put-same, length-put}
+use Rattle.rules.proofs.Fits.{tasks-after}
+use Rattle.rules.proofs.Waits.{in-by}
+use Rattle.rules.proofs.Cells.{body-acts, Kept, Careful-list, nothing, one, several, list-kept}
+use Rattle.rules.proofs.Clean.{Clean, refused, given, waited, judge-clean}
+use Rattle.rules.proofs.Events.{event-served, event-next, cell-reads, sound-event}
+
+-- ---- only release and sta_tsk change a cell
+
+clean-kept : (b : Body) (r : Verdict) → Clean b r → (i : ℕ) → Kept (task b i) (task (afters (r .acts) b) i)
+clean-kept b r (refused c n) = list-kept b [] nothing
+clean-kept b r (given x y l g) = list-kept b l g
+clean-kept b r (waited i w) = list-kept b _ (one _ tt)
+
+-- a task whose cell an event changed was released or started by it, as the states before and after tell
+pub cell-kept : (v : View) (e : Event) (i : ℕ) → Kept (task (v .body) i) (task (next v e .body) i)
+unfolding next
+cell-kept v e i = rw (body-acts (judge v e .acts) v) (clean-kept (v .body) (judge v e) (judge-clean v e) i)
+
+tasks-acts : (l : List Act) (b : Body) → length (afters l b .tasks) ≡ length (b .tasks)
+unfolding afters
+tasks-acts [] b = refl
+tasks-acts (a ∷ l) b = tasks-acts l (after a b) ∙ tasks-after a b
+
+pub tasks-next : (v : View) (e : Event) → length (next v e .body .tasks) ≡ length (v .body .tasks)
+unfolding next
+tasks-next v e = rw (body-acts (judge v e .acts) v) (tasks-acts (judge v e .acts) (v .body))
+
+-- the same of what is read by id
+read-kept : (v : View) (e : Event) (a : ℤ) → isFresh (task (v .body) (nat a) .state) (task (next v e .body) (nat a) .state) ≡ false → readCell (next v e .body) a ≡ readCell (v .body) a
+unfolding readCell
+read-kept v e a h = λ z. cond (outside a (tasks-next v e z)) (record { code = E-NOEXS; word = 0 }) (same (cell-kept v e (nat a)) z)
+  where
+    same : Kept (task (v .body) (nat a)) (task (next v e .body) (nat a)) → task (next v e .body) (nat a) .cell ≡ task (v .body) (nat a) .cell
+    same (inl k) = k
+    same (inr k) = absurd (false≢true (sym h ∙ k))
+
+-- ---- over runs from any sound state
+
+stays : (a : ℤ) (v : View) (l : List Event) → Sound v → AllWords l → cell v a ≡ broken → StaysBroken a v l
+stays a v [] s w c = c
+stays a v (e ∷ l) s w c =
+    (c, go (isFresh (task (v .body) (nat a) .state) (task (event v e .next .body) (nat a) .state)) refl (stays a (event v e .next) l (sound-event v e s (w .0)) (w .1)))
+  where
+    go : (t : Bool) → isFresh (task (v .body) (nat a) .state) (task (event v e .next .body) (nat a) .state) ≡ t → (cell (event v e .next) a ≡ broken → StaysBroken a (event v e .next) l)
+        → Unless t (StaysBroken a (event v e .next) l)
+    go true f k = tt
+    go false f k = k (cell-reads (event v e .next) a (sound-event v e s (w .0)) ∙ ap (λ (x : View). readCell (x .body) a) (event-next v e s)
+        ∙ read-kept v e a (rw (event-next v e s) at f) ∙ sym (cell-reads v a s) ∙ c)
+
+-- ---- an accepted rel_wai breaks the wait
+
+-- a refusal is not accepted
+Accepts : (Verdict → Type 0) → Verdict → Type 0
+Accepts P r = number (r .code) ≡ pos 0 → P r
+
+module _ (P : Verdict → Type 0) where
+  accepts-refuse : (c : Code) → refuses c ≡ true → Accepts P (refuse c)
+  unfolding Accepts refuses
+  accepts-refuse c n e = absurd (false≢true (ap negative (sym e) ∙ n))
+
+  accepts-check : (t : Bool) (c : Code) (r : Verdict) → refuses c ≡ true → (t ≡ false → Accepts P r) → Accepts P (check t c r)
+  unfolding check
+  accepts-check true c r n h = accepts-refuse c n
+  accepts-check false c r n h = h refl
+
+-- the cell of task a reads as broken after the acts
+Breaks : View → ℤ → Verdict → Type 0
+Breaks v a r = readCell (afters (r .acts) (v .body)) a ≡ broken
+
+released-broken : (b : Body) (a : ℤ) → outside a (length (b .tasks)) ≡ false → isWaiting (task b (nat a) .state) ≡ true → readCell (after (release (nat a) E-RLWAI 0) b) a ≡ broken
+unfolding readCell after
+released-broken b a o w =
+    rw (length-put (b .tasks) (nat a) (releasedTask E-RLWAI 0 (task b (nat a))), o, of-put-same (b .tasks) (nat a) (releasedTask E-RLWAI 0 (task b (nat a))) nobody (in-by a _ o), w)
+
+rel-wai-breaks : (v : View) (x a b c : ℤ) → Accepts (Breaks v a) (judge v (call x (pos 6) a b c))
+unfolding judge called looked-up table judged refusals rel-wai Breaks afters refuses number Accepts
+rel-wai-breaks v x a b c = go (handler x)
+  where
+    go : (h : Option Bool) → Accepts (Breaks v a) (called v h (pos 6) a b c)
+    go none = accepts-refuse (Breaks v a) H-CALL refl
+    go (some h) =
+        accepts-check (Breaks v a) _ E-NOEXS _ refl (λ o. accepts-check (Breaks v a) _ E-CTX _ refl (λ p. accepts-check (Breaks v a) false E-SELF _ refl (λ q. accepts-check (Breaks v a) false E-DMT _ refl
+        (λ d. accepts-check (Breaks v a) _ E-NOWAI _ refl (λ w. λ k. released-broken (v .body) a o (not-false _ w))))))
+
+-- after an accepted rel_wai the cell reads E_RLWAI and 0 until the task's next release or start
+pub stays-broken : (v : View) (x a b c : ℤ) → Sound v → Words (call x (pos 6) a b c) → number (event v (call x (pos 6) a b c) .answer .code) ≡ pos 0
+    → (l : List Event) → AllWords l → StaysBroken a (event v (call x (pos 6) a b c) .next) l
+unfolding next served answer Accepts Breaks
+stays-broken v x a b c s w k l ws =
+    let e = call x (pos 6) a b c in
+    let ok : number (judge v e .code) ≡ pos 0 = ap (λ o. number (o .answer .code)) (sym (event-served v e s)) ∙ k in
+    stays a (event v e .next) l (sound-event v e s w) ws
+    (cell-reads (event v e .next) a (sound-event v e s w) ∙ ap (λ (y : View). readCell (y .body) a) (event-next v e s) ∙ ap (λ (y : Body). readCell y a) (body-acts (judge v e .acts) v) ∙ rel-wai-breaks v x a b c ok)

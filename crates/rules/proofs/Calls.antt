@@ -1,0 +1,573 @@
+-- Every event keeps a sound state sound: it is a list of acts, each of which finds what it needs. Shown over the forms of verdicts, then call by call.
+use mathlib.Core.Bool.{Bool, true, false, cond, not, _&&_, false≢true}
+use mathlib.Core.List.{List, [], _∷_, _++_, map}
+use mathlib.Core.Logic.{_⊎_, inl, inr, _≢_}
+use mathlib.Core.Option.{Option, none, some}
+use mathlib.Core.Path.{_≡_, refl, sym, ap, _∙_, subst}
+use Prim.Native.Nat.{ℕ, zero, suc, _+_, _*_, _/_, _%_, _^_, _≤_, _<_, min}
+use native.Mathlib.Nat.{le-refl}
+use native.Mathlib.Omega.{arith}
+use lib.Arith.{half-le}
+use lib.Bits.{bitAnd, and-step, and-shr, and-mod, and-le-l, and-le-r, or-lt}
+use lib.Dec.{eqb, leb, lit<}
+use lib.IntN.{ℤ, pos, negsuc}
+use lib.ListN.{length}
+use borrow.Author.Tests.{eqb-true, eqb-false, eq-eqb, ne-eqb, leb-true, leb-false, not-false}
+use Rattle.rules.specs.Ids.{of, ids, In, once, times}
+use Rattle.rules.specs.Codes.{Code, OK, E-TMOUT}
+use Rattle.rules.specs.State.{Kind, semaphore, flag, mailbox, pool, Wait, asleep, timed, on, State, dormant, ready, suspended, waiting, waiting-suspended, Task, Body, task, nobody, objects, waitOf, isDormant, isWaiting, sleeps, wish}
+use Rattle.rules.specs.Places.{waiters, mail, belongs, sameKind, waitsOn, awaits, lies}
+use Rattle.rules.specs.Setup.{Entry}
+use Rattle.rules.specs.Events.{Event, tick, call, Word, Words, nat, bits, outside, above}
+use Rattle.rules.specs.Acts.{Act, start, wait, release, wakeups, pattern, elapse, after, freed, releasedTask, with-state, with-cell}
+use Rattle.rules.specs.View.{View, line, act, acts}
+use Rattle.rules.specs.Verdicts.{Verdict, refuse, waits, check, choose, onFirst, onCount}
+use Rattle.rules.specs.Tasks.{stateOf, sta-tsk, ext-tsk, ter-tsk, chg-pri, rot-rdq, rel-wai, sus-tsk, rsm-tsk, take-wakeup, slp-tsk, wai-for, wai-tsk, wup-tsk, can-wup, get-tid, tsk-sts}
+use Rattle.rules.specs.Objects.{to-first, obj-sts, countOf, sig-sem, take-sem, patternOf, met, left, serve-flag, set-flg, clr-flg, take-flg, snd-msg, take-msg, blocksOf, lowest, free, take-blk, rel-blk}
+use Rattle.rules.specs.Time.{get-tim, ending, endings, timeout, ticked}
+use Rattle.rules.specs.Table.{table, caller, judge}
+use Rattle.rules.specs.Sound.{WishNumbers, WaitNumbers, anyLies, would-serve, Unserved, SoundTask, SoundBody, Sound}
+use Rattle.rules.specs.Kernel.{starts, next}
+use Rattle.rules.proofs.Ids.{of-put-other, put-either, inside, tested, times-keep, times-ids}
+use Rattle.rules.proofs.Keeps.{NoneAt, Asks, Pre, asks-waits}
+use Rattle.rules.proofs.Queues.{sound-act, body-act, empty-belongs, none-waits, belongs-stands}
+use Rattle.rules.proofs.Judge.{AllRows, by-check, by-choose, by-first, by-count, by-call}
+
+-- ---- a list of acts, each of which finds what it needs
+
+abbrev pub Steps : Body → List Act → Type 0
+Steps b [] = Unit {0}
+Steps b (a ∷ l) = Pre b a × Steps (after a b) l
+
+pub sound-acts : (l : List Act) (v : View) → Sound v → Steps (v .body) l → Sound (acts l v)
+unfolding acts
+sound-acts [] v h k = h
+sound-acts (a ∷ l) v h k = sound-acts l (act a v) (sound-act a v h (k .0)) (rw (body-act a v) (k .1))
+
+-- the fresh state's starts need nothing
+pub starts-steps : (b : Body) (i : ℕ) (l : List Entry) → Steps b (starts i l)
+unfolding starts
+starts-steps b i [] = tt
+starts-steps b i (e ∷ l) = go (e .started) (starts-steps (after (start i) b) (suc i) l) (starts-steps b (suc i) l)
+  where
+    go : (t : Bool) → Steps (after (start i) b) (starts (suc i) l) → Steps b (starts (suc i) l) → Steps b (cond t (start i ∷ starts (suc i) l) (starts (suc i) l))
+    go true p q = (tt, p)
+    go false p q = q
+
+-- ---- verdicts whose acts find what they need
+
+data Fine (b : Body) (r : Verdict) : Type 0 where
+  fine : Steps b (r .acts) → Fine b r
+
+steps-of : {b : Body} {r : Verdict} → Fine b r → Steps b (r .acts)
+steps-of (fine h) = h
+
+-- of any call, with any code: a refusal has no acts
+abbrev FineAt : Body → ℤ → Verdict → Type 0
+FineAt b n r = Fine b r
+
+abbrev Any : Code → Type 0
+Any c = Unit {0}
+
+unacted : (b : Body) (n : ℤ) (c : Code) → Any c → FineAt b n (refuse c)
+unacted b n c u = fine tt
+
+module _ {b : Body} where
+  fine-check : {t : Bool} {r : Verdict} (c : Code) → (t ≡ false → Fine b r) → Fine b (check t c r)
+  fine-check c h = by-check (FineAt b) Any (unacted b) {n = pos 0} tt h
+
+  fine-choose : {t : Bool} {r s : Verdict} → (t ≡ true → Fine b r) → (t ≡ false → Fine b s) → Fine b (choose t r s)
+  fine-choose h k = by-choose (FineAt b) Any (unacted b) {n = pos 0} h k
+
+  fine-first : {l : List ℕ} {r : Verdict} {f : ℕ → Verdict} → (l ≡ [] → Fine b r) → ((x : ℕ) → Fine b (f x)) → Fine b (onFirst l r f)
+  fine-first h k = by-first (FineAt b) Any (unacted b) {n = pos 0} h (λ x l e. k x)
+
+  fine-count : {n : ℕ} {r : Verdict} {f : ℕ → Verdict} → (n ≡ 0 → Fine b r) → ((k : ℕ) → n ≡ suc k → Fine b (f k)) → Fine b (onCount n r f)
+  fine-count h k = by-count (FineAt b) Any (unacted b) {n = pos 0} h k
+
+-- ---- words
+
+in-by : (a : ℤ) (n : ℕ) → outside a n ≡ false → In (nat a) n
+in-by a n e = go (leb 1 (nat a)) (leb (nat a) n) refl refl e
+  where
+    go : (s t : Bool) → leb 1 (nat a) ≡ s → leb (nat a) n ≡ t → not (s && t) ≡ false → In (nat a) n
+    go true true p q e = (leb-true 1 (nat a) p, leb-true (nat a) n q)
+    go true false p q e = absurd (false≢true (sym e))
+    go false true p q e = absurd (false≢true (sym e))
+    go false false p q e = absurd (false≢true (sym e))
+
+mode-small : (m : ℤ) → above m 3 ≡ false → nat m ≤ 3
+mode-small (pos n) e = omega (arith, leb-false 4 n e)
+mode-small (negsuc n) e = omega arith
+
+nat-small : (a : ℤ) → Word a → nat a < 2 ^ 32
+nat-small (pos n) h = omega arith
+nat-small (negsuc n) h = lit< tt
+
+bits-small : (a : ℤ) → Word a → bits a < 2 ^ 32
+bits-small (pos n) h = omega arith
+bits-small (negsuc n) h = omega arith
+
+-- ---- what a sound state says
+
+sameKind-true : (k l : Kind) → sameKind k l ≡ true → k ≡ l
+sameKind-true semaphore semaphore e = refl
+sameKind-true semaphore flag e = absurd (false≢true e)
+sameKind-true semaphore mailbox e = absurd (false≢true e)
+sameKind-true semaphore pool e = absurd (false≢true e)
+sameKind-true flag semaphore e = absurd (false≢true e)
+sameKind-true flag flag e = refl
+sameKind-true flag mailbox e = absurd (false≢true e)
+sameKind-true flag pool e = absurd (false≢true e)
+sameKind-true mailbox semaphore e = absurd (false≢true e)
+sameKind-true mailbox flag e = absurd (false≢true e)
+sameKind-true mailbox mailbox e = refl
+sameKind-true mailbox pool e = absurd (false≢true e)
+sameKind-true pool semaphore e = absurd (false≢true e)
+sameKind-true pool flag e = absurd (false≢true e)
+sameKind-true pool mailbox e = absurd (false≢true e)
+sameKind-true pool pool e = refl
+
+both-true : (s t : Bool) → (s && t) ≡ true → (s ≡ true) × (t ≡ true)
+both-true true true e = (refl, refl)
+both-true true false e = absurd (false≢true e)
+both-true false true e = absurd (false≢true e)
+both-true false false e = absurd (false≢true e)
+
+-- a waiter on an object asks something of it
+waits-asks : (x : Option Wait) (k : Kind) (o : ℕ) → waitsOn x k o ≡ true → (p : ℕ) × (m : ℕ) × (x ≡ some (on k o p m))
+waits-asks none k o e = absurd (false≢true e)
+waits-asks (some asleep) k o e = absurd (false≢true e)
+waits-asks (some (timed t)) k o e = absurd (false≢true e)
+waits-asks (some (on k′ o′ p m)) k o e =
+    let h : (sameKind k′ k ≡ true) × (eqb o′ o ≡ true) = both-true _ _ e in
+    (p, m, λ z. some (on (sameKind-true k′ k (h .0) z) (eqb-true o′ o (h .1) z) p m))
+
+module _ (b : Body) (h : SoundBody b) where
+  -- whoever asks something of an object does so in order, and is not served
+  asks-well : (i : ℕ) (k : Kind) (o p m : ℕ) → Asks b i k o p m → WishNumbers k p m × (would-serve (b .store) k o p m ≡ false)
+  asks-well i k o p m e = (subst (WaitNumbers (b .store)) e (g .wait) .1, subst (Unserved (b .store)) e (g .unserved))
+    where
+      g : SoundTask (b .store) (task b i)
+      g = h .tasks i (tested (λ t. awaits (t .state) k o) (b .tasks) i nobody refl (asks-waits (waitOf (task b i .state)) k o p m e))
+
+  -- where a waiter would be served, there is none
+  none-by : (k : Kind) (o : ℕ) → ((p m : ℕ) → would-serve (b .store) k o p m ≡ false → ⊥) → NoneAt b k o
+  none-by k o f i = go (awaits (task b i .state) k o) refl
+    where
+      go : (t : Bool) → awaits (task b i .state) k o ≡ t → t ≡ false
+      go true e =
+          let w = waits-asks (waitOf (task b i .state)) k o e in
+          absurd (f (w .0) (w .1) (asks-well i k o (w .0) (w .1) (w .2) .1))
+      go false e = refl
+
+  wakeups-few : (i : ℕ) → task b i .wakeups ≤ 15
+  wakeups-few i = elim (inside (b .tasks) i nobody) [ inl r ↦ h .tasks i r .wakeups | inr e ↦ rw e (omega arith) ]
+
+  -- with a wake-up stored, a task neither sleeps nor is dormant
+  stored-awake : (i k : ℕ) → task b i .wakeups ≡ suc k → (isDormant (task b i .state) ≡ true → ⊥) × (sleeps (waitOf (task b i .state)) ≡ true → ⊥)
+  stored-awake i k e = go (inside (b .tasks) i nobody)
+    where
+      go : In i (length (b .tasks)) ⊎ (task b i ≡ nobody) → (isDormant (task b i .state) ≡ true → ⊥) × (sleeps (waitOf (task b i .state)) ≡ true → ⊥)
+      go (inl r) = (λ d. omega (arith, h .tasks i r .dormant d), λ s. omega (arith, h .tasks i r .sleeper s))
+      go (inr z) = let d : 0 ≡ suc k = ap (λ (t : Task). t .wakeups) (sym z) ∙ e in absurd (omega arith)
+
+-- ---- pools and mailboxes
+
+lowest-none : (k : ℕ) (l : List Bool) → lowest (suc k) l ≡ 0 → free l ≡ 0
+lowest-none k [] e = refl
+lowest-none k (true ∷ l) e = absurd (omega arith)
+lowest-none k (false ∷ l) e = lowest-none (suc k) l e
+
+nowhere-lies : (l : List (Option ℕ)) (m : ℕ) → ((j : ℕ) → lies (of l j none) m ≡ false) → anyLies l m ≡ false
+nowhere-lies [] m f = refl
+nowhere-lies (x ∷ l) m f = rw (f 1) (nowhere-lies l m (later f))
+  where
+    later : ((j : ℕ) → lies (of (x ∷ l) j none) m ≡ false) → (j : ℕ) → lies (of l j none) m ≡ false
+    later f zero = refl
+    later f (suc j) = f (suc (suc j))
+
+-- ---- patterns
+
+digit-less : (A B a d x y z : ℕ) → A ≡ a * 2 + min x z → B ≡ d * 2 + min y z → a ≤ d → x ≤ y → A ≤ B
+digit-less A B a d x y z p q h k = omega arith
+
+and-less : (n h c p : ℕ) → h ≤ n → bitAnd (bitAnd h c) p ≤ bitAnd h p
+and-less zero h c p l = let e : h ≡ 0 = omega arith in rw e (omega arith)
+and-less (suc n) h c p l =
+    digit-less _ _ (bitAnd (bitAnd h c / 2) (p / 2)) (bitAnd (h / 2) (p / 2)) (bitAnd h c % 2) (h % 2) (p % 2) (and-step (bitAnd h c) p) (and-step h p)
+    (rw (and-shr h c 1) (and-less n (h / 2) (c / 2) (p / 2) (half-le l))) (rw (and-mod h c 1) (and-le-l (h % 2) (c % 2)))
+
+-- a pattern with fewer bits meets less
+met-less : (h c p m : ℕ) → met h p m ≡ false → met (bitAnd h c) p m ≡ false
+met-less h c p m e = go (eqb (m % 2) 1) e
+  where
+    le : bitAnd (bitAnd h c) p ≤ bitAnd h p
+    le = and-less h h c p (le-refl h)
+
+    zero-below : {x y : ℕ} → y ≡ 0 → x ≤ y → x ≡ 0
+    zero-below d l = omega arith
+
+    squeeze : {x y z : ℕ} → x ≡ z → x ≤ y → y ≤ z → y ≡ z
+    squeeze d l r = omega arith
+
+    go : (t : Bool) → cond t (not (eqb (bitAnd h p) 0)) (eqb (bitAnd h p) p) ≡ false → cond t (not (eqb (bitAnd (bitAnd h c) p) 0)) (eqb (bitAnd (bitAnd h c) p) p) ≡ false
+    go true e = ap not (eq-eqb (bitAnd (bitAnd h c) p) 0 (zero-below (eqb-true (bitAnd h p) 0 (not-false (eqb (bitAnd h p) 0) e)) le))
+    go false e = ne-eqb (bitAnd (bitAnd h c) p) p (λ d. eqb-false (bitAnd h p) p e (squeeze d le (and-le-r h p)))
+
+met-zero : (p m : ℕ) → p ≢ 0 → met 0 p m ≡ false
+met-zero p m z = go (eqb (m % 2) 1)
+  where
+    go : (t : Bool) → cond t (not (eqb 0 0)) (eqb 0 p) ≡ false
+    go true = refl
+    go false = ne-eqb 0 p (λ e. z (sym e))
+
+left-unmet : (h p m k : ℕ) → p ≢ 0 → met h p m ≡ false → met (left h k) p m ≡ false
+left-unmet h p m k z e = go (leb 2 k)
+  where
+    go : (t : Bool) → met (cond t 0 h) p m ≡ false
+    go true = met-zero p m z
+    go false = e
+
+left-small : (h k : ℕ) → h < 2 ^ 32 → left h k < 2 ^ 32
+left-small h k r = go (leb 2 k)
+  where
+    go : (t : Bool) → cond t 0 h < 2 ^ 32
+    go true = lit< tt
+    go false = r
+
+-- ---- a release, seen from the task released and from another
+
+freed-waits : (s : State) → waitOf (cond (isWaiting s) (freed s) s) ≡ none
+freed-waits dormant = refl
+freed-waits ready = refl
+freed-waits suspended = refl
+freed-waits (waiting w) = refl
+freed-waits (waiting-suspended w) = refl
+
+released-waits : (c : Code) (w : ℕ) (t : Task) → waitOf (releasedTask c w t .state) ≡ none
+released-waits c w t = ap (λ (s : State). waitOf s) (go (isWaiting (t .state))) ∙ freed-waits (t .state)
+  where
+    go : (x : Bool) → cond x (with-cell (record { code = c; word = w }) (with-state (freed (t .state)) t)) t .state ≡ cond x (freed (t .state)) (t .state)
+    go true = refl
+    go false = refl
+
+module _ (x : ℕ) (cd : Code) (w : ℕ) (c : Body) where
+  released-self : waitOf (task (after (release x cd w) c) x .state) ≡ none
+  unfolding after
+  released-self = elim (put-either (c .tasks) x (releasedTask cd w (task c x)) nobody)
+      [ inl k ↦ ap (λ (t : Task). waitOf (t .state)) k ∙ released-waits cd w (task c x) | inr k ↦ ap (λ (t : Task). waitOf (t .state)) k ]
+
+  released-other : (i : ℕ) → eqb x i ≡ false → waitOf (task (after (release x cd w) c) i .state) ≡ waitOf (task c i .state)
+  unfolding after
+  released-other i e = ap (λ (t : Task). waitOf (t .state)) (of-put-other (c .tasks) x i _ nobody e)
+
+some≢none : (w : Wait) → some w ≡ none → ⊥
+some≢none w e = false≢true (sym (ap some? e))
+  where
+    some? : Option Wait → Bool
+    some? none = false
+    some? (some x) = true
+
+-- ---- the walk of set_flg
+
+module _ (b : Body) (f : ℕ) where
+  -- whoever asks something of the flag has asked it from the start, and is still to come or is not met
+  abbrev Unmet : Body → ℕ → List ℕ → Type 0
+  Unmet c have l = (i p m : ℕ) → Asks c i flag f p m → Asks b i flag f p m × (p ≢ 0) × ((times i l ≢ 0) ⊎ (met have p m ≡ false))
+
+  abbrev wished : ℕ → ℕ × ℕ
+  wished x = wish (waitOf (task b x .state))
+
+  unmet-skip : (c : Body) (have x : ℕ) (l : List ℕ) → Unmet c have (x ∷ l) → met have (wished x .0) (wished x .1) ≡ false → Unmet c have l
+  unfolding times
+  unmet-skip c have x l u e i p m w = (u i p m w .0, u i p m w .1, go (eqb x i) refl (u i p m w .2))
+    where
+      same-wish : x ≡ i → wished x ≡ (p, m)
+      same-wish d = ap (λ (j : ℕ). wished j) d ∙ ap (λ (y : Option Wait). wish y) (u i p m w .0)
+
+      go : (t : Bool) → eqb x i ≡ t → (once t + times i l ≢ 0) ⊎ (met have p m ≡ false) → (times i l ≢ 0) ⊎ (met have p m ≡ false)
+      go t d (inr k) = inr k
+      go false d (inl k) = inl (λ y. k (omega arith))
+      go true d (inl k) = inr (subst (λ (y : ℕ × ℕ). met have (y .0) (y .1) ≡ false) (same-wish (eqb-true x i d)) e)
+
+  unmet-release : (c : Body) (have k x : ℕ) (l : List ℕ) → Unmet c have (x ∷ l) → Unmet (after (release x OK have) c) (left have k) l
+  unfolding times
+  unmet-release c have k x l u i p m w = go (eqb x i) refl
+    where
+      later : eqb x i ≡ false → p ≢ 0 → (once (eqb x i) + times i l ≢ 0) ⊎ (met have p m ≡ false) → (times i l ≢ 0) ⊎ (met (left have k) p m ≡ false)
+      later d z (inl n) = inl (λ y. n (rw d (omega arith)))
+      later d z (inr e) = inr (left-unmet have p m k z e)
+
+      go : (t : Bool) → eqb x i ≡ t → Asks b i flag f p m × (p ≢ 0) × ((times i l ≢ 0) ⊎ (met (left have k) p m ≡ false))
+      go true d = absurd (some≢none _ (sym w ∙ subst (λ (j : ℕ). waitOf (task (after (release x OK have) c) j .state) ≡ none) (eqb-true x i d) (released-self x OK have c)))
+      go false d = let y = u i p m (sym (released-other x OK have c i d) ∙ w) in (y .0, y .1, later d (y .1) (y .2))
+
+  serve-steps : (c : Body) (have : ℕ) (l : List ℕ) → have < 2 ^ 32 → Unmet c have l → Steps c (serve-flag b f have l)
+  unfolding times
+  serve-steps c have [] r u = ((r, λ i p m w. elim (u i p m w .2) [ inl k ↦ absurd (k refl) | inr e ↦ e ]), tt)
+  serve-steps c have (x ∷ l) r u =
+      go (met have (wished x .0) (wished x .1)) refl
+      (serve-steps (after (release x OK have) c) (left have (wished x .1)) l (left-small have (wished x .1) r) (unmet-release c have (wished x .1) x l u))
+      (λ e. serve-steps c have l r (unmet-skip c have x l u e))
+    where
+      B : List Act
+      B = serve-flag b f (left have (wished x .1)) l
+
+      C : List Act
+      C = serve-flag b f have l
+
+      go : (t : Bool) → met have (wished x .0) (wished x .1) ≡ t → Steps (after (release x OK have) c) B → (met have (wished x .0) (wished x .1) ≡ false → Steps c C)
+          → Steps c (cond t (release x OK have ∷ B) C)
+      go true e p q = (inl (refl, r), p)
+      go false e p q = q e
+
+-- ---- the tick
+
+-- every wait that ends is still to come
+abbrev Ending : Body → List ℕ → Type 0
+Ending c l = (i : ℕ) → ending (waitOf (task c i .state)) ≡ true → times i l ≢ 0
+
+ending-release : (c : Body) (x : ℕ) (l : List ℕ) → Ending c (x ∷ l) → Ending (after (timeout x) c) l
+unfolding times
+ending-release c x l g i t = go (eqb x i) refl
+  where
+    go : (s : Bool) → eqb x i ≡ s → times i l ≢ 0
+    go false d = λ y. g i (ap ending (sym (released-other x E-TMOUT 0 c i d)) ∙ t) (rw d (omega arith))
+    go true d = absurd (false≢true (ap ending (sym (subst (λ (j : ℕ). waitOf (task (after (timeout x) c) j .state) ≡ none) (eqb-true x i d) (released-self x E-TMOUT 0 c))) ∙ t))
+
+tick-steps : (c : Body) (l : List ℕ) → Ending c l → Steps c (map timeout l ++ elapse ∷ [])
+unfolding times
+tick-steps c [] g = (λ i. over (ending (waitOf (task c i .state))) (g i), tt)
+  where
+    over : (t : Bool) → (t ≡ true → _≢_ {A = ℕ} 0 0) → t ≡ false
+    over true k = absurd (k refl refl)
+    over false k = refl
+tick-steps c (x ∷ l) g = (inr (inl refl, refl), tick-steps (after (timeout x) c) l (ending-release c x l g))
+
+tick-fine : (v : View) → Fine (v .body) (ticked v)
+unfolding ticked
+tick-fine v = fine (tick-steps (v .body) (endings (v .body)) ends)
+  where
+    ends : Ending (v .body) (endings (v .body))
+    ends i e z =
+        let r : In i (length (v .body .tasks)) = tested (λ t. ending (waitOf (t .state))) (v .body .tasks) i nobody refl e in
+        let k : times i (endings (v .body)) ≡ 1 = times-keep i (λ j. ending (waitOf (task (v .body) j .state))) (ids (length (v .body .tasks))) ∙ rw e (times-ids i (length (v .body .tasks)) r) in
+        absurd (omega (arith, sym z ∙ k))
+
+-- ---- the calls on tasks
+
+module _ (v : View) (h : Sound v) where
+  abbrev b : Body
+  b = v .body
+
+  abbrev s : SoundBody (v .body)
+  s = h .body
+
+  sta-fine : (a : ℤ) → Fine b (sta-tsk v a)
+  unfolding sta-tsk
+  sta-fine a = fine-check _ (λ e. fine (tt, tt))
+
+  ext-fine : (me : ℕ) → Fine b (ext-tsk me)
+  unfolding ext-tsk
+  ext-fine me = fine (tt, tt)
+
+  ter-fine : (a : ℤ) → Fine b (ter-tsk a)
+  unfolding ter-tsk
+  ter-fine a = fine (tt, tt)
+
+  chg-fine : (a p : ℤ) → In (nat p) (b .store .priorities) → isDormant (stateOf v a) ≡ false → Fine b (chg-pri a p)
+  unfolding chg-pri
+  chg-fine a p r d = fine ((r, d), tt)
+
+  rot-fine : (a : ℤ) → Fine b (rot-rdq v a)
+  unfolding rot-rdq
+  rot-fine a = fine-first (λ e. fine tt) (λ x. fine (tt, tt))
+
+  rel-fine : (a : ℤ) → Fine b (rel-wai v a)
+  unfolding rel-wai
+  rel-fine a = fine-check _ (λ e. fine (inr (inr refl, refl), tt))
+
+  sus-fine : (a : ℤ) → Fine b (sus-tsk v a)
+  unfolding sus-tsk
+  sus-fine a = fine-check _ (λ e. fine (tt, tt))
+
+  rsm-fine : (a : ℤ) → Fine b (rsm-tsk v a)
+  unfolding rsm-tsk
+  rsm-fine a = fine-check _ (λ e. fine (tt, tt))
+
+  -- a sleeper has no wake-up stored
+  wakeup-fine : (me : ℕ) (r : Verdict) → (task b me .wakeups ≡ 0 → Fine b r) → Fine b (take-wakeup v me r)
+  unfolding take-wakeup
+  wakeup-fine me r f = fine-count f (λ k e. fine ((omega (arith, wakeups-few b s me), λ t. absurd (stored-awake b s me k e .0 t), λ t. absurd (stored-awake b s me k e .1 t)), tt))
+
+  slp-fine : (me : ℕ) → Fine b (slp-tsk v me)
+  unfolding slp-tsk
+  slp-fine me = wakeup-fine me _ (λ e. fine (λ r. (tt, tt, λ t. e), tt))
+
+  for-fine : (me : ℕ) (a : ℤ) → Word a → task b me .wakeups ≡ 0 → Fine b (wai-for me a)
+  unfolding wai-for
+  for-fine me (pos zero) w e = fine tt
+  for-fine me (pos (suc t)) w e = fine (λ r. ((omega arith, omega arith), tt, λ t. e), tt)
+  for-fine me (negsuc t) w e = fine (λ r. (tt, tt, λ t. e), tt)
+
+  wai-fine : (me : ℕ) (a : ℤ) → Word a → Fine b (wai-tsk v me a)
+  unfolding wai-tsk
+  wai-fine me a w = wakeup-fine me _ (for-fine me a w)
+
+  wup-fine : (a : ℤ) → isDormant (stateOf v a) ≡ false → Fine b (wup-tsk v a)
+  unfolding wup-tsk
+  wup-fine a d =
+      fine-choose (λ t. fine (inl (refl, lit< tt), tt))
+      (λ t. fine-check _ (λ k. fine ((omega (arith, leb-false 15 (task b (nat a) .wakeups) k), λ x. absurd (false≢true (sym d ∙ x)), λ x. absurd (false≢true (sym t ∙ x))), tt)))
+
+  can-fine : (a : ℤ) → Fine b (can-wup v a)
+  unfolding can-wup
+  can-fine a = fine ((omega arith, λ x. refl, λ x. refl), tt)
+
+-- ---- the calls on objects
+
+module _ (v : View) (h : Sound v) (a : ℤ) where
+  -- the word names an object of that kind
+  abbrev There : Kind → Type 0
+  There k = In (nat a) (objects (v .body .store) k)
+
+  -- the first waiter is served; if there is none, nobody waits
+  first-fine : (k : Kind) (w : ℕ) (r : Verdict) → There k → w < 2 ^ 32 → (NoneAt (v .body) k (nat a) → Fine (v .body) r) → Fine (v .body) (to-first v k a w r)
+  unfolding to-first
+  first-fine k w r i z f = fine-first (λ e. f (none-waits v h k (nat a) i e)) (λ x. fine (inl (refl, z), tt))
+
+  -- a caller whom the object would not serve may wait on it
+  waits-fine : (me : ℕ) (k : Kind) (p m : ℕ) → There k → WishNumbers k p m → would-serve (v .body .store) k (nat a) p m ≡ false → Fine (v .body) (waits me (on k (nat a) p m))
+  waits-fine me k p m i w n = fine (λ r. ((i, w), n, λ t. absurd (false≢true t)), tt)
+
+  sig-fine : There semaphore → Fine (v .body) (sig-sem v a)
+  unfolding sig-sem
+  sig-fine i = first-fine semaphore 0 _ i (lit< tt) (λ n. fine-check _ (λ k. fine ((omega (arith, leb-false 65535 (countOf v a) k), inr n), tt)))
+
+  sem-fine : (r : Verdict) → There semaphore → (countOf v a ≡ 0 → Fine (v .body) r) → Fine (v .body) (take-sem v a r)
+  unfolding take-sem
+  sem-fine r i f =
+      fine-count f (λ k e. fine (
+        (
+          omega (arith, h .body .store .semaphores (nat a) i),
+          inr (none-by (v .body) (h .body) semaphore (nat a) (λ p m g. omega (arith, eqb-true (countOf v a) 0 (not-false _ g)))),
+        ),
+        tt,
+      ))
+
+  -- who waits on the flag
+  flag-asks : (i p m : ℕ) → Asks (v .body) i flag (nat a) p m → (p ≢ 0) × (met (patternOf v a) p m ≡ false)
+  flag-asks i p m w = let g = asks-well (v .body) (h .body) i flag (nat a) p m w in (g .0 .0, g .1)
+
+  clr-fine : (p : ℤ) → There flag → Fine (v .body) (clr-flg v a p)
+  unfolding clr-flg
+  clr-fine p i = fine ((omega (arith, and-le-l (patternOf v a) (bits p), h .body .store .flags (nat a) i), λ j y m w. met-less (patternOf v a) (bits p) y m (flag-asks j y m w .1)), tt)
+
+  flg-fine : (p m : ℤ) (r : Verdict) → There flag → (met (patternOf v a) (bits p) (nat m) ≡ false → Fine (v .body) r) → Fine (v .body) (take-flg v a p m r)
+  unfolding take-flg
+  flg-fine p m r i f =
+      fine-choose (λ t. fine (
+        (
+          left-small (patternOf v a) (nat m) (h .body .store .flags (nat a) i),
+          λ j y k w. left-unmet (patternOf v a) y k (nat m) (flag-asks j y k w .0) (flag-asks j y k w .1),
+        ),
+        tt,
+      )) f
+
+  set-fine : (p : ℤ) → Word p → There flag → Fine (v .body) (set-flg v a p)
+  unfolding set-flg belongs
+  set-fine p w i =
+      fine (serve-steps (v .body) (nat a) (v .body) _ (line v (waiters flag (nat a)))
+      (or-lt 32 (patternOf v a) (bits p) (h .body .store .flags (nat a) i) (bits-small p w))
+      (λ j y m w. (w, flag-asks j y m w .0, inl (λ e. absurd (omega (arith, sym e ∙ stands j y m w))))))
+    where
+      stands : (j y m : ℕ) → Asks (v .body) j flag (nat a) y m → times j (line v (waiters flag (nat a))) ≡ 1
+      stands j y m w = belongs-stands (v .body) (waiters flag (nat a)) _ (h .queues (waiters flag (nat a)) i) j (asks-waits (waitOf (task (v .body) j .state)) flag (nat a) y m w)
+
+  snd-fine : (j : ℤ) → Word j → There mailbox → Fine (v .body) (snd-msg v a j)
+  unfolding snd-msg
+  snd-fine j w i = fine-check _ (λ e. first-fine mailbox (nat j) _ i (nat-small j w) (λ n. fine ((i, n), tt)))
+
+  msg-fine : (r : Verdict) → There mailbox → (anyLies (v .body .store .messages) (nat a) ≡ false → Fine (v .body) r) → Fine (v .body) (take-msg v a r)
+  unfolding take-msg belongs
+  msg-fine r i f = fine-first (λ e. f (nowhere-lies (v .body .store .messages) (nat a) (empty-belongs v h (mail (nat a)) i e))) (λ x. fine (tt, tt))
+
+  blk-fine : (r : Verdict) → (free (blocksOf v a) ≡ 0 → Fine (v .body) r) → Fine (v .body) (take-blk v a r)
+  unfolding take-blk
+  blk-fine r f = fine-count (λ e. f (lowest-none 0 (blocksOf v a) e)) (λ k e. fine (inl refl, tt))
+
+  ret-fine : (k : ℤ) → Word k → There pool → Fine (v .body) (rel-blk v a k)
+  unfolding rel-blk
+  ret-fine k w i = fine-check _ (λ e. first-fine pool (nat k) _ i (nat-small k w) (λ n. fine (inr n, tt)))
+
+-- ---- the table
+
+-- a list of proofs, row by row
+infixr 5 _⊗_
+_⊗_ : {A B : Type 0} → A → B → A × B
+x ⊗ y = (x, y)
+
+module _ (v : View) (h : Sound v) (x : Bool) (a p c : ℤ) (wa : Word a) (wp : Word p) where
+  abbrev me : ℕ
+  me = caller v x
+
+  here : (k : Kind) → outside a (objects (v .body .store) k) ≡ false → In (nat a) (objects (v .body .store) k)
+  here k e = in-by a (objects (v .body .store) k) e
+
+  wish-well : eqb (bits p) 0 ≡ false → above c 3 ≡ false → WishNumbers flag (bits p) (nat c)
+  wish-well z m = (eqb-false (bits p) 0 z, bits-small p wp, mode-small c m)
+
+  all-rows : AllRows (FineAt (v .body)) Any (unacted (v .body)) v x me a 1 (table v me a p c)
+  unfolding table get-tid tsk-sts obj-sts get-tim
+  all-rows =
+      ((tt, tt), λ w e t d. sta-fine v h a)
+      ⊗ (tt, λ w e t d. ext-fine v h me)
+      ⊗ ((tt, tt), λ w e t d. ter-fine v h a)
+      ⊗ ((tt, (tt, tt)), λ w e t d. chg-fine v h a p (in-by p _ (w .1 .0)) d)
+      ⊗ ((tt, tt), λ w e t d. rot-fine v h a)
+      ⊗ ((tt, tt), λ w e t d. rel-fine v h a)
+      ⊗ ((tt, tt), λ w e t d. sus-fine v h a)
+      ⊗ ((tt, tt), λ w e t d. rsm-fine v h a)
+      ⊗ (tt, λ w e t d. slp-fine v h me)
+      ⊗ ((tt, tt), λ w e t d. wai-fine v h me a wa)
+      ⊗ ((tt, tt), λ w e t d. wup-fine v h a d)
+      ⊗ ((tt, tt), λ w e t d. can-fine v h a)
+      ⊗ ((tt, tt), λ w e t d. sig-fine v h a (here semaphore (w .0)))
+      ⊗ ((tt, tt), λ w e t d. sem-fine v h a _ (here semaphore (w .0)) (λ z. waits-fine v h a me semaphore 0 0 (here semaphore (w .0)) (refl, refl) (ap not (eq-eqb _ 0 z))))
+      ⊗ ((tt, tt), λ w e t d. sem-fine v h a _ (here semaphore (w .0)) (λ z. fine tt))
+      ⊗ ((tt, tt), λ w e t d. set-fine v h a p wp (here flag (w .0)))
+      ⊗ ((tt, tt), λ w e t d. clr-fine v h a p (here flag (w .0)))
+      ⊗ ((tt, (tt, (tt, tt))), λ w e t d. flg-fine v h a p c _ (here flag (w .0)) (λ u. waits-fine v h a me flag (bits p) (nat c) (here flag (w .0)) (wish-well (w .1 .0) (w .1 .1 .0)) u))
+      ⊗ ((tt, (tt, (tt, tt))), λ w e t d. flg-fine v h a p c _ (here flag (w .0)) (λ u. fine tt))
+      ⊗ ((tt, (tt, tt)), λ w e t d. snd-fine v h a p wp (here mailbox (w .0)))
+      ⊗ ((tt, tt), λ w e t d. msg-fine v h a _ (here mailbox (w .0)) (λ n. waits-fine v h a me mailbox 0 0 (here mailbox (w .0)) (refl, refl) n))
+      ⊗ ((tt, tt), λ w e t d. msg-fine v h a _ (here mailbox (w .0)) (λ n. fine tt))
+      ⊗ ((tt, tt), λ w e t d. blk-fine v h a _ (λ z. waits-fine v h a me pool 0 0 (here pool (w .0)) (refl, refl) (ap not (eq-eqb _ 0 z))))
+      ⊗ ((tt, tt), λ w e t d. blk-fine v h a _ (λ z. fine tt))
+      ⊗ ((tt, tt), λ w e t d. ret-fine v h a p wp (here pool (w .0)))
+      ⊗ (tt, λ w e t d. fine tt)
+      ⊗ ((tt, tt), λ w e t d. fine tt)
+      ⊗ ((tt, tt), λ w e t d. fine tt)
+      ⊗ ((tt, tt), λ w e t d. fine tt)
+      ⊗ ((tt, tt), λ w e t d. fine tt)
+      ⊗ ((tt, tt), λ w e t d. fine tt)
+      ⊗ (tt, λ w e t d. fine tt)
+      ⊗ tt
+
+-- ---- an event
+
+judge-fine : (v : View) (e : Event) → Sound v → Words e → Fine (v .body) (judge v e)
+unfolding judge
+judge-fine v tick h w = tick-fine v
+judge-fine v (call x n a p c) h w =
+    by-call (FineAt (v .body)) Any (unacted (v .body)) v a p c tt tt tt tt (λ y. all-rows v h y a p c (w .2) (w .3)) x n
+
+-- each act of an event finds what it needs
+pub steps-of-judge : (v : View) (e : Event) → Sound v → Words e → Steps (v .body) (judge v e .acts)
+steps-of-judge v e h w = steps-of (judge-fine v e h w)
+
+-- every event keeps a sound state sound
+pub sound-next : (v : View) (e : Event) → Sound v → Words e → Sound (next v e)
+unfolding next
+sound-next v e h w = sound-acts (judge v e .acts) v h (steps-of-judge v e h w)

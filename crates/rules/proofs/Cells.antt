@@ -1,0 +1,221 @@
+-- Only release and sta_tsk change a cell: a task whose cell an event changed was released or started, as the states before and after
+-- tell. Assumes nothing.
+use mathlib.Core.Bool.{Bool, true, false, not, cond, _&&_, _||_, false≢true}
+use mathlib.Core.List.{List, [], _∷_, _++_, map}
+use mathlib.Core.Logic.{_⊎_, inl, inr}
+use mathlib.Core.Path.{_≡_, refl, sym, ap, _∙_}
+use Prim.Native.Nat.{ℕ, zero, suc}
+use lib.IntN.{ℤ, pos, negsuc}
+use lib.ListN.{length, getD, set}
+use borrow.Author.Tests.{not-false}
+use Rattle.rules.specs.Ids.{of, put, keep}
+use Rattle.rules.specs.Codes.{Code, OK}
+use Rattle.rules.specs.State.{Wait, asleep, timed, on, State, dormant, ready, suspended, waiting, waiting-suspended, Cell, Task, Body, task, nobody, waitOf, wish, isDormant, isReady, isWaiting, isFreed}
+use Rattle.rules.specs.Events.{Event, tick, call, nat}
+use Rattle.rules.specs.Acts.{Act, start, retire, rotate, regrade, wait, release, suspend, resume, wakeups, count, pattern, post, receive, mark, elapse, change, started, retired, freed, releasedTask, halted, resumed, older, with-state, with-priority, with-wakeups, after, afters}
+use Rattle.rules.specs.View.{View, act, acts}
+use Rattle.rules.specs.Verdicts.{Verdict, refuse, gives, done, waits, check, choose, onFirst, onCount}
+use Rattle.rules.specs.Tasks.{stateOf, sta-tsk, ext-tsk, ter-tsk, chg-pri, rot-rdq, rel-wai, sus-tsk, rsm-tsk, take-wakeup, slp-tsk, wai-for, wai-tsk, wup-tsk, can-wup, get-tid, tsk-sts}
+use Rattle.rules.specs.Objects.{to-first, obj-sts, met, left, serve-flag, sig-sem, take-sem, set-flg, clr-flg, take-flg, snd-msg, take-msg, take-blk, rel-blk}
+use Rattle.rules.specs.Time.{get-tim, ticked, timeout, endings}
+use Rattle.rules.specs.Table.{Refusal, Row, caller, table, judge}
+use Rattle.rules.specs.Answers.{isReleased}
+use Rattle.rules.specs.Kernel.{next}
+use Rattle.rules.specs.Broken.{isStarted, isFresh}
+use Rattle.rules.proofs.Judge.{by-call, Bads, AllRows}
+
+-- ---- what an act makes of each task, task by task
+
+-- what a reflexive relation says of the task that is changed, it says of every task
+module _ (R : Task → Task → Type 0) (same : (t : Task) → R t t) where
+  set-each : (f : Task → Task) (l : List Task) (j i : ℕ) (d : Task) → ((t : Task) → t ≡ getD l j d → R t (f t)) → R (getD l i d) (getD (set l j (f (getD l j d))) i d)
+  set-each f [] j i d h = same d
+  set-each f (x ∷ l) zero zero d h = h x refl
+  set-each f (x ∷ l) zero (suc i) d h = same _
+  set-each f (x ∷ l) (suc j) zero d h = same x
+  set-each f (x ∷ l) (suc j) (suc i) d h = set-each f l j i d h
+
+  put-each : (f : Task → Task) (l : List Task) (j i : ℕ) (d : Task) → ((t : Task) → t ≡ of l j d → R t (f t)) → R (of l i d) (of (put l j (f (of l j d))) i d)
+  put-each f l zero i d h = same _
+  put-each f l (suc j) zero d h = same d
+  put-each f l (suc j) (suc i) d h = set-each f l j i d h
+
+  pub change-each : (f : Task → Task) (j : ℕ) (b : Body) → ((t : Task) → t ≡ task b j → R t (f t)) → (i : ℕ) → R (task b i) (task (change f j b) i)
+  change-each f j b h i = put-each f (b .tasks) j i nobody h
+
+pub map-each : (R : Task → Task → Type 0) → ((t : Task) → R t t) → (f : Task → Task) → ((t : Task) → R t (f t)) → (l : List Task) (i : ℕ) (d : Task) → R (of l i d) (of (map f l) i d)
+map-each R same f h l zero d = same d
+map-each R same f h l (suc i) d = go l i
+  where
+    go : (l : List Task) (i : ℕ) → R (getD l i d) (getD (map f l) i d)
+    go [] i = same d
+    go (x ∷ l) zero = h x
+    go (x ∷ l) (suc i) = go l i
+
+-- the body after a verdict's acts
+pub body-acts : (l : List Act) (v : View) → acts l v .body ≡ afters l (v .body)
+unfolding acts act afters
+body-acts [] v = refl
+body-acts (a ∷ l) v = body-acts l (act a v)
+
+-- ---- the cell is as it was, or the task was released or started
+
+abbrev pub Kept : Task → Task → Type 0
+Kept t u = (u .cell ≡ t .cell) ⊎ (isFresh (t .state) (u .state) ≡ true)
+
+kept-same : (t : Task) → Kept t t
+kept-same t = inl refl
+
+-- For lists of acts: nothing has changed but what does not matter here, or the task was released.
+pub data Mild (t u : Task) : Type 0 where
+  untouched : u .cell ≡ t .cell → isWaiting (u .state) ≡ isWaiting (t .state) → isFreed (u .state) ≡ isFreed (t .state) → Mild t u
+  let-go : isWaiting (t .state) ≡ true → isFreed (u .state) ≡ true → Mild t u
+
+pub mild-same : (t : Task) → Mild t t
+mild-same t = untouched refl refl refl
+
+waiting-not-freed : (s : State) → isWaiting s ≡ true → isFreed s ≡ true → ⊥
+waiting-not-freed dormant e f = false≢true e
+waiting-not-freed ready e f = false≢true e
+waiting-not-freed suspended e f = false≢true e
+waiting-not-freed (waiting w) e f = false≢true f
+waiting-not-freed (waiting-suspended w) e f = false≢true f
+
+pub mild-then : {t u w : Task} → Mild t u → Mild u w → Mild t w
+mild-then (untouched a b c) (untouched a′ b′ c′) = untouched (a′ ∙ a) (b′ ∙ b) (c′ ∙ c)
+mild-then (untouched a b c) (let-go x y) = let-go (sym b ∙ x) y
+mild-then (let-go x y) (untouched a b c) = let-go x (c ∙ y)
+mild-then {u} (let-go x y) (let-go x′ y′) = absurd (waiting-not-freed (u .state) x′ y)
+
+mild-kept : {t u : Task} → Mild t u → Kept t u
+mild-kept (untouched a b c) = inl a
+mild-kept {t} {u} (let-go x y) = inr (rw (x, y))
+
+released-mild : (c : Code) (w : ℕ) (t : Task) → Mild t (releasedTask c w t)
+released-mild c w t = go (t .state) refl
+  where
+    as-was : isWaiting (t .state) ≡ false → Mild t (releasedTask c w t)
+    as-was e = rw e (mild-same t)
+
+    gone : isWaiting (t .state) ≡ true → isFreed (freed (t .state)) ≡ true → Mild t (releasedTask c w t)
+    gone e f = rw e (let-go e f)
+
+    go : (s : State) → t .state ≡ s → Mild t (releasedTask c w t)
+    go dormant e = as-was (rw e)
+    go ready e = as-was (rw e)
+    go suspended e = as-was (rw e)
+    go (waiting x) e = gone (rw e) (rw e)
+    go (waiting-suspended x) e = gone (rw e) (rw e)
+
+older-mild : (t : Task) → Mild t (with-state (older (t .state)) t)
+older-mild t = untouched refl (go (t .state) .0) (go (t .state) .1)
+  where
+    go : (s : State) → (isWaiting (older s) ≡ isWaiting s) × (isFreed (older s) ≡ isFreed s)
+    go dormant = (refl, refl)
+    go ready = (refl, refl)
+    go suspended = (refl, refl)
+    go (waiting asleep) = (refl, refl)
+    go (waiting (timed n)) = (refl, refl)
+    go (waiting (on k o p m)) = (refl, refl)
+    go (waiting-suspended asleep) = (refl, refl)
+    go (waiting-suspended (timed n)) = (refl, refl)
+    go (waiting-suspended (on k o p m)) = (refl, refl)
+
+-- the acts of which a list may be made
+pub data Gentle : Act → Type 0 where
+  releases : (i : ℕ) (c : Code) (w : ℕ) → Gentle (release i c w)
+  sets : (f n : ℕ) → Gentle (pattern f n)
+  elapses : Gentle elapse
+
+gentle-mild : {a : Act} → Gentle a → (b : Body) (i : ℕ) → Mild (task b i) (task (after a b) i)
+unfolding after
+gentle-mild (releases j c w) b i = change-each Mild mild-same (releasedTask c w) j b (λ t e. released-mild c w t) i
+gentle-mild (sets f n) b i = mild-same _
+gentle-mild elapses b i = map-each Mild mild-same _ older-mild (b .tasks) i nobody
+
+abbrev pub AllGentle : List Act → Type 0
+AllGentle [] = Unit {0}
+AllGentle (a ∷ l) = Gentle a × AllGentle l
+
+list-mild : (l : List Act) → AllGentle l → (b : Body) (i : ℕ) → Mild (task b i) (task (afters l b) i)
+unfolding afters
+list-mild [] g b i = mild-same _
+list-mild (a ∷ l) g b i = mild-then (gentle-mild (g .0) b i) (list-mild l (g .1) (after a b) i)
+
+-- set_flg and the tick are such lists
+pub flag-gentle : (b : Body) (f have : ℕ) (l : List ℕ) → AllGentle (serve-flag b f have l)
+flag-gentle b f have [] = (sets f have, tt)
+flag-gentle b f have (x ∷ l) = go (met have (wish (waitOf (task b x .state)) .0) (wish (waitOf (task b x .state)) .1)) (flag-gentle b f (left have (wish (waitOf (task b x .state)) .1)) l) (flag-gentle b f have l)
+  where
+    go : (t : Bool) → AllGentle (serve-flag b f (left have (wish (waitOf (task b x .state)) .1)) l) → AllGentle (serve-flag b f have l)
+        → AllGentle (cond t (release x OK have ∷ serve-flag b f (left have (wish (waitOf (task b x .state)) .1)) l) (serve-flag b f have l))
+    go true g h = (releases x OK have, g)
+    go false g h = h
+
+pub tick-gentle : (l : List ℕ) → AllGentle (map timeout l ++ elapse ∷ [])
+tick-gentle [] = (elapses, tt)
+tick-gentle (i ∷ l) = (releases i _ 0, tick-gentle l)
+
+-- ---- one act
+
+start-fresh : (s : State) → isDormant s ≡ true → isFresh s ready ≡ true
+start-fresh dormant e = refl
+start-fresh ready e = absurd (false≢true e)
+start-fresh suspended e = absurd (false≢true e)
+start-fresh (waiting w) e = absurd (false≢true e)
+start-fresh (waiting-suspended w) e = absurd (false≢true e)
+
+-- only a dormant task is started
+abbrev pub Careful : Body → Act → Type 0
+Careful b (start i) = isDormant (task b i .state) ≡ true
+Careful b (retire i) = Unit {0}
+Careful b (rotate i) = Unit {0}
+Careful b (regrade i p) = Unit {0}
+Careful b (wait i w) = Unit {0}
+Careful b (release i c w) = Unit {0}
+Careful b (suspend i) = Unit {0}
+Careful b (resume i) = Unit {0}
+Careful b (wakeups i n) = Unit {0}
+Careful b (count s n) = Unit {0}
+Careful b (pattern f n) = Unit {0}
+Careful b (post j m) = Unit {0}
+Careful b (receive j) = Unit {0}
+Careful b (mark p k t) = Unit {0}
+Careful b elapse = Unit {0}
+
+-- an act that changes a task but not its cell
+module _ (b : Body) (f : Task → Task) (j : ℕ) where
+  changed : ((t : Task) → f t .cell ≡ t .cell) → (i : ℕ) → Kept (task b i) (task (change f j b) i)
+  changed h i = change-each Kept kept-same f j b (λ t e. inl (h t)) i
+
+act-kept : (a : Act) (b : Body) → Careful b a → (i : ℕ) → Kept (task b i) (task (after a b) i)
+unfolding after
+act-kept (start j) b d i = change-each Kept kept-same started j b (λ t e. inr (start-fresh (t .state) (rw e d))) i
+act-kept (retire j) b d i = changed b retired j (λ t. refl) i
+act-kept (rotate j) b d i = inl refl
+act-kept (regrade j p) b d i = changed b (with-priority p) j (λ t. refl) i
+act-kept (wait j w) b d i = changed b (with-state (waiting w)) j (λ t. refl) i
+act-kept (release j c w) b d i = change-each Kept kept-same (releasedTask c w) j b (λ t e. mild-kept (released-mild c w t)) i
+act-kept (suspend j) b d i = changed b (λ t. with-state (halted (t .state)) t) j (λ t. refl) i
+act-kept (resume j) b d i = changed b (λ t. with-state (resumed (t .state)) t) j (λ t. refl) i
+act-kept (wakeups j n) b d i = changed b (with-wakeups n) j (λ t. refl) i
+act-kept (count s n) b d i = inl refl
+act-kept (pattern f n) b d i = inl refl
+act-kept (post j m) b d i = inl refl
+act-kept (receive j) b d i = inl refl
+act-kept (mark p k t) b d i = inl refl
+act-kept elapse b d i = map-each Kept kept-same _ (λ t. mild-kept (older-mild t)) (b .tasks) i nobody
+
+-- ---- every verdict
+
+-- no act, one careful act, or a list of gentle ones
+pub data Careful-list (b : Body) : List Act → Type 0 where
+  nothing : Careful-list b []
+  one : (a : Act) → Careful b a → Careful-list b (a ∷ [])
+  several : (l : List Act) → AllGentle l → Careful-list b l
+
+pub list-kept : (b : Body) (l : List Act) → Careful-list b l → (i : ℕ) → Kept (task b i) (task (afters l b) i)
+unfolding afters
+list-kept b l nothing i = inl refl
+list-kept b l (one a g) i = act-kept a b g i
+list-kept b l (several m g) i = mild-kept (list-mild m g b i)

@@ -1,0 +1,173 @@
+-- Demand 3: for every accepted setup and every list of events the claim of specs/Demand3.antt holds. Assumes nothing.
+use mathlib.Core.Bool.{Bool, true, false, not, cond, false≢true}
+use mathlib.Core.List.{List, [], _∷_, map}
+use mathlib.Core.Logic.{_≢_, _↔_}
+use mathlib.Core.Path.{_≡_, refl, sym, ap, _∙_, subst}
+use Prim.Native.Nat.{ℕ, zero, suc, _+_}
+use native.Mathlib.Nat.{zero-add, add-comm}
+use native.Mathlib.Omega.{arith}
+use lib.IntN.{ℤ}
+use lib.ListN.{length, getD, replicate}
+use Rattle.rules.specs.Ids.{of, put, In, once}
+use Rattle.rules.specs.Codes.{Code, H-STATE}
+use Rattle.rules.specs.State.{pool, Body}
+use Rattle.rules.specs.Setup.{got, setup, Entry, Setup}
+use Rattle.rules.specs.Places.{tabulate}
+use Rattle.rules.specs.Events.{Event, AllWords}
+use Rattle.rules.specs.Acts.{Act, start, retire, rotate, regrade, wait, release, suspend, resume, wakeups, count, pattern, post, receive, mark, elapse, after, afters}
+use Rattle.rules.specs.View.{View, acts}
+use Rattle.rules.specs.Table.{judge}
+use Rattle.rules.specs.Answers.{Answer, answer, readCell}
+use Rattle.rules.specs.Sound.{Sound}
+use Rattle.rules.specs.Kernel.{idle, starts, fresh, next, served, event, cell}
+use Rattle.rules.specs.Plain.{Plain, queueOf, viewOf, plainFresh, plainNext, plainAnswer}
+use Rattle.rules.specs.Blocks.{isFree, Happened, granted, gaveBack, grants, returns, Accounted, AllAccounted}
+use Rattle.rules.specs.Demand3.{Agree, Alike, happened, Demand3}
+use Rattle.rules.proofs.Ids.{length-put, of-put-test}
+use Rattle.rules.proofs.Lines.{objects-after}
+use Rattle.rules.proofs.Agree.{Numbers, fresh-shows, numbers-fresh, next-shows, numbers-next, same-answer}
+use Rattle.rules.proofs.Blocks.{Balance, event-balance}
+use Rattle.rules.proofs.Cells.{body-acts}
+use Rattle.rules.proofs.Clean.{judge-not-state}
+use Rattle.rules.proofs.Events.{event-served, event-next, cell-reads, sound-event, fresh-sound}
+
+-- ---- the pools keep their sizes
+
+pools-act : (a : Act) (b : Body) (p : ℕ) → length (of (after a b .store .pools) p []) ≡ length (of (b .store .pools) p [])
+unfolding after
+pools-act (start i) b p = refl
+pools-act (retire i) b p = refl
+pools-act (rotate i) b p = refl
+pools-act (regrade i n) b p = refl
+pools-act (wait i w) b p = refl
+pools-act (release i c w) b p = refl
+pools-act (suspend i) b p = refl
+pools-act (resume i) b p = refl
+pools-act (wakeups i n) b p = refl
+pools-act (count s n) b p = refl
+pools-act (pattern f n) b p = refl
+pools-act (post j m) b p = refl
+pools-act (receive j) b p = refl
+pools-act (mark q k t) b p = of-put-test length (b .store .pools) q p _ [] (length-put (of (b .store .pools) q []) k t)
+pools-act elapse b p = refl
+
+-- ---- the ledger of one block: its grants are its returns, and one more if it is out
+
+Ledger : List Happened → Body → ℕ → ℕ → Type 0
+Ledger past b p k = grants past p k ≡ returns past p k + once (not (isFree b p k))
+
+accounted : (past : List Happened) (b : Body) (p k : ℕ) → Ledger past b p k → Accounted past b p k
+unfolding Ledger
+accounted past b p k h = go (isFree b p k) refl h
+  where
+    go : (t : Bool) → isFree b p k ≡ t → grants past p k ≡ returns past p k + once (not t) → Accounted past b p k
+    go true e h = record { out = (λ c. absurd (false≢true (sym c ∙ e)), λ c. absurd (omega arith)); free = (λ c. omega arith, λ c. e) }
+    go false e h = record { out = (λ c. omega arith, λ c. e); free = (λ c. absurd (false≢true (sym e ∙ c)), λ c. absurd (omega arith)) }
+
+pools-acts : (l : List Act) (b : Body) (p : ℕ) → (length (of (afters l b .store .pools) p []) ≡ length (of (b .store .pools) p [])) × (length (afters l b .store .pools) ≡ length (b .store .pools))
+unfolding afters
+pools-acts [] b p = (refl, refl)
+pools-acts (a ∷ l) b p = let r = pools-acts l (after a b) p in (r .0 ∙ pools-act a b p, r .1 ∙ objects-after a b pool)
+
+-- the ledgers of all blocks
+abbrev Ledgers : List Happened → Body → Type 0
+Ledgers past b = (p : ℕ) → In p (length (b .store .pools)) → (k : ℕ) → In k (length (of (b .store .pools) p [])) → Ledger past b p k
+
+module _ (s : Plain) (e : Event) (n : Numbers s) (g : Sound (viewOf s)) where
+  -- the plain kernel's state after the event is the one that the acts leave
+  body-next : plainNext s e .body ≡ afters (judge (viewOf s) e .acts) (s .body)
+  unfolding viewOf next
+  body-next = ap (λ (v : View). v .body) (next-shows s e n) ∙ body-acts (judge (viewOf s) e .acts) (viewOf s)
+
+  pub plain-balance : (p k : ℕ) → In p (length (s .body .store .pools)) → In k (length (of (s .body .store .pools) p []))
+      → granted (happened s e) p k + once (not (isFree (s .body) p k)) ≡ gaveBack (happened s e) p k + once (not (isFree (plainNext s e .body) p k))
+  unfolding granted gaveBack viewOf
+  plain-balance p k rp rk = add-comm _ _ ∙ rw (same-answer s e n, ap (λ (v : View). v .body) (next-shows s e n)) (event-balance (viewOf s) g e p k rp rk) ∙ add-comm _ _
+
+  ledgers-next : (past : List Happened) → Ledgers past (s .body) → Ledgers (happened s e ∷ past) (plainNext s e .body)
+  unfolding Ledger grants returns
+  ledgers-next past h p rp k rk = omega (arith, plain-balance p k was-pool was-block, h p was-pool k was-block)
+    where
+      sizes : (length (of (plainNext s e .body .store .pools) p []) ≡ length (of (s .body .store .pools) p [])) × (length (plainNext s e .body .store .pools) ≡ length (s .body .store .pools))
+      sizes = rw body-next (pools-acts (judge (viewOf s) e .acts) (s .body) p)
+
+      was-pool : In p (length (s .body .store .pools))
+      was-pool = rw (sizes .1) at rp
+
+      was-block : In k (length (of (s .body .store .pools) p []))
+      was-block = rw (sizes .0) at rk
+
+-- ---- a run
+
+agrees : (s : Plain) → Agree (viewOf s) s
+unfolding viewOf
+agrees s = record { body = refl; lines = refl }
+
+module _ (past : List Happened) (v : View) (s : Plain) (p : v ≡ viewOf s) (g : Sound v) where
+  alike : Ledgers past (s .body) → Alike past v s
+  unfolding viewOf
+  alike h = record {
+    agree = rw p (agrees s);
+    cells = λ a. cell-reads v a g ∙ ap (λ (w : View). readCell (w .body) a) p;
+    blocks = λ q rq k rk. accounted past (s .body) q k (h q rq k rk);
+  }
+
+module _ (v : View) (s : Plain) (e : Event) (p : v ≡ viewOf s) (n : Numbers s) (g : Sound v) where
+  both-answer : event v e .answer ≡ plainAnswer s e
+  both-answer = ap (λ o. o .answer) (event-served v e g) ∙ ap (λ (w : View). served w e .answer) p ∙ sym (same-answer s e n)
+
+  both-next : event v e .next ≡ viewOf (plainNext s e)
+  both-next = event-next v e g ∙ ap (λ (w : View). next w e) p ∙ sym (next-shows s e n)
+
+  not-state : event v e .answer .code ≢ H-STATE
+  unfolding served answer
+  not-state h = judge-not-state v e (ap (λ o. o .answer .code) (sym (event-served v e g)) ∙ h)
+
+run : (past : List Happened) (v : View) (s : Plain) (l : List Event) → v ≡ viewOf s → Numbers s → Sound v → Ledgers past (s .body) → AllWords l → Demand3 past v s l
+run past v s [] p n g h w = alike past v s p g h
+run past v s (e ∷ l) p n g h w = (
+  alike past v s p g h,
+  both-answer v s e p n g,
+  not-state v s e p n g,
+  run (happened s e ∷ past) (event v e .next) (plainNext s e) l (both-next v s e p n g) (numbers-next s e n) (sound-event v e g (w .0))
+      (ledgers-next s e n (subst Sound p g) past h) (w .1),
+)
+
+-- ---- from the fresh start: no block is out, and none was granted or returned
+
+replicated : (n i : ℕ) → _≡_ {A = Bool} (getD (replicate n true) i true) true
+replicated zero i = refl
+replicated (suc n) zero = refl
+replicated (suc n) (suc i) = replicated n i
+
+all-free : (l : List ℕ) (p k : ℕ) → of (of (map (λ n. replicate n true) l) p []) k true ≡ true
+all-free l p zero = refl
+all-free l zero (suc k) = refl
+all-free [] (suc p) (suc k) = refl
+all-free (n ∷ l) (suc zero) (suc k) = replicated n k
+all-free (n ∷ l) (suc (suc p)) (suc k) = all-free l (suc p) (suc k)
+
+starts-pools : (i : ℕ) (l : List Entry) (b : Body) → afters (starts i l) b .store .pools ≡ b .store .pools
+unfolding starts afters after
+starts-pools i [] b = refl
+starts-pools i (e ∷ l) b = go (e .started) (starts-pools (suc i) l (after (start i) b)) (starts-pools (suc i) l b)
+  where
+    go : (t : Bool) → afters (starts (suc i) l) (after (start i) b) .store .pools ≡ b .store .pools → afters (starts (suc i) l) b .store .pools ≡ b .store .pools
+        → afters (cond t (start i ∷ starts (suc i) l) (starts (suc i) l)) b .store .pools ≡ b .store .pools
+    go true p q = p
+    go false p q = q
+
+fresh-pools : (u : Setup) → plainFresh u .body .store .pools ≡ idle u .store .pools
+unfolding fresh viewOf
+fresh-pools u =
+    ap (λ (v : View). v .body .store .pools) (fresh-shows u)
+    ∙ ap (λ (b : Body). b .store .pools) (body-acts (starts 1 (u .tasks)) (record { body = idle u; lines = tabulate (idle u .store) (λ q. []) }))
+    ∙ starts-pools 1 (u .tasks) (idle u)
+
+fresh-ledgers : (u : Setup) → Ledgers [] (plainFresh u .body)
+unfolding Ledger grants returns idle
+fresh-ledgers u p rp k rk = rw (fresh-pools u, all-free (u .pools) p k)
+
+-- For every byte string that the setup's definition accepts and every list of events with 32-bit words.
+pub demand3 : (s : List ℕ) (u : Setup) (i : ℕ) → setup s ≡ got u i → (l : List Event) → AllWords l → Demand3 [] (fresh u) (plainFresh u) l
+demand3 s u i e l w = run [] (fresh u) (plainFresh u) l (sym (fresh-shows u)) (numbers-fresh u) (fresh-sound s u i e) (fresh-ledgers u) w

@@ -1,0 +1,231 @@
+-- Each act moves whom it says: nobody else comes to a queue, or leaves one. Shown for a change of one task, then act by act.
+use mathlib.Core.Bool.{Bool, true, false, not, _&&_, and-true}
+use mathlib.Core.List.{List}
+use mathlib.Core.Option.{Option, none, some}
+use mathlib.Core.Path.{_≡_, refl, sym, ap}
+use Prim.Native.Nat.{ℕ}
+use lib.Dec.{eqb}
+use lib.ListN.{length, length-map}
+use Rattle.rules.specs.Ids.{of, In}
+use Rattle.rules.specs.Codes.{Code}
+use Rattle.rules.specs.State.{Kind, Wait, asleep, timed, on, State, dormant, ready, suspended, waiting, waiting-suspended, Task, Body, task, nobody, isReady, isWaiting}
+use Rattle.rules.specs.Places.{Place, readyAt, waiters, mail, aTask, aMessage, item, same, many, belongs, awaits, lies}
+use Rattle.rules.specs.Acts.{Act, start, retire, rotate, regrade, wait, release, suspend, resume, wakeups, count, pattern, post, receive, mark, elapse, after, Move, stay, leave, last, move, change, started, retired, releasedTask, halted, resumed, older, with-state, with-priority, with-wakeups, releasedMove, haltedMove, resumedMove, regradedMove}
+use Rattle.rules.proofs.Ids.{length-put, of-put-other, of-put-test, put-gone, of-map, tested}
+
+-- what a move says of who belongs where, before and after
+abbrev pub Fits : Body → Body → Move → Type 0
+Fits b c stay = (q : Place) (i : ℕ) → belongs c q i ≡ belongs b q i
+Fits b c (leave x) = (q : Place) (i : ℕ) → belongs c q i ≡ (belongs b q i && not (same x (item q i)))
+Fits b c (last x) = (q : Place) (i : ℕ) → same x (item q i) ≡ false → belongs c q i ≡ belongs b q i
+
+-- ---- one task is changed
+
+-- the task belongs to that place
+abbrev pub stands : Task → Place → Bool
+stands t (readyAt p) = isReady (t .state) && eqb (t .priority) p
+stands t (waiters k o) = awaits (t .state) k o
+stands t (mail m) = false
+
+stands-by : (t u : Task) → ((k : Kind) (o : ℕ) → awaits (t .state) k o ≡ awaits (u .state) k o) → isReady (t .state) ≡ isReady (u .state) → t .priority ≡ u .priority
+    → (q : Place) → stands t q ≡ stands u q
+stands-by t u w r p (readyAt n) = λ z. r z && eqb (p z) n
+stands-by t u w r p (waiters k o) = w k o
+stands-by t u w r p (mail m) = refl
+
+-- a state that is in no queue
+nowhere : (t : Task) → isReady (t .state) ≡ false → ((k : Kind) (o : ℕ) → awaits (t .state) k o ≡ false) → (q : Place) → stands t q ≡ false
+nowhere t r w (readyAt p) = rw r
+nowhere t r w (waiters k o) = w k o
+nowhere t r w (mail m) = refl
+
+module _ (f : Task → Task) (i : ℕ) (b : Body) where
+  change-stay : ((q : Place) → stands (f (task b i)) q ≡ stands (task b i) q) → Fits b (change f i b) stay
+  unfolding belongs
+  change-stay h (readyAt p) j = of-put-test (λ t. stands t (readyAt p)) (b .tasks) i j (f (task b i)) nobody (h (readyAt p))
+  change-stay h (waiters k o) j = of-put-test (λ t. stands t (waiters k o)) (b .tasks) i j (f (task b i)) nobody (h (waiters k o))
+  change-stay h (mail m) j = refl
+
+  change-last : Fits b (change f i b) (last (aTask i))
+  unfolding belongs
+  change-last (readyAt p) j e = ap (λ (t : Task). stands t (readyAt p)) (of-put-other (b .tasks) i j (f (task b i)) nobody e)
+  change-last (waiters k o) j e = ap (λ (t : Task). stands t (waiters k o)) (of-put-other (b .tasks) i j (f (task b i)) nobody e)
+  change-last (mail m) j e = refl
+
+  change-leave : ((q : Place) → stands (f (task b i)) q ≡ false) → Fits b (change f i b) (leave (aTask i))
+  unfolding belongs
+  change-leave h (readyAt p) j = put-gone (λ t. stands t (readyAt p)) (b .tasks) i j (f (task b i)) nobody (h (readyAt p)) refl
+  change-leave h (waiters k o) j = put-gone (λ t. stands t (waiters k o)) (b .tasks) i j (f (task b i)) nobody (h (waiters k o)) refl
+  change-leave h (mail m) j = sym (and-true _)
+
+-- ---- the acts whose move follows from the state
+
+-- a change of priority alone is seen by READY and RUN tasks only
+regraded-place : (p : ℕ) (t : Task) → isReady (t .state) ≡ false → (q : Place) → stands (with-priority p t) q ≡ stands t q
+regraded-place p t e (readyAt n) = rw e
+regraded-place p t e (waiters k o) = refl
+regraded-place p t e (mail m) = refl
+
+regrade-fits : (i p : ℕ) (b : Body) (s : State) → task b i .state ≡ s → Fits b (change (with-priority p) i b) (regradedMove s (aTask i))
+regrade-fits i p b dormant e = change-stay (with-priority p) i b (regraded-place p (task b i) (rw e))
+regrade-fits i p b ready e = change-last (with-priority p) i b
+regrade-fits i p b suspended e = change-stay (with-priority p) i b (regraded-place p (task b i) (rw e))
+regrade-fits i p b (waiting w) e = change-stay (with-priority p) i b (regraded-place p (task b i) (rw e))
+regrade-fits i p b (waiting-suspended w) e = change-stay (with-priority p) i b (regraded-place p (task b i) (rw e))
+
+-- a task that does not wait is not released; one in WAIT-SUSPEND comes into no queue
+unreleased : (c : Code) (w : ℕ) (t : Task) → isWaiting (t .state) ≡ false → (q : Place) → stands (releasedTask c w t) q ≡ stands t q
+unreleased c w t e q = ap (λ (u : Task). stands u q) (rw e)
+
+released-nowhere : (c : Code) (w : ℕ) (t : Task) (x : Wait) → t .state ≡ waiting-suspended x → (q : Place) → stands (releasedTask c w t) q ≡ false
+released-nowhere c w t x e = nowhere _ (rw e) (λ k o. rw e)
+
+release-fits : (i : ℕ) (c : Code) (w : ℕ) (b : Body) (s : State) → task b i .state ≡ s → Fits b (change (releasedTask c w) i b) (releasedMove s (aTask i))
+release-fits i c w b dormant e = change-stay (releasedTask c w) i b (unreleased c w (task b i) (rw e))
+release-fits i c w b ready e = change-stay (releasedTask c w) i b (unreleased c w (task b i) (rw e))
+release-fits i c w b suspended e = change-stay (releasedTask c w) i b (unreleased c w (task b i) (rw e))
+release-fits i c w b (waiting x) e = change-last (releasedTask c w) i b
+release-fits i c w b (waiting-suspended x) e = change-leave (releasedTask c w) i b (released-nowhere c w (task b i) x e)
+
+-- a state changed by f to one that stands where it stood, or nowhere
+module _ (f : State → State) (i : ℕ) (b : Body) where
+  abbrev by-state : Task → Task
+  by-state t = with-state (f (t .state)) t
+
+  state-stay : ((k : Kind) (o : ℕ) → awaits (f (task b i .state)) k o ≡ awaits (task b i .state) k o) → isReady (f (task b i .state)) ≡ isReady (task b i .state)
+      → Fits b (change by-state i b) stay
+  state-stay w r = change-stay by-state i b (stands-by _ _ w r refl)
+
+suspend-fits : (i : ℕ) (b : Body) (s : State) → task b i .state ≡ s → Fits b (change (λ t. with-state (halted (t .state)) t) i b) (haltedMove s (aTask i))
+suspend-fits i b dormant e = state-stay halted i b (λ k o. rw e) (rw e)
+suspend-fits i b ready e = change-leave (λ t. with-state (halted (t .state)) t) i b (nowhere _ (rw e) (λ k o. rw e))
+suspend-fits i b suspended e = state-stay halted i b (λ k o. rw e) (rw e)
+suspend-fits i b (waiting w) e = state-stay halted i b (λ k o. rw e) (rw e)
+suspend-fits i b (waiting-suspended w) e = state-stay halted i b (λ k o. rw e) (rw e)
+
+resume-fits : (i : ℕ) (b : Body) (s : State) → task b i .state ≡ s → Fits b (change (λ t. with-state (resumed (t .state)) t) i b) (resumedMove s (aTask i))
+resume-fits i b dormant e = state-stay resumed i b (λ k o. rw e) (rw e)
+resume-fits i b ready e = state-stay resumed i b (λ k o. rw e) (rw e)
+resume-fits i b suspended e = change-last (λ t. with-state (resumed (t .state)) t) i b
+resume-fits i b (waiting w) e = state-stay resumed i b (λ k o. rw e) (rw e)
+resume-fits i b (waiting-suspended w) e = state-stay resumed i b (λ k o. rw e) (rw e)
+
+-- ---- the other acts
+
+-- no task and no message is changed
+untouched : (b c : Body) → c .tasks ≡ b .tasks → c .store .messages ≡ b .store .messages → Fits b c stay
+unfolding belongs
+untouched b c t l (readyAt p) i = ap (λ (ts : List Task). stands (of ts i nobody) (readyAt p)) t
+untouched b c t l (waiters k o) i = ap (λ (ts : List Task). stands (of ts i nobody) (waiters k o)) t
+untouched b c t l (mail m) i = ap (λ (ls : List (Option ℕ)). lies (of ls i none) m) l
+
+post-fits : (j m : ℕ) (b : Body) → Fits b (after (post j m) b) (last (aMessage j))
+unfolding belongs after
+post-fits j m b (readyAt p) i e = refl
+post-fits j m b (waiters k o) i e = refl
+post-fits j m b (mail n) i e = ap (λ (x : Option ℕ). lies x n) (of-put-other (b .store .messages) j i (some m) none e)
+
+receive-fits : (j : ℕ) (b : Body) → Fits b (after (receive j) b) (leave (aMessage j))
+unfolding belongs after
+receive-fits j b (readyAt p) i = sym (and-true _)
+receive-fits j b (waiters k o) i = sym (and-true _)
+receive-fits j b (mail n) i = put-gone (λ x. lies x n) (b .store .messages) j i none none refl refl
+
+older-ready : (s : State) → isReady (older s) ≡ isReady s
+older-ready dormant = refl
+older-ready ready = refl
+older-ready suspended = refl
+older-ready (waiting asleep) = refl
+older-ready (waiting (timed t)) = refl
+older-ready (waiting (on k o p m)) = refl
+older-ready (waiting-suspended asleep) = refl
+older-ready (waiting-suspended (timed t)) = refl
+older-ready (waiting-suspended (on k o p m)) = refl
+
+older-awaits : (s : State) (k : Kind) (o : ℕ) → awaits (older s) k o ≡ awaits s k o
+older-awaits dormant k o = refl
+older-awaits ready k o = refl
+older-awaits suspended k o = refl
+older-awaits (waiting asleep) k o = refl
+older-awaits (waiting (timed t)) k o = refl
+older-awaits (waiting (on k′ o′ p m)) k o = refl
+older-awaits (waiting-suspended asleep) k o = refl
+older-awaits (waiting-suspended (timed t)) k o = refl
+older-awaits (waiting-suspended (on k′ o′ p m)) k o = refl
+
+elapse-fits : (b : Body) → Fits b (after elapse b) stay
+unfolding belongs after
+elapse-fits b (readyAt p) i = rw (of-map (λ t. with-state (older (t .state)) t) (b .tasks) i nobody refl, older-ready)
+elapse-fits b (waiters k o) i = rw (of-map (λ t. with-state (older (t .state)) t) (b .tasks) i nobody refl) (older-awaits (task b i .state) k o)
+elapse-fits b (mail m) i = refl
+
+pub fits : (a : Act) (b : Body) → Fits b (after a b) (move b a)
+unfolding after move
+fits (start i) b = change-last started i b
+fits (retire i) b = change-leave retired i b (nowhere _ refl (λ k o. refl))
+fits (rotate i) b = λ q j e. refl
+fits (regrade i p) b = regrade-fits i p b (task b i .state) refl
+fits (wait i w) b = change-last (with-state (waiting w)) i b
+fits (release i c w) b = release-fits i c w b (task b i .state) refl
+fits (suspend i) b = suspend-fits i b (task b i .state) refl
+fits (resume i) b = resume-fits i b (task b i .state) refl
+fits (wakeups i n) b = change-stay (with-wakeups n) i b (stands-by _ _ (λ k o. refl) refl refl)
+fits (count s n) b = untouched b _ refl refl
+fits (pattern f n) b = untouched b _ refl refl
+fits (post j m) b = post-fits j m b
+fits (receive j) b = receive-fits j b
+fits (mark p k t) b = untouched b _ refl refl
+fits elapse b = elapse-fits b
+
+-- ---- no task and no message comes into being, and whoever belongs to a queue is there
+
+many-by : (b c : Body) → length (c .tasks) ≡ length (b .tasks) → length (c .store .messages) ≡ length (b .store .messages) → (q : Place) → many c q ≡ many b q
+unfolding many
+many-by b c t l (readyAt p) = t
+many-by b c t l (waiters k o) = t
+many-by b c t l (mail m) = l
+
+pub tasks-after : (a : Act) (b : Body) → length (after a b .tasks) ≡ length (b .tasks)
+unfolding after
+tasks-after (start i) b = length-put (b .tasks) i _
+tasks-after (retire i) b = length-put (b .tasks) i _
+tasks-after (rotate i) b = refl
+tasks-after (regrade i p) b = length-put (b .tasks) i _
+tasks-after (wait i w) b = length-put (b .tasks) i _
+tasks-after (release i c w) b = length-put (b .tasks) i _
+tasks-after (suspend i) b = length-put (b .tasks) i _
+tasks-after (resume i) b = length-put (b .tasks) i _
+tasks-after (wakeups i n) b = length-put (b .tasks) i _
+tasks-after (count s n) b = refl
+tasks-after (pattern f n) b = refl
+tasks-after (post j m) b = refl
+tasks-after (receive j) b = refl
+tasks-after (mark p k t) b = refl
+tasks-after elapse b = length-map (b .tasks) _
+
+pub messages-after : (a : Act) (b : Body) → length (after a b .store .messages) ≡ length (b .store .messages)
+unfolding after
+messages-after (start i) b = refl
+messages-after (retire i) b = refl
+messages-after (rotate i) b = refl
+messages-after (regrade i p) b = refl
+messages-after (wait i w) b = refl
+messages-after (release i c w) b = refl
+messages-after (suspend i) b = refl
+messages-after (resume i) b = refl
+messages-after (wakeups i n) b = refl
+messages-after (count s n) b = refl
+messages-after (pattern f n) b = refl
+messages-after (post j m) b = length-put (b .store .messages) j _
+messages-after (receive j) b = length-put (b .store .messages) j _
+messages-after (mark p k t) b = refl
+messages-after elapse b = refl
+
+pub many-after : (a : Act) (b : Body) (q : Place) → many (after a b) q ≡ many b q
+many-after a b q = many-by b (after a b) (tasks-after a b) (messages-after a b) q
+
+pub in-range : (b : Body) (q : Place) (i : ℕ) → belongs b q i ≡ true → In i (many b q)
+unfolding belongs many
+in-range b (readyAt p) i e = tested (λ t. stands t (readyAt p)) (b .tasks) i nobody refl e
+in-range b (waiters k o) i e = tested (λ t. stands t (waiters k o)) (b .tasks) i nobody refl e
+in-range b (mail m) i e = tested (λ x. lies x m) (b .store .messages) i none refl e

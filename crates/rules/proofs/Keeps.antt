@@ -1,0 +1,498 @@
+-- What an act needs so that a sound body stays sound: a change of one task leaves the store alone, a change of the store is looked at over the kind of object.
+use mathlib.Core.Bool.{Bool, true, false, cond, not, _||_, false≢true}
+use mathlib.Core.List.{List, [], _∷_, map}
+use mathlib.Core.Logic.{_⊎_, inl, inr, _≢_}
+use mathlib.Core.Option.{Option, none, some}
+use mathlib.Core.Path.{_≡_, refl, sym, ap, _∙_}
+use Prim.Native.Nat.{ℕ, zero, suc, pred, _≤_, _<_, _^_}
+use native.Mathlib.Nat.{mod-lt}
+use native.Mathlib.Omega.{arith}
+use lib.Dec.{eqb, lit<}
+use lib.ListN.{length, length-map, set}
+use borrow.Author.Tests.{eqb-true, eqb-false, eq-eqb, not-false}
+use Rattle.rules.specs.Ids.{of, put, In}
+use Rattle.rules.specs.Codes.{Code}
+use Rattle.rules.specs.State.{Kind, semaphore, flag, mailbox, pool, Wait, asleep, timed, on, State, dormant, ready, suspended, waiting, waiting-suspended, Cell, Task, Store, Body, task, nobody, objects, waitOf, isDormant, isWaiting, sleeps}
+use Rattle.rules.specs.Places.{sameKind, waitsOn, awaits, lies}
+use Rattle.rules.specs.Acts.{Act, start, retire, rotate, regrade, wait, release, suspend, resume, wakeups, count, pattern, post, receive, mark, elapse, with-state, with-priority, with-wakeups, with-cell, with-semaphores, with-flags, with-messages, with-pools, with-clock, with-tasks, with-store, change, started, retired, freed, releasedTask, halted, resumed, older, after}
+use Rattle.rules.specs.Objects.{met, free}
+use Rattle.rules.specs.Time.{ending}
+use Rattle.rules.specs.Sound.{Sizes, LiesWell, StoreNumbers, CellNumbers, WaitNumbers, anyLies, would-serve, Unserved, SoundTask, SoundBody}
+use Rattle.rules.proofs.Ids.{length-put, of-put-other, of-put-same, put-all, of-map}
+
+-- ---- what an act needs
+
+-- nobody waits on that object
+abbrev pub NoneAt : Body → Kind → ℕ → Type 0
+NoneAt b k o = (i : ℕ) → awaits (task b i .state) k o ≡ false
+
+-- task i waits on object o of kind k, with this pattern and mode
+abbrev pub Asks : Body → ℕ → Kind → ℕ → ℕ → ℕ → Type 0
+Asks b i k o p m = waitOf (task b i .state) ≡ some (on k o p m)
+
+abbrev pub Pre : Body → Act → Type 0
+Pre b (start i) = Unit {0}
+Pre b (retire i) = Unit {0}
+Pre b (rotate i) = Unit {0}
+Pre b (regrade i p) = In p (b .store .priorities) × (isDormant (task b i .state) ≡ false)
+Pre b (wait i w) = In i (length (b .tasks)) → WaitNumbers (b .store) (some w) × Unserved (b .store) (some w) × (sleeps (some w) ≡ true → task b i .wakeups ≡ 0)
+Pre b (release i c w) = CellNumbers (record { code = c; word = w })
+Pre b (suspend i) = Unit {0}
+Pre b (resume i) = Unit {0}
+Pre b (wakeups i n) = (n ≤ 15) × (isDormant (task b i .state) ≡ true → n ≡ 0) × (sleeps (waitOf (task b i .state)) ≡ true → n ≡ 0)
+Pre b (count s n) = (n ≤ 65535) × ((n ≡ 0) ⊎ NoneAt b semaphore s)
+Pre b (pattern f n) = (n < 2 ^ 32) × ((i p m : ℕ) → Asks b i flag f p m → met n p m ≡ false)
+Pre b (post j m) = In m (b .store .mailboxes) × NoneAt b mailbox m
+Pre b (receive j) = Unit {0}
+Pre b (mark p k t) = (t ≡ false) ⊎ NoneAt b pool p
+Pre b elapse = (i : ℕ) → ending (waitOf (task b i .state)) ≡ false
+
+-- ---- one task is changed
+
+module _ {u : Store} {t : Task} (g : SoundTask u t) where
+  -- another state
+  state-well : (s : State) → WaitNumbers u (waitOf s) → Unserved u (waitOf s) → (sleeps (waitOf s) ≡ true → t .wakeups ≡ 0)
+      → (isDormant s ≡ true → isDormant (t .state) ≡ true) → SoundTask u (with-state s t)
+  state-well s w n z d = record {
+    priority = g .priority;
+    start = g .start;
+    wakeups = g .wakeups;
+    cell = g .cell;
+    wait = w;
+    unserved = n;
+    sleeper = z;
+    dormant = λ e. g .dormant (d e);
+    rest = λ e. g .rest (d e);
+  }
+
+  -- the same wait
+  same-well : (s : State) → waitOf s ≡ waitOf (t .state) → isDormant s ≡ isDormant (t .state) → SoundTask u (with-state s t)
+  same-well s e d = state-well s (rw e (g .wait)) (rw e (g .unserved)) (rw e (g .sleeper)) (rw d (λ x. x))
+
+  -- no wait
+  idle-well : (s : State) → waitOf s ≡ none → isDormant s ≡ false → SoundTask u (with-state s t)
+  idle-well s e d = state-well s (rw e tt) (rw e tt) (rw e (λ x. absurd (false≢true x))) (rw d (λ x. absurd (false≢true x)))
+
+  priority-well : (p : ℕ) → In p (u .priorities) → isDormant (t .state) ≡ false → SoundTask u (with-priority p t)
+  priority-well p r d = record {
+    priority = r;
+    start = g .start;
+    wakeups = g .wakeups;
+    cell = g .cell;
+    wait = g .wait;
+    unserved = g .unserved;
+    sleeper = g .sleeper;
+    dormant = g .dormant;
+    rest = λ e. absurd (false≢true (sym d ∙ e));
+  }
+
+  wakeups-well : (n : ℕ) → n ≤ 15 → (isDormant (t .state) ≡ true → n ≡ 0) → (sleeps (waitOf (t .state)) ≡ true → n ≡ 0) → SoundTask u (with-wakeups n t)
+  wakeups-well n k d z = record {
+    priority = g .priority;
+    start = g .start;
+    wakeups = k;
+    cell = g .cell;
+    wait = g .wait;
+    unserved = g .unserved;
+    sleeper = z;
+    dormant = d;
+    rest = g .rest;
+  }
+
+  cell-well : (c : Cell) → CellNumbers c → SoundTask u (with-cell c t)
+  cell-well c k = record {
+    priority = g .priority;
+    start = g .start;
+    wakeups = g .wakeups;
+    cell = k;
+    wait = g .wait;
+    unserved = g .unserved;
+    sleeper = g .sleeper;
+    dormant = g .dormant;
+    rest = g .rest;
+  }
+
+  started-well : SoundTask u (started t)
+  started-well = record {
+    priority = g .start;
+    start = g .start;
+    wakeups = g .wakeups;
+    cell = inl (refl, lit< tt);
+    wait = tt;
+    unserved = tt;
+    sleeper = λ e. absurd (false≢true e);
+    dormant = λ e. absurd (false≢true e);
+    rest = λ e. absurd (false≢true e);
+  }
+
+  retired-well : SoundTask u (retired t)
+  retired-well = record {
+    priority = g .start;
+    start = g .start;
+    wakeups = omega arith;
+    cell = g .cell;
+    wait = tt;
+    unserved = tt;
+    sleeper = λ e. refl;
+    dormant = λ e. refl;
+    rest = λ e. refl;
+  }
+
+freed-idle : (s : State) → isWaiting s ≡ true → (waitOf (freed s) ≡ none) × (isDormant (freed s) ≡ false)
+freed-idle dormant e = absurd (false≢true e)
+freed-idle ready e = absurd (false≢true e)
+freed-idle suspended e = absurd (false≢true e)
+freed-idle (waiting w) e = (refl, refl)
+freed-idle (waiting-suspended w) e = (refl, refl)
+
+released-well : {u : Store} (c : Code) (w : ℕ) (t : Task) → CellNumbers (record { code = c; word = w }) → SoundTask u t → SoundTask u (releasedTask c w t)
+released-well {u} c w t k g = go (isWaiting (t .state)) refl
+  where
+    go : (x : Bool) → isWaiting (t .state) ≡ x → SoundTask u (cond x (with-cell (record { code = c; word = w }) (with-state (freed (t .state)) t)) t)
+    go true e = cell-well (idle-well g (freed (t .state)) (freed-idle (t .state) e .0) (freed-idle (t .state) e .1)) _ k
+    go false e = g
+
+halted-same : (s : State) → (waitOf (halted s) ≡ waitOf s) × (isDormant (halted s) ≡ isDormant s)
+halted-same dormant = (refl, refl)
+halted-same ready = (refl, refl)
+halted-same suspended = (refl, refl)
+halted-same (waiting w) = (refl, refl)
+halted-same (waiting-suspended w) = (refl, refl)
+
+resumed-same : (s : State) → (waitOf (resumed s) ≡ waitOf s) × (isDormant (resumed s) ≡ isDormant s)
+resumed-same dormant = (refl, refl)
+resumed-same ready = (refl, refl)
+resumed-same suspended = (refl, refl)
+resumed-same (waiting w) = (refl, refl)
+resumed-same (waiting-suspended w) = (refl, refl)
+
+-- the setup's numbers stay
+sizes-change : (f : Task → Task) (i : ℕ) (b : Body) → Sizes b → Sizes (change f i b)
+sizes-change f i b z = record {
+  priorities = z .priorities;
+  tasks = rw (length-put (b .tasks) i (f (task b i))) (z .tasks);
+  semaphores = z .semaphores;
+  flags = z .flags;
+  mailboxes = z .mailboxes;
+  messages = z .messages;
+  pools = z .pools;
+}
+
+sound-change : (f : Task → Task) (i : ℕ) (b : Body) → SoundBody b → (In i (length (b .tasks)) → SoundTask (b .store) (task b i) → SoundTask (b .store) (f (task b i))) → SoundBody (change f i b)
+sound-change f i b h g = record {
+  sizes = sizes-change f i b (h .sizes);
+  store = h .store;
+  tasks = put-all (SoundTask (b .store)) (b .tasks) i (f (task b i)) nobody (h .tasks) (λ r. g r (h .tasks i r));
+}
+
+-- ---- the store is changed
+
+pub sameKind-refl : (k : Kind) → sameKind k k ≡ true
+sameKind-refl semaphore = refl
+sameKind-refl flag = refl
+sameKind-refl mailbox = refl
+sameKind-refl pool = refl
+
+pub asks-waits : (x : Option Wait) (k : Kind) (o p m : ℕ) → x ≡ some (on k o p m) → waitsOn x k o ≡ true
+asks-waits x k o p m e = rw (e, sameKind-refl k) (eq-eqb o o refl)
+
+-- each kind has as many objects as before
+abbrev SameObjects : Store → Store → Type 0
+SameObjects u w = (k : Kind) → objects w k ≡ objects u k
+
+-- the object serves such a waiter no more than before
+abbrev ServesLess : Store → Store → Kind → ℕ → ℕ → ℕ → Type 0
+ServesLess u w k o p m = In o (objects u k) → would-serve u k o p m ≡ false → would-serve w k o p m ≡ false
+
+module _ (u w : Store) where
+  numbers-kept : (x : Option Wait) → SameObjects u w → WaitNumbers u x → WaitNumbers w x
+  numbers-kept none e h = h
+  numbers-kept (some asleep) e h = h
+  numbers-kept (some (timed t)) e h = h
+  numbers-kept (some (on k o p m)) e h = (rw (e k) (h .0), h .1)
+
+  unserved-kept : (x : Option Wait) → ((k : Kind) (o p m : ℕ) → x ≡ some (on k o p m) → ServesLess u w k o p m) → WaitNumbers u x → Unserved u x → Unserved w x
+  unserved-kept none f r h = h
+  unserved-kept (some asleep) f r h = h
+  unserved-kept (some (timed t)) f r h = h
+  unserved-kept (some (on k o p m)) f r h = f k o p m refl (r .0) h
+
+  task-kept : (t : Task) → w .priorities ≡ u .priorities → SameObjects u w → ((k : Kind) (o p m : ℕ) → waitOf (t .state) ≡ some (on k o p m) → ServesLess u w k o p m) → SoundTask u t → SoundTask w t
+  task-kept t e s f g = record {
+    priority = rw e (g .priority);
+    start = rw e (g .start);
+    wakeups = g .wakeups;
+    cell = g .cell;
+    wait = numbers-kept (waitOf (t .state)) s (g .wait);
+    unserved = unserved-kept (waitOf (t .state)) f (g .wait) (g .unserved);
+    sleeper = g .sleeper;
+    dormant = g .dormant;
+    rest = g .rest;
+  }
+
+sizes-store : (b : Body) (w : Store) → w .priorities ≡ b .store .priorities → SameObjects (b .store) w → length (w .messages) ≡ length (b .store .messages) → Sizes b → Sizes (with-store w b)
+sizes-store b w e s m z = record {
+  priorities = rw e (z .priorities);
+  tasks = z .tasks;
+  semaphores = rw (s semaphore) (z .semaphores);
+  flags = rw (s flag) (z .flags);
+  mailboxes = rw (s mailbox) (z .mailboxes);
+  messages = rw m (z .messages);
+  pools = rw (s pool) (z .pools);
+}
+
+sound-store : (b : Body) (w : Store) → SoundBody b → w .priorities ≡ b .store .priorities → SameObjects (b .store) w → length (w .messages) ≡ length (b .store .messages)
+    → StoreNumbers w → ((i : ℕ) (k : Kind) (o p m : ℕ) → Asks b i k o p m → ServesLess (b .store) w k o p m) → SoundBody (with-store w b)
+sound-store b w h e s m n f = record {
+  sizes = sizes-store b w e s m (h .sizes);
+  store = n;
+  tasks = λ i r. task-kept (b .store) w (task b i) e s (f i) (h .tasks i r);
+}
+
+module _ {ℓ} {A : Type ℓ} where
+  -- what holds of an entry, and of what is put there, holds afterwards
+  put-at {κ} : (P : A → Type κ) (l : List A) (i o : ℕ) (a d : A) → In o (length l) → (i ≡ o → P a) → P (of l o d) → P (of (put l i a) o d)
+  put-at P l i o a d r h k = go (eqb i o) refl
+    where
+      go : (t : Bool) → eqb i o ≡ t → P (of (put l i a) o d)
+      go true e = rw (eqb-true i o e, of-put-same l o a d r) (h (eqb-true i o e))
+      go false e = rw (of-put-other l i o a d e) k
+
+-- a waiter where nobody waits
+none-asks : (b : Body) (k : Kind) (s o : ℕ) → NoneAt b k s → s ≡ o → (i p m : ℕ) → Asks b i k o p m → ⊥
+none-asks b k s o n e i p m w = false≢true (sym (n i) ∙ ap (awaits (task b i .state) k) e ∙ asks-waits (waitOf (task b i .state)) k o p m w)
+
+zero-unserved : (n : ℕ) → n ≡ 0 → not (eqb n 0) ≡ false
+zero-unserved n e = ap not (eq-eqb n 0 e)
+
+unserved-zero : (n : ℕ) → not (eqb n 0) ≡ false → n ≡ 0
+unserved-zero n e = eqb-true n 0 (not-false (eqb n 0) e)
+
+neither : (s t : Bool) → (s || t) ≡ false → (s ≡ false) × (t ≡ false)
+neither true t e = absurd (false≢true (sym e))
+neither false t e = (refl, e)
+
+-- no message comes to lie there
+anyLies-set : (l : List (Option ℕ)) (j : ℕ) (x : Option ℕ) (m : ℕ) → lies x m ≡ false → anyLies l m ≡ false → anyLies (set l j x) m ≡ false
+anyLies-set [] j x m e h = refl
+anyLies-set (y ∷ l) zero x m e h = rw e (neither (lies y m) (anyLies l m) h .1)
+anyLies-set (y ∷ l) (suc j) x m e h = rw (neither (lies y m) (anyLies l m) h .0) (anyLies-set l j x m e (neither (lies y m) (anyLies l m) h .1))
+
+anyLies-put : (l : List (Option ℕ)) (j : ℕ) (x : Option ℕ) (m : ℕ) → lies x m ≡ false → anyLies l m ≡ false → anyLies (put l j x) m ≡ false
+anyLies-put l zero x m e h = h
+anyLies-put l (suc j) x m e h = anyLies-set l j x m e h
+
+-- no block becomes free
+free-set : (l : List Bool) (k : ℕ) → free l ≡ 0 → free (set l k false) ≡ 0
+free-set [] k h = refl
+free-set (true ∷ l) k h = absurd (omega arith)
+free-set (false ∷ l) zero h = h
+free-set (false ∷ l) (suc k) h = free-set l k h
+
+free-put : (l : List Bool) (k : ℕ) → free l ≡ 0 → free (put l k false) ≡ 0
+free-put l zero h = h
+free-put l (suc k) h = free-set l k h
+
+module _ (b : Body) (i : ℕ) where
+  abbrev u : Store
+  u = b .store
+
+  count-less : (s n : ℕ) → (n ≡ 0) ⊎ NoneAt b semaphore s → (k : Kind) (o p m : ℕ) → Asks b i k o p m → ServesLess u (with-semaphores (put (u .semaphores) s n) u) k o p m
+  count-less s n c semaphore o p m w r g = put-at (λ x. not (eqb x 0) ≡ false) (u .semaphores) s o n 0 r (there c) g
+    where
+      there : (n ≡ 0) ⊎ NoneAt b semaphore s → s ≡ o → not (eqb n 0) ≡ false
+      there (inl z) e = zero-unserved n z
+      there (inr f) e = absurd (none-asks b semaphore s o f e i p m w)
+  count-less s n c flag o p m w r g = g
+  count-less s n c mailbox o p m w r g = g
+  count-less s n c pool o p m w r g = g
+
+  pattern-less : (f n : ℕ) → ((p m : ℕ) → Asks b i flag f p m → met n p m ≡ false) → (k : Kind) (o p m : ℕ) → Asks b i k o p m → ServesLess u (with-flags (put (u .flags) f n) u) k o p m
+  pattern-less f n c semaphore o p m w r g = g
+  pattern-less f n c flag o p m w r g = put-at (λ x. met x p m ≡ false) (u .flags) f o n 0 r (λ e. c p m (rw e w)) g
+  pattern-less f n c mailbox o p m w r g = g
+  pattern-less f n c pool o p m w r g = g
+
+  -- a message comes to lie where nobody waits, or in no mailbox
+  message-less : (j : ℕ) (x : Option ℕ) → ((o : ℕ) → lies x o ≡ true → NoneAt b mailbox o) → (k : Kind) (o p m : ℕ) → Asks b i k o p m → ServesLess u (with-messages (put (u .messages) j x) u) k o p m
+  message-less j x c semaphore o p m w r g = g
+  message-less j x c flag o p m w r g = g
+  message-less j x c mailbox o p m w r g = anyLies-put (u .messages) j x o (go (lies x o) refl) g
+    where
+      go : (t : Bool) → lies x o ≡ t → t ≡ false
+      go true e = absurd (none-asks b mailbox o o (c o e) refl i p m w)
+      go false e = refl
+  message-less j x c pool o p m w r g = g
+
+  mark-less : (q n : ℕ) (t : Bool) → (t ≡ false) ⊎ NoneAt b pool q → (k : Kind) (o p m : ℕ) → Asks b i k o p m
+      → ServesLess u (with-pools (put (u .pools) q (put (of (u .pools) q []) n t)) u) k o p m
+  mark-less q n t c semaphore o p m w r g = g
+  mark-less q n t c flag o p m w r g = g
+  mark-less q n t c mailbox o p m w r g = g
+  mark-less q n t c pool o p m w r g = put-at (λ x. not (eqb (free x) 0) ≡ false) (u .pools) q o _ [] r (there c) g
+    where
+      there : (t ≡ false) ⊎ NoneAt b pool q → q ≡ o → not (eqb (free (put (of (u .pools) q []) n t)) 0) ≡ false
+      there (inl z) e = rw (e, z) (zero-unserved _ (free-put (of (u .pools) o []) n (unserved-zero _ g)))
+      there (inr f) e = absurd (none-asks b pool q o f e i p m w)
+
+  clock-less : (n : ℕ) (k : Kind) (o p m : ℕ) → ServesLess u (with-clock n u) k o p m
+  clock-less n semaphore o p m r g = g
+  clock-less n flag o p m r g = g
+  clock-less n mailbox o p m r g = g
+  clock-less n pool o p m r g = g
+
+-- ---- numbers of the store
+
+module _ (u : Store) (h : StoreNumbers u) where
+  semaphores-numbers : (s n : ℕ) → n ≤ 65535 → StoreNumbers (with-semaphores (put (u .semaphores) s n) u)
+  semaphores-numbers s n k = record {
+    semaphores = put-all (λ x. x ≤ 65535) (u .semaphores) s n 0 (h .semaphores) (λ r. k);
+    flags = h .flags;
+    messages = h .messages;
+    pools = h .pools;
+    clock = h .clock;
+  }
+
+  flags-numbers : (f n : ℕ) → n < 2 ^ 32 → StoreNumbers (with-flags (put (u .flags) f n) u)
+  flags-numbers f n k = record {
+    semaphores = h .semaphores;
+    flags = put-all (λ x. x < 2 ^ 32) (u .flags) f n 0 (h .flags) (λ r. k);
+    messages = h .messages;
+    pools = h .pools;
+    clock = h .clock;
+  }
+
+  messages-numbers : (j : ℕ) (x : Option ℕ) → LiesWell (u .mailboxes) x → StoreNumbers (with-messages (put (u .messages) j x) u)
+  messages-numbers j x k = record {
+    semaphores = h .semaphores;
+    flags = h .flags;
+    messages = put-all (LiesWell (u .mailboxes)) (u .messages) j x none (h .messages) (λ r. k);
+    pools = h .pools;
+    clock = h .clock;
+  }
+
+  pools-numbers : (p k : ℕ) (t : Bool) → StoreNumbers (with-pools (put (u .pools) p (put (of (u .pools) p []) k t)) u)
+  pools-numbers p k t = record {
+    semaphores = h .semaphores;
+    flags = h .flags;
+    messages = h .messages;
+    pools = put-all (λ l. In (length l) 32) (u .pools) p _ [] (h .pools) (λ r. rw (length-put (of (u .pools) p []) k t) (h .pools p r));
+    clock = h .clock;
+  }
+
+  clock-numbers : (n : ℕ) → n < 2 ^ 48 → StoreNumbers (with-clock n u)
+  clock-numbers n k = record {
+    semaphores = h .semaphores;
+    flags = h .flags;
+    messages = h .messages;
+    pools = h .pools;
+    clock = k;
+  }
+
+module _ (u : Store) where
+  semaphores-same : (s n : ℕ) → SameObjects u (with-semaphores (put (u .semaphores) s n) u)
+  semaphores-same s n semaphore = length-put (u .semaphores) s n
+  semaphores-same s n flag = refl
+  semaphores-same s n mailbox = refl
+  semaphores-same s n pool = refl
+
+  flags-same : (f n : ℕ) → SameObjects u (with-flags (put (u .flags) f n) u)
+  flags-same f n semaphore = refl
+  flags-same f n flag = length-put (u .flags) f n
+  flags-same f n mailbox = refl
+  flags-same f n pool = refl
+
+  messages-same : (l : List (Option ℕ)) → SameObjects u (with-messages l u)
+  messages-same l semaphore = refl
+  messages-same l flag = refl
+  messages-same l mailbox = refl
+  messages-same l pool = refl
+
+  pools-same : (p : ℕ) (l : List Bool) → SameObjects u (with-pools (put (u .pools) p l) u)
+  pools-same p l semaphore = refl
+  pools-same p l flag = refl
+  pools-same p l mailbox = refl
+  pools-same p l pool = length-put (u .pools) p l
+
+  clock-same : (n : ℕ) → SameObjects u (with-clock n u)
+  clock-same n semaphore = refl
+  clock-same n flag = refl
+  clock-same n mailbox = refl
+  clock-same n pool = refl
+
+-- ---- a tick at which no wait ends
+
+abbrev olderTask : Task → Task
+olderTask t = with-state (older (t .state)) t
+
+ticks-left : (t : ℕ) → eqb t 1 ≡ false → In t 2147483647 → In (pred t) 2147483647
+ticks-left t e h = go (eqb-false t 1 e)
+  where
+    go : t ≢ 1 → In (pred t) 2147483647
+    go d = omega (arith, h .0, h .1)
+
+older-numbers : (u : Store) (s : State) → ending (waitOf s) ≡ false → WaitNumbers u (waitOf s) → WaitNumbers u (waitOf (older s))
+older-numbers u dormant e h = h
+older-numbers u ready e h = h
+older-numbers u suspended e h = h
+older-numbers u (waiting asleep) e h = h
+older-numbers u (waiting (timed t)) e h = ticks-left t e h
+older-numbers u (waiting (on k o p m)) e h = h
+older-numbers u (waiting-suspended asleep) e h = h
+older-numbers u (waiting-suspended (timed t)) e h = ticks-left t e h
+older-numbers u (waiting-suspended (on k o p m)) e h = h
+
+older-same : (u : Store) (s : State) → (Unserved u (waitOf s) → Unserved u (waitOf (older s))) × (sleeps (waitOf (older s)) ≡ sleeps (waitOf s)) × (isDormant (older s) ≡ isDormant s)
+older-same u dormant = (λ h. h, refl, refl)
+older-same u ready = (λ h. h, refl, refl)
+older-same u suspended = (λ h. h, refl, refl)
+older-same u (waiting asleep) = (λ h. h, refl, refl)
+older-same u (waiting (timed t)) = (λ h. h, refl, refl)
+older-same u (waiting (on k o p m)) = (λ h. h, refl, refl)
+older-same u (waiting-suspended asleep) = (λ h. h, refl, refl)
+older-same u (waiting-suspended (timed t)) = (λ h. h, refl, refl)
+older-same u (waiting-suspended (on k o p m)) = (λ h. h, refl, refl)
+
+older-well : (u : Store) (t : Task) → ending (waitOf (t .state)) ≡ false → SoundTask u t → SoundTask u (olderTask t)
+older-well u t e g =
+    state-well g (older (t .state)) (older-numbers u (t .state) e (g .wait)) (older-same u (t .state) .0 (g .unserved)) (rw (older-same u (t .state) .1) (g .sleeper)) (rw (older-same u (t .state) .2) (λ x. x))
+
+older-sound : (b : Body) → SoundBody b → ((i : ℕ) → ending (waitOf (task b i .state)) ≡ false) → SoundBody (with-tasks (map olderTask (b .tasks)) b)
+older-sound b h e = record {
+  sizes = record {
+    priorities = h .sizes .priorities;
+    tasks = rw (length-map (b .tasks) olderTask) (h .sizes .tasks);
+    semaphores = h .sizes .semaphores;
+    flags = h .sizes .flags;
+    mailboxes = h .sizes .mailboxes;
+    messages = h .sizes .messages;
+    pools = h .sizes .pools;
+  };
+  store = h .store;
+  tasks = λ i r. rw (of-map olderTask (b .tasks) i nobody refl) (older-well (b .store) (task b i) (e i) (h .tasks i (rw (length-map (b .tasks) olderTask) at r)));
+}
+
+-- ---- every act
+
+pub sound-after : (a : Act) (b : Body) → SoundBody b → Pre b a → SoundBody (after a b)
+unfolding after
+sound-after (start i) b h p = sound-change started i b h (λ r g. started-well g)
+sound-after (retire i) b h p = sound-change retired i b h (λ r g. retired-well g)
+sound-after (rotate i) b h p = h
+sound-after (regrade i n) b h p = sound-change (with-priority n) i b h (λ r g. priority-well g n (p .0) (p .1))
+sound-after (wait i w) b h p = sound-change (with-state (waiting w)) i b h (λ r g. state-well g (waiting w) (p r .0) (p r .1) (p r .2) (λ e. absurd (false≢true e)))
+sound-after (release i c w) b h p = sound-change (releasedTask c w) i b h (λ r g. released-well c w (task b i) p g)
+sound-after (suspend i) b h p = sound-change (λ t. with-state (halted (t .state)) t) i b h (λ r g. same-well g _ (halted-same (task b i .state) .0) (halted-same (task b i .state) .1))
+sound-after (resume i) b h p = sound-change (λ t. with-state (resumed (t .state)) t) i b h (λ r g. same-well g _ (resumed-same (task b i .state) .0) (resumed-same (task b i .state) .1))
+sound-after (wakeups i n) b h p = sound-change (with-wakeups n) i b h (λ r g. wakeups-well g n (p .0) (p .1) (p .2))
+sound-after (count s n) b h p = sound-store b _ h refl (semaphores-same (b .store) s n) refl (semaphores-numbers (b .store) (h .store) s n (p .0)) (λ i. count-less b i s n (p .1))
+sound-after (pattern f n) b h p = sound-store b _ h refl (flags-same (b .store) f n) refl (flags-numbers (b .store) (h .store) f n (p .0)) (λ i. pattern-less b i f n (p .1 i))
+sound-after (post j m) b h p =
+    sound-store b _ h refl (messages-same (b .store) _) (length-put (b .store .messages) j (some m)) (messages-numbers (b .store) (h .store) j (some m) (p .0))
+    (λ i. message-less b i j (some m) (λ o e. rw (← eqb-true m o e) (p .1)))
+sound-after (receive j) b h p =
+    sound-store b _ h refl (messages-same (b .store) _) (length-put (b .store .messages) j none) (messages-numbers (b .store) (h .store) j none tt)
+    (λ i. message-less b i j none (λ o e. absurd (false≢true e)))
+sound-after (mark q k t) b h p = sound-store b _ h refl (pools-same (b .store) q _) refl (pools-numbers (b .store) (h .store) q k t) (λ i. mark-less b i q k t p)
+sound-after elapse b h p =
+    sound-store _ _ (older-sound b h p) refl (clock-same (b .store) _) refl (clock-numbers (b .store) (h .store) _ (mod-lt (suc (b .store .clock)) (lit< tt))) (λ i k o y m w. clock-less b i _ k o y m)

@@ -1,0 +1,160 @@
+-- An act keeps a sound view sound: whoever belongs to a queue stands in it once, by counting, and nobody else does.
+use mathlib.Core.Bool.{Bool, true, false, cond, not, _&&_}
+use mathlib.Core.List.{List, [], _∷_, _++_}
+use mathlib.Core.Path.{_≡_, refl, sym, ap, _∙_, subst}
+use mathlib.Core.Logic.{_≢_}
+use Prim.Native.Nat.{ℕ, _+_}
+use native.Mathlib.Nat.{add-zero}
+use native.Mathlib.Omega.{arith}
+use Rattle.rules.specs.Ids.{In, keep, once, times}
+use Rattle.rules.specs.State.{Kind, Body}
+use Rattle.rules.specs.Places.{Place, readyAt, waiters, mail, Item, aTask, aMessage, item, same, many, belongs, Exists}
+use Rattle.rules.specs.Acts.{Act, after, Move, stay, leave, last, move}
+use Rattle.rules.specs.View.{View, line, alone, without, moved, act}
+use Rattle.rules.specs.Sound.{Shape, Known, Queue, Sound}
+use Rattle.rules.proofs.Ids.{times-append, times-keep, times-head}
+use Rattle.rules.proofs.Fits.{Fits, fits, many-after, in-range}
+use Rattle.rules.proofs.Lines.{shape-tabulate, exists-after, line-act}
+use Rattle.rules.proofs.Keeps.{NoneAt, Pre, sound-after}
+
+-- ---- nobody stands in a line but those that exist
+
+known-keep : (n : ℕ) (p : ℕ → Bool) (l : List ℕ) → Known n l → Known n (keep p l)
+unfolding keep
+known-keep n p [] h = tt
+known-keep n p (x ∷ l) h = go (p x) (known-keep n p l (h .1))
+  where
+    go : (t : Bool) → Known n (keep p l) → Known n (cond t (x ∷ keep p l) (keep p l))
+    go true k = (h .0, k)
+    go false k = k
+
+known-append : (n : ℕ) (l m : List ℕ) → Known n l → Known n m → Known n (l ++ m)
+known-append n [] m h k = k
+known-append n (x ∷ l) m h k = (h .0, known-append n l m (h .1) k)
+
+module _ (c : Body) (q : Place) where
+  known-one : (i : ℕ) → Known (many c q) (keep (belongs c q) (i ∷ []))
+  unfolding keep
+  known-one i = go (belongs c q i) refl
+    where
+      go : (t : Bool) → belongs c q i ≡ t → Known (many c q) (cond t (i ∷ []) [])
+      go true e = (in-range c q i e, tt)
+      go false e = tt
+
+known-alone : (c : Body) (x : Item) (q : Place) → Known (many c q) (keep (belongs c q) (alone x q))
+unfolding keep
+known-alone c (aTask i) (readyAt p) = known-one c (readyAt p) i
+known-alone c (aTask i) (waiters k o) = known-one c (waiters k o) i
+known-alone c (aTask i) (mail m) = tt
+known-alone c (aMessage i) (readyAt p) = tt
+known-alone c (aMessage i) (waiters k o) = tt
+known-alone c (aMessage i) (mail m) = known-one c (mail m) i
+
+known-moved : (c : Body) (m : Move) (q : Place) (l : List ℕ) → Known (many c q) l → Known (many c q) (moved c m q l)
+unfolding moved
+known-moved c stay q l h = h
+known-moved c (leave x) q l h = known-keep _ _ l h
+known-moved c (last x) q l h = known-append _ (without x q l) _ (known-keep _ _ l h) (known-alone c x q)
+
+-- ---- counting
+
+times-alone : (i : ℕ) (x : Item) (q : Place) → times i (alone x q) ≡ once (same x (item q i))
+unfolding times
+times-alone i (aTask a) (readyAt p) = add-zero _
+times-alone i (aTask a) (waiters k o) = add-zero _
+times-alone i (aTask a) (mail m) = refl
+times-alone i (aMessage a) (readyAt p) = refl
+times-alone i (aMessage a) (waiters k o) = refl
+times-alone i (aMessage a) (mail m) = add-zero _
+
+out : (s t : Bool) → cond (not s) (once t) 0 ≡ once (t && not s)
+out true true = refl
+out true false = refl
+out false true = refl
+out false false = refl
+
+came : (t s y : Bool) → (s ≡ false → y ≡ t) → cond (not s) (once t) 0 + cond y (once s) 0 ≡ once y
+came t true true e = refl
+came t true false e = refl
+came t false y e = rw (e refl) (same-once t)
+  where
+    same-once : (t : Bool) → once t + cond t 0 0 ≡ once t
+    same-once true = refl
+    same-once false = refl
+
+module _ (b c : Body) (q : Place) (i : ℕ) (l : List ℕ) (h : times i l ≡ once (belongs b q i)) where
+  stood : (x : Item) → times i (without x q l) ≡ cond (not (same x (item q i))) (once (belongs b q i)) 0
+  stood x = times-keep i (λ j. not (same x (item q j))) l ∙ ap (λ (n : ℕ). cond (not (same x (item q i))) n 0) h
+
+  -- after a move each stands where it belongs
+  times-moved : (m : Move) → Fits b c m → times i (moved c m q l) ≡ once (belongs c q i)
+  unfolding moved
+  times-moved stay f = h ∙ ap (λ (t : Bool). once t) (sym (f q i))
+  times-moved (leave x) f = stood x ∙ out (same x (item q i)) (belongs b q i) ∙ ap (λ (t : Bool). once t) (sym (f q i))
+  times-moved (last x) f =
+      times-append i (without x q l) (keep (belongs c q) (alone x q))
+      ∙ (λ z. stood x z + (times-keep i (belongs c q) (alone x q) ∙ ap (λ (n : ℕ). cond (belongs c q i) n 0) (times-alone i x q)) z)
+      ∙ came (belongs b q i) (same x (item q i)) (belongs c q i) (f q i)
+
+pub queue-moved : (b c : Body) (m : Move) (q : Place) (l : List ℕ) → Fits b c m → many c q ≡ many b q → Queue b q l → Queue c q (moved c m q l)
+queue-moved b c m q l f e h = record {
+  known = known-moved c m q l (rw e (h .known));
+  stands = λ i r. times-moved b c q i l (h .stands i (rw e at r)) m f;
+}
+
+-- ---- who stands first belongs there, and where nobody stands nobody belongs
+
+once-true : (t : Bool) → once t ≢ 0 → t ≡ true
+once-true true h = refl
+once-true false h = absurd (h refl)
+
+module _ (b : Body) (q : Place) (l : List ℕ) (h : Queue b q l) where
+  -- whoever stands in the line belongs to it
+  pub standing-belongs : (i : ℕ) → In i (many b q) → times i l ≢ 0 → belongs b q i ≡ true
+  standing-belongs i r z = once-true (belongs b q i) (λ e. z (h .stands i r ∙ e))
+
+  pub belongs-stands : (i : ℕ) → belongs b q i ≡ true → times i l ≡ 1
+  belongs-stands i e = h .stands i (in-range b q i e) ∙ ap once e
+
+head-belongs : (b : Body) (q : Place) (x : ℕ) (l : List ℕ) → Queue b q (x ∷ l) → belongs b q x ≡ true
+head-belongs b q x l h = standing-belongs b q (x ∷ l) h x (h .known .0) (times-head x l)
+
+nobody-belongs : (b : Body) (q : Place) (i : ℕ) → Queue b q [] → belongs b q i ≡ false
+unfolding times
+nobody-belongs b q i h = go (belongs b q i) refl
+  where
+    go : (t : Bool) → belongs b q i ≡ t → t ≡ false
+    go true e = absurd (omega (arith, belongs-stands b q [] h i e))
+    go false e = refl
+
+module _ (v : View) (h : Sound v) (q : Place) (r : Exists (v .body .store) q) where
+  pub first-belongs : (x : ℕ) (l : List ℕ) → line v q ≡ x ∷ l → belongs (v .body) q x ≡ true
+  first-belongs x l e = head-belongs (v .body) q x l (subst (Queue (v .body) q) e (h .queues q r))
+
+  pub empty-belongs : line v q ≡ [] → (i : ℕ) → belongs (v .body) q i ≡ false
+  empty-belongs e i = nobody-belongs (v .body) q i (subst (Queue (v .body) q) e (h .queues q r))
+
+-- where nobody stands, nobody waits
+pub none-waits : (v : View) → Sound v → (k : Kind) (o : ℕ) → Exists (v .body .store) (waiters k o) → line v (waiters k o) ≡ [] → NoneAt (v .body) k o
+unfolding belongs
+none-waits v h k o r e i = empty-belongs v h (waiters k o) r e i
+
+-- ---- an act on a sound view
+
+shape-act : (a : Act) (v : View) → Shape (act a v .body .store) (act a v .lines)
+unfolding act
+shape-act a v = shape-tabulate (after a (v .body) .store) (λ q. moved (after a (v .body)) (move (v .body) a) q (line v q))
+
+pub body-act : (a : Act) (v : View) → act a v .body ≡ after a (v .body)
+unfolding act
+body-act a v = refl
+
+pub sound-act : (a : Act) (v : View) → Sound v → Pre (v .body) a → Sound (act a v)
+sound-act a v h p = record {
+  body = rw (body-act a v) (sound-after a (v .body) (h .body) p);
+  shape = shape-act a v;
+  queues = λ q r. queue q (exists-after a (v .body) q (subst (λ (b : Body). Exists (b .store) q) (body-act a v) r));
+}
+  where
+    queue : (q : Place) → Exists (v .body .store) q → Queue (act a v .body) q (line (act a v) q)
+    queue q r = rw (body-act a v, line-act a v q r) (queue-moved (v .body) (after a (v .body)) (move (v .body) a) q (line v q) (fits a (v .body)) (many-after a (v .body) q) (h .queues q r))

@@ -1,0 +1,74 @@
+-- A refused event changes nothing. Assumes nothing.
+use mathlib.Core.Bool.{true, false, false≢true}
+use mathlib.Core.List.{List, [], _∷_}
+use mathlib.Core.Logic.{_⊎_, inl, inr}
+use mathlib.Core.Path.{_≡_, refl, ap}
+use Prim.Native.Nat.{ℕ}
+use native.Mathlib.Omega.{arith}
+use lib.IntN.{pos, natAbs}
+use Rattle.rules.specs.Codes.{number, refuses}
+use Rattle.rules.specs.State.{State, dormant, ready, suspended, waiting, waiting-suspended, Task, Body}
+use Rattle.rules.specs.Events.{Event}
+use Rattle.rules.specs.View.{View, running, acts}
+use Rattle.rules.specs.Verdicts.{Verdict}
+use Rattle.rules.specs.Table.{judge}
+use Rattle.rules.specs.Answers.{isReleased, releasedCount, answer}
+use Rattle.rules.specs.Sound.{Sound}
+use Rattle.rules.specs.Check.{sound?}
+use Rattle.rules.specs.Kernel.{next, served, damaged, refusal, guarded, event}
+use Rattle.rules.proofs.Clean.{Clean, refused, given, waited, judge-clean}
+
+-- ---- what a clean verdict says
+
+released-none : (s : State) → isReleased s s ≡ false
+released-none dormant = refl
+released-none ready = refl
+released-none suspended = refl
+released-none (waiting w) = refl
+released-none (waiting-suspended w) = refl
+
+none-released : (l : List Task) → releasedCount l l ≡ 0
+unfolding releasedCount
+none-released [] = refl
+none-released (t ∷ l) = rw (released-none (t .state), none-released l)
+
+refused-served : (v : View) (r : Verdict) → Clean (v .body) r → refuses (r .code) ≡ true
+    → (answer r v (acts (r .acts) v) ≡ refusal v (r .code) .answer) × (acts (r .acts) v ≡ v)
+unfolding answer refusal acts refuses
+refused-served v r (refused c n) e = (ap (λ (n : ℕ). record { code = c; w1 = 0; w2 = 0; runs = running v; released = n }) (none-released (v .body .tasks)), refl)
+refused-served v r (given x y l g) e = absurd (false≢true e)
+refused-served v r (waited i w) e = absurd (false≢true e)
+
+served-refused : (v : View) (e : Event) → refuses (served v e .answer .code) ≡ true → served v e ≡ refusal v (served v e .answer .code)
+unfolding served next answer refusal
+served-refused v e h = λ z. record { answer = refused-served v (judge v e) (judge-clean v e) h .0 z; next = refused-served v (judge v e) (judge-clean v e) h .1 z }
+
+-- A negative code has w1 = w2 = 0, 0 released, the state unchanged and the running task as before; after H_STATE the running task is
+-- given as 0.
+pub refused-unchanged : (v : View) (e : Event) → refuses (event v e .answer .code) ≡ true
+    → (Sound v × (event v e ≡ refusal v (event v e .answer .code))) ⊎ ((Sound v → ⊥) × (event v e ≡ damaged v))
+unfolding event guarded
+refused-unchanged v e = go (sound? v)
+  where
+    go : (d : Dec (Sound v)) → refuses (guarded v e d .answer .code) ≡ true
+        → (Sound v × (guarded v e d ≡ refusal v (guarded v e d .answer .code))) ⊎ ((Sound v → ⊥) × (guarded v e d ≡ damaged v))
+    go (yes s) h = inl (s, served-refused v e h)
+    go (no n) h = inr (n, refl)
+
+-- The words are 0 with code 1.
+waits-clean : (b : Body) (r : Verdict) → Clean b r → number (r .code) ≡ pos 1 → (r .w1 ≡ 0) × (r .w2 ≡ 0)
+unfolding number
+waits-clean b r (refused c n) e = (refl, refl)
+waits-clean b r (given x y l g) e = absurd (pos-ne e)
+  where
+    pos-ne : pos 0 ≡ pos 1 → ⊥
+    pos-ne e = let d : _≡_ {A = ℕ} 0 1 = ap natAbs e in omega arith
+waits-clean b r (waited i w) e = (refl, refl)
+
+pub waits-no-words : (v : View) (e : Event) → number (event v e .answer .code) ≡ pos 1 → (event v e .answer .w1 ≡ 0) × (event v e .answer .w2 ≡ 0)
+unfolding event guarded served damaged answer
+waits-no-words v e = go (sound? v)
+  where
+    go : (d : Dec (Sound v)) → number (guarded v e d .answer .code) ≡ pos 1 → (guarded v e d .answer .w1 ≡ 0) × (guarded v e d .answer .w2 ≡ 0)
+    go (yes s) h = waits-clean (v .body) (judge v e) (judge-clean v e) h
+    go (no n) h = (refl, refl)

@@ -1,0 +1,421 @@
+-- In each line of the plain kernel numbers rise, each task and message stands in one line at most, and who runs follows from the two.
+use mathlib.Core.Bool.{Bool, true, false, cond, not, _&&_, false≢true}
+use mathlib.Core.List.{List, [], _∷_, _++_, map}
+use mathlib.Core.Logic.{_⊎_, inl, inr, _≢_}
+use mathlib.Core.Option.{Option, none, some}
+use mathlib.Core.Path.{_≡_, refl, sym, ap, _∙_, subst}
+use Prim.Native.Nat.{ℕ, zero, suc, _+_, _≤_, _<_}
+use native.Mathlib.Decide.{ℕ-discrete, decLt}
+use native.Mathlib.Omega.{arith}
+use lib.Dec.{eqb}
+use lib.ListN.{length}
+use borrow.Author.Tests.{eqb-true, eq-eqb, ne-eqb}
+use Rattle.rules.specs.Ids.{of, from, ids, In, keep, once, times, first}
+use Rattle.rules.specs.State.{Kind, semaphore, flag, mailbox, pool, Wait, asleep, timed, on, State, dormant, ready, suspended, waiting, waiting-suspended, Body, task, waitOf, isReady}
+use Rattle.rules.specs.Places.{Place, readyAt, waiters, mail, Item, aTask, aMessage, item, same, sameKind, many, belongs, waitsOn, awaits, lies, Exists, tabulate}
+use Rattle.rules.specs.Setup.{Setup}
+use Rattle.rules.specs.Events.{Event}
+use Rattle.rules.specs.Acts.{Act, after, Move, stay, leave, last, move}
+use Rattle.rules.specs.View.{View, line, nonempty, running, alone, without, moved}
+use Rattle.rules.specs.Table.{judge}
+use Rattle.rules.specs.Sound.{Known, Sound}
+use Rattle.rules.specs.Kernel.{starts}
+use Rattle.rules.specs.Plain.{Plain, numberOf, queueOf, viewOf, numbered, plainAct, plainActs, unstarted, plainFresh, plainNext}
+use Rattle.rules.specs.Order.{Rising, Ordered, OneLine, Ready, Before, WhoRuns}
+use Rattle.rules.proofs.Ids.{times-append, times-keep, times-ids, times-head, times-tail}
+use Rattle.rules.proofs.Fits.{many-after, in-range}
+use Rattle.rules.proofs.Sorting.{All, all-keep, all-kept, all-has, times-byNumber}
+use Rattle.rules.proofs.Agree.{Numbers, numbers-act, numbers-unstarted, number-body, number-other, number-new, queue-act, queue-unstarted}
+
+-- ---- lists whose numbers rise
+
+has-keep : (p : ℕ → Bool) (l : List ℕ) (y : ℕ) → times y (keep p l) ≢ 0 → times y l ≢ 0
+has-keep p l y h e = h (times-keep y p l ∙ rw e (go (p y)))
+  where
+    go : (t : Bool) → _≡_ {A = ℕ} (cond t 0 0) 0
+    go true = refl
+    go false = refl
+
+rising-keep : (f : ℕ → ℕ) (p : ℕ → Bool) (l : List ℕ) → Rising f l → Rising f (keep p l)
+unfolding keep
+rising-keep f p [] h = tt
+rising-keep f p (x ∷ l) h = go (p x) (rising-keep f p l (h .1))
+  where
+    go : (t : Bool) → Rising f (keep p l) → Rising f (cond t (x ∷ keep p l) (keep p l))
+    go true r = (λ y t. h .0 y (has-keep p l y t), r)
+    go false r = r
+
+-- numbers that agree on the members
+rising-same : (f g : ℕ → ℕ) (l : List ℕ) → ((y : ℕ) → times y l ≢ 0 → g y ≡ f y) → Rising f l → Rising g l
+rising-same f g [] e h = tt
+rising-same f g (x ∷ l) e h = (
+  λ y t. omega (arith, e x (times-head x l), e y (times-tail x y l t), h .0 y t),
+  rising-same f g l (λ y t. e y (times-tail x y l t)) (h .1),
+)
+
+rising-append : (f : ℕ → ℕ) (l m : List ℕ) → Rising f l → Rising f m → ((x y : ℕ) → times x l ≢ 0 → times y m ≢ 0 → f x < f y) → Rising f (l ++ m)
+rising-append f [] m a b h = b
+rising-append f (x ∷ l) m a b h = (λ y t. go y t (ℕ-discrete (times y l) 0), rising-append f l m (a .1) b (λ z y s t. h z y (times-tail x z l s) t))
+  where
+    go : (y : ℕ) → times y (l ++ m) ≢ 0 → Dec (times y l ≡ 0) → f x < f y
+    go y t (yes e) = h x y (times-head x l) (λ k. t (times-append y l m ∙ rw (e, k)))
+    go y t (no e) = a .0 y e
+
+-- ---- an act keeps the order
+
+alone-is : (x : Item) (q : Place) → All (λ z. item q z ≡ x) (alone x q)
+alone-is (aTask a) (readyAt p) = (refl, tt)
+alone-is (aTask a) (waiters k o) = (refl, tt)
+alone-is (aTask a) (mail m) = tt
+alone-is (aMessage a) (readyAt p) = tt
+alone-is (aMessage a) (waiters k o) = tt
+alone-is (aMessage a) (mail m) = (refl, tt)
+
+rising-one : (f : ℕ → ℕ) (a : ℕ) → Rising f (a ∷ [])
+unfolding times
+rising-one f a = (λ y t. absurd (t refl), tt)
+
+alone-rises : (f : ℕ → ℕ) (x : Item) (q : Place) → Rising f (alone x q)
+alone-rises f (aTask a) (readyAt p) = rising-one f a
+alone-rises f (aTask a) (waiters k o) = rising-one f a
+alone-rises f (aTask a) (mail m) = tt
+alone-rises f (aMessage a) (readyAt p) = tt
+alone-rises f (aMessage a) (waiters k o) = tt
+alone-rises f (aMessage a) (mail m) = rising-one f a
+
+not-true : (t : Bool) → not t ≡ true → t ≡ false
+not-true true e = sym e
+not-true false e = refl
+
+module _ (c : Body) (s : Plain) (h : Numbers s) (q : Place) (few : many c q ≡ many (s .body) q) where
+  -- one that goes last has the largest number
+  module _ (x : Item) where
+    stayed : (l : List ℕ) (y : ℕ) → times y (without x q l) ≢ 0 → numberOf (numbered c (last x) s) (item q y) ≡ numberOf s (item q y)
+    stayed l y t = number-other c x s (item q y) (not-true _ (all-has (λ i. not (same x (item q i)) ≡ true) _ (all-kept _ (λ i. not (same x (item q i))) l (λ i e. e)) y t))
+
+    newest : (z : ℕ) → times z (keep (belongs c q) (alone x q)) ≢ 0 → numberOf (numbered c (last x) s) (item q z) ≡ s .count
+    newest z t =
+        subst (λ (y : Item). numberOf (numbered c (last y) s) (item q z) ≡ s .count) (all-has (λ i. item q i ≡ x) _ (all-keep _ (belongs c q) (alone x q) (alone-is x q)) z t)
+        (number-new c s h q z (rw (← few) (in-range c q z (all-has (λ i. belongs c q i ≡ true) _ (all-kept _ (belongs c q) (alone x q) (λ i e. e)) z t))))
+
+  rising-move : (m : Move) (l : List ℕ) → Rising (λ i. numberOf s (item q i)) l → Rising (λ i. numberOf (numbered c m s) (item q i)) (moved c m q l)
+  unfolding moved numbered
+  rising-move stay l r = rising-same _ _ l (λ y t. number-body c s (item q y)) r
+  rising-move (leave x) l r = rising-same _ _ (without x q l) (λ y t. number-body c s (item q y)) (rising-keep _ _ l r)
+  rising-move (last x) l r =
+      rising-append _ (without x q l) (keep (belongs c q) (alone x q))
+      (rising-same _ _ (without x q l) (stayed x l) (rising-keep _ _ l r)) (rising-keep _ (belongs c q) (alone x q) (alone-rises _ x q))
+      (λ y z t n. omega (arith, stayed x l y t, newest x z n, h .below (item q y)))
+
+pub ordered-act : (a : Act) (s : Plain) → Numbers s → Ordered s → Ordered (plainAct a s)
+unfolding plainAct
+ordered-act a s h o q =
+    subst (λ (l : List ℕ). Rising (λ i. numberOf (plainAct a s) (item q i)) l) (sym (queue-act a s h q))
+    (rising-move (after a (s .body)) s h q (many-after a (s .body) q) (move (s .body) a) (queueOf s q) (o q))
+
+pub ordered-acts : (l : List Act) (s : Plain) → Numbers s → Ordered s → Ordered (plainActs l s)
+unfolding plainActs
+ordered-acts [] s h o = o
+ordered-acts (a ∷ l) s h o = ordered-acts l (plainAct a s) (numbers-act a s h) (ordered-act a s h o)
+
+pub ordered-fresh : (u : Setup) → Ordered (plainFresh u)
+unfolding plainFresh
+ordered-fresh u = ordered-acts (starts 1 (u .tasks)) (unstarted u) (numbers-unstarted u) (λ q. rw (queue-unstarted u q) tt)
+
+pub ordered-next : (s : Plain) (e : Event) → Numbers s → Ordered s → Ordered (plainNext s e)
+unfolding plainNext
+ordered-next s e h o = ordered-acts (judge (viewOf s) e .acts) s h o
+
+-- ---- each stands in one line at most
+
+both : (s t : Bool) → (s && t) ≡ true → (s ≡ true) × (t ≡ true)
+both true t e = (refl, e)
+both false t e = absurd (false≢true e)
+
+same-kind : (j k : Kind) → sameKind j k ≡ true → j ≡ k
+same-kind semaphore semaphore e = refl
+same-kind semaphore flag e = absurd (false≢true e)
+same-kind semaphore mailbox e = absurd (false≢true e)
+same-kind semaphore pool e = absurd (false≢true e)
+same-kind flag semaphore e = absurd (false≢true e)
+same-kind flag flag e = refl
+same-kind flag mailbox e = absurd (false≢true e)
+same-kind flag pool e = absurd (false≢true e)
+same-kind mailbox semaphore e = absurd (false≢true e)
+same-kind mailbox flag e = absurd (false≢true e)
+same-kind mailbox mailbox e = refl
+same-kind mailbox pool e = absurd (false≢true e)
+same-kind pool semaphore e = absurd (false≢true e)
+same-kind pool flag e = absurd (false≢true e)
+same-kind pool mailbox e = absurd (false≢true e)
+same-kind pool pool e = refl
+
+ready-waits : (s : State) (k : Kind) (o : ℕ) → isReady s ≡ true → awaits s k o ≡ true → ⊥
+ready-waits dormant k o r w = false≢true r
+ready-waits ready k o r w = false≢true w
+ready-waits suspended k o r w = false≢true r
+ready-waits (waiting x) k o r w = false≢true r
+ready-waits (waiting-suspended x) k o r w = false≢true r
+
+one-wait : (w : Option Wait) (k k′ : Kind) (o o′ : ℕ) → waitsOn w k o ≡ true → waitsOn w k′ o′ ≡ true → waiters k o ≡ waiters k′ o′
+one-wait none k k′ o o′ e f = absurd (false≢true e)
+one-wait (some asleep) k k′ o o′ e f = absurd (false≢true e)
+one-wait (some (timed t)) k k′ o o′ e f = absurd (false≢true e)
+one-wait (some (on j n p m)) k k′ o o′ e f =
+    let a : (sameKind j k ≡ true) × (eqb n o ≡ true) = both _ _ e in
+    let b : (sameKind j k′ ≡ true) × (eqb n o′ ≡ true) = both _ _ f in
+    λ z. waiters ((sym (same-kind j k (a .0)) ∙ same-kind j k′ (b .0)) z) ((sym (eqb-true n o (a .1)) ∙ eqb-true n o′ (b .1)) z)
+
+one-box : (x : Option ℕ) (m n : ℕ) → lies x m ≡ true → lies x n ≡ true → m ≡ n
+one-box none m n e f = absurd (false≢true e)
+one-box (some k) m n e f = sym (eqb-true k m e) ∙ eqb-true k n f
+
+-- a task that belongs to a ready queue is READY or RUN, of that priority
+ready-is : (b : Body) (p i : ℕ) → belongs b (readyAt p) i ≡ true → (isReady (task b i .state) ≡ true) × (task b i .priority ≡ p)
+unfolding belongs
+ready-is b p i e =
+    let h : (isReady (task b i .state) ≡ true) × (eqb (task b i .priority) p ≡ true) = both (isReady (task b i .state)) (eqb (task b i .priority) p) e in
+    (h .0, eqb-true (task b i .priority) p (h .1))
+
+abbrev idOf : Item → ℕ
+idOf (aTask i) = i
+idOf (aMessage i) = i
+
+abbrev isTask : Item → Bool
+isTask (aTask i) = true
+isTask (aMessage i) = false
+
+-- tasks stand there
+abbrev ofTasks : Place → Bool
+ofTasks (readyAt p) = true
+ofTasks (waiters k o) = true
+ofTasks (mail m) = false
+
+id-item : (q : Place) (i : ℕ) → idOf (item q i) ≡ i
+id-item (readyAt p) i = refl
+id-item (waiters k o) i = refl
+id-item (mail m) i = refl
+
+sort-item : (q : Place) (i : ℕ) → isTask (item q i) ≡ ofTasks q
+sort-item (readyAt p) i = refl
+sort-item (waiters k o) i = refl
+sort-item (mail m) i = refl
+
+-- the place follows from the state
+placed : (b : Body) (q r : Place) (i : ℕ) → ofTasks q ≡ ofTasks r → belongs b q i ≡ true → belongs b r i ≡ true → q ≡ r
+unfolding belongs
+placed b (readyAt p) (readyAt n) i e f g = ap readyAt (sym (ready-is b p i f .1) ∙ ready-is b n i g .1)
+placed b (readyAt p) (waiters k o) i e f g = absurd (ready-waits (task b i .state) k o (ready-is b p i f .0) g)
+placed b (readyAt p) (mail m) i e f g = absurd (false≢true (sym e))
+placed b (waiters k o) (readyAt p) i e f g = absurd (ready-waits (task b i .state) k o (ready-is b p i g .0) f)
+placed b (waiters k o) (waiters k′ o′) i e f g = one-wait (waitOf (task b i .state)) k k′ o o′ f g
+placed b (waiters k o) (mail m) i e f g = absurd (false≢true (sym e))
+placed b (mail m) (readyAt p) i e f g = absurd (false≢true e)
+placed b (mail m) (waiters k o) i e f g = absurd (false≢true e)
+placed b (mail m) (mail n) i e f g = ap mail (one-box (of (b .store .messages) i none) m n f g)
+
+pub one-place : (b : Body) (q r : Place) (i j : ℕ) → item q i ≡ item r j → belongs b q i ≡ true → belongs b r j ≡ true → q ≡ r
+one-place b q r i j e f g =
+    let k : i ≡ j = sym (id-item q i) ∙ ap idOf e ∙ id-item r j in
+    placed b q r i (sym (sort-item q i) ∙ ap isTask e ∙ sort-item r j) f (rw k g)
+
+known-all : (n : ℕ) (l : List ℕ) → Known n l → All (λ i. In i n) l
+known-all n [] h = tt
+known-all n (x ∷ l) h = (h .0, known-all n l (h .1))
+
+module _ (v : View) (g : Sound v) (q : Place) (e : Exists (v .body .store) q) (i : ℕ) where
+  known-in : times i (line v q) ≢ 0 → In i (many (v .body) q)
+  known-in t = all-has _ (line v q) (known-all _ (line v q) (g .queues q e .known)) i t
+
+  -- who stands in a line belongs there
+  pub stands-belongs : times i (line v q) ≢ 0 → belongs (v .body) q i ≡ true
+  stands-belongs t = go (belongs (v .body) q i) (g .queues q e .stands i (known-in t))
+    where
+      go : (b : Bool) → times i (line v q) ≡ once b → b ≡ true
+      go true k = refl
+      go false k = absurd (t k)
+
+  stands-once : times i (line v q) ≤ 1
+  stands-once = go (ℕ-discrete (times i (line v q)) 0)
+    where
+      once-le : (b : Bool) → once b ≤ 1
+      once-le true = omega arith
+      once-le false = omega arith
+
+      go : Dec (times i (line v q) ≡ 0) → times i (line v q) ≤ 1
+      go (yes k) = omega arith
+      go (no k) = rw (g .queues q e .stands i (known-in k)) (once-le (belongs (v .body) q i))
+
+pub one-line : (v : View) → Sound v → OneLine v
+one-line v g = record {
+  once = λ q e i. stands-once v g q e i;
+  one = λ q r a b i j e s t. one-place (v .body) q r i j e (stands-belongs v g q a i s) (stands-belongs v g r b j t);
+}
+
+-- ---- the first nonempty list
+
+-- of F k to F (k + n - 1), all are empty; or one is not, and those before it are
+record Nowhere (F : ℕ → List ℕ) (k n : ℕ) (found : List ℕ) : Type 0 where
+  empty : (p : ℕ) → k ≤ p → p < k + n → F p ≡ []
+  none-found : found ≡ []
+
+record Somewhere (F : ℕ → List ℕ) (k n : ℕ) (found : List ℕ) : Type 0 where
+  place : ℕ
+  low : k ≤ place
+  high : place < k + n
+  head : ℕ
+  tail : List ℕ
+  holds : F place ≡ head ∷ tail
+  before : (p : ℕ) → k ≤ p → p < place → F p ≡ []
+  is-found : found ≡ head ∷ tail
+
+nonempty-from : (F : ℕ → List ℕ) (k n : ℕ) → Nowhere F k n (nonempty (map F (from k n))) ⊎ Somewhere F k n (nonempty (map F (from k n)))
+nonempty-from F k zero = inl (record { empty = λ p a b. absurd (omega arith); none-found = refl })
+nonempty-from F k (suc n) = go (F k) refl (nonempty-from F (suc k) n)
+  where
+    at-first : {P : Type 0} (p : ℕ) → k ≤ p → (p ≡ k → P) → (suc k ≤ p → P) → P
+    at-first p a f g = elim (ℕ-discrete p k) [ yes e ↦ f e | no e ↦ g (omega arith) ]
+
+    go : (l : List ℕ) → F k ≡ l → Nowhere F (suc k) n (nonempty (map F (from (suc k) n))) ⊎ Somewhere F (suc k) n (nonempty (map F (from (suc k) n)))
+        → Nowhere F k (suc n) (nonempty (l ∷ map F (from (suc k) n))) ⊎ Somewhere F k (suc n) (nonempty (l ∷ map F (from (suc k) n)))
+    go [] e (inl h) = inl (record { empty = λ p a b. at-first p a (λ c. rw c e) (λ c. h .empty p c (omega arith)); none-found = h .none-found })
+    go [] e (inr h) = inr (record {
+      place = h .place;
+      low = omega (arith, h .low);
+      high = omega (arith, h .high);
+      head = h .head;
+      tail = h .tail;
+      holds = h .holds;
+      before = λ p a b. at-first p a (λ c. rw c e) (λ c. h .before p c b);
+      is-found = h .is-found;
+    })
+    go (x ∷ l) e h = inr (record {
+      place = k;
+      low = omega arith;
+      high = omega arith;
+      head = x;
+      tail = l;
+      holds = e;
+      before = λ p a b. absurd (omega arith);
+      is-found = refl;
+    })
+
+-- ---- who runs
+
+-- whoever belongs to a queue of the plain kernel stands in it once, and nobody else does
+pub times-queue : (s : Plain) (q : Place) (i : ℕ) → times i (queueOf s q) ≡ once (belongs (s .body) q i)
+unfolding queueOf
+times-queue s q i =
+    times-byNumber i (λ j. numberOf s (item q j)) (keep (belongs (s .body) q) (ids (many (s .body) q))) ∙ times-keep i (belongs (s .body) q) (ids (many (s .body) q))
+    ∙ go (belongs (s .body) q i) refl
+  where
+    go : (t : Bool) → belongs (s .body) q i ≡ t → cond t (times i (ids (many (s .body) q))) 0 ≡ once t
+    go true e = times-ids i (many (s .body) q) (in-range (s .body) q i e)
+    go false e = refl
+
+module _ (s : Plain) (g : Sound (viewOf s)) (o : Ordered s) where
+  -- the ready queue of a priority
+  abbrev queue : ℕ → List ℕ
+  queue p = queueOf s (readyAt p)
+
+  abbrev rank : ℕ → ℕ
+  rank i = task (s .body) i .priority
+
+  ready-belongs : (j : ℕ) → Ready s j → belongs (s .body) (readyAt (rank j)) j ≡ true
+  unfolding belongs
+  ready-belongs j r = rw (r, eq-eqb (rank j) (rank j) refl)
+
+  ready-stands : (j : ℕ) → Ready s j → times j (queue (rank j)) ≢ 0
+  ready-stands j r e = go (sym e ∙ times-queue s (readyAt (rank j)) j ∙ ap once (ready-belongs j r))
+    where
+      go : _≡_ {A = ℕ} 0 1 → ⊥
+      go k = omega arith
+
+  stands-ready : (p j : ℕ) → times j (queue p) ≢ 0 → Ready s j × (rank j ≡ p)
+  stands-ready p j t = go (belongs (s .body) (readyAt p) j) refl (times-queue s (readyAt p) j)
+    where
+      go : (b : Bool) → belongs (s .body) (readyAt p) j ≡ b → times j (queue p) ≡ once b → Ready s j × (rank j ≡ p)
+      go true e k = ready-is (s .body) p j e
+      go false e k = absurd (t k)
+
+  ready-id : (j : ℕ) → Ready s j → In j (length (s .body .tasks))
+  unfolding many
+  ready-id j r = in-range (s .body) (readyAt (rank j)) j (ready-belongs j r)
+
+  ready-rank : (j : ℕ) → Ready s j → In (rank j) (s .body .store .priorities)
+  unfolding viewOf
+  ready-rank j r = g .body .tasks j (ready-id j r) .priority
+
+  abbrev found : List ℕ
+  found = nonempty (map queue (from 1 (s .body .store .priorities)))
+
+  runs-found : running (viewOf s) ≡ first found
+  unfolding running viewOf tabulate ids
+  runs-found = refl
+
+  -- a queue in which a READY or RUN task stands is not empty
+  not-empty : (j : ℕ) → Ready s j → queue (rank j) ≡ [] → ⊥
+  unfolding times
+  not-empty j r e = ready-stands j r (rw e)
+
+  module _ (h : Nowhere queue 1 (s .body .store .priorities) found) where
+    none-ready : (j : ℕ) → Ready s j → ⊥
+    none-ready j r = not-empty j r (h .empty (rank j) (ready-rank j r .0) (omega (arith, ready-rank j r .1)))
+
+    none-runs : running (viewOf s) ≡ 0
+    none-runs = runs-found ∙ ap (λ (l : List ℕ). first l) (h .none-found)
+
+  module _ (h : Somewhere queue 1 (s .body .store .priorities) found) where
+    head-runs : running (viewOf s) ≡ h .head
+    head-runs = runs-found ∙ ap (λ (l : List ℕ). first l) (h .is-found)
+
+    head-ready : Ready s (h .head) × (rank (h .head) ≡ h .place)
+    head-ready = stands-ready (h .place) (h .head) (rw (h .holds) (times-head (h .head) (h .tail)))
+
+    -- the others of its queue have larger numbers
+    behind : (j : ℕ) → Ready s j → rank j ≡ h .place → j ≢ h .head → numberOf s (aTask (h .head)) < numberOf s (aTask j)
+    unfolding times
+    behind j r e n =
+        subst (λ (l : List ℕ). Rising (λ i. numberOf s (aTask i)) l) (h .holds) (o (readyAt (h .place))) .0 j
+        (λ k. ready-stands j r (rw (e, h .holds, ne-eqb (h .head) j (λ d. n (sym d)), k)))
+
+    head-least : (j : ℕ) → Ready s j → Before s j (h .head) → ⊥
+    head-least j r (inl a) = not-empty j r (h .before (rank j) (ready-rank j r .0) (omega (arith, head-ready .1)))
+    head-least j r (inr a) = go (ℕ-discrete j (h .head))
+      where
+        go : Dec (j ≡ h .head) → ⊥
+        go (yes e) = omega (arith, a .1, ap (λ (k : ℕ). numberOf s (aTask k)) e)
+        go (no e) = omega (arith, behind j r (a .0 ∙ head-ready .1) e, a .1)
+
+    least-head : (r : ℕ) → Ready s r → ((j : ℕ) → Ready s j → Before s j r → ⊥) → h .head ≡ r
+    least-head r k f = go (ℕ-discrete r (h .head)) (decLt (rank r) (h .place)) (decLt (h .place) (rank r))
+      where
+        go : Dec (r ≡ h .head) → Dec (rank r < h .place) → Dec (h .place < rank r) → h .head ≡ r
+        go (yes e) b c = sym e
+        go (no e) (yes b) c = absurd (not-empty r k (h .before (rank r) (ready-rank r k .0) b))
+        go (no e) (no b) (yes c) = absurd (f (h .head) (head-ready .0) (inl (omega (arith, head-ready .1))))
+        go (no e) (no b) (no c) =
+            absurd (f (h .head) (head-ready .0) (inr (omega (arith, head-ready .1), behind r k (omega arith) e)))
+
+pub who-runs : (s : Plain) → Sound (viewOf s) → Ordered s → WhoRuns s
+who-runs s g o = go (nonempty-from (queue s g o) 1 (s .body .store .priorities))
+  where
+    unready : (i : ℕ) → (Ready s i → ⊥) → isReady (task (s .body) i .state) ≡ false
+    unready i h = side (isReady (task (s .body) i .state)) h
+      where
+        side : (t : Bool) → (t ≡ true → ⊥) → t ≡ false
+        side true k = absurd (k refl)
+        side false k = refl
+
+    go : Nowhere (queue s g o) 1 (s .body .store .priorities) (found s g o) ⊎ Somewhere (queue s g o) 1 (s .body .store .priorities) (found s g o) → WhoRuns s
+    go (inl h) = record {
+      somebody = λ r. (λ e. absurd (e .0 (sym (e .1) ∙ none-runs s g o h)), λ e. absurd (none-ready s g o h r (e .0)));
+      nobody = (λ e j. unready j (none-ready s g o h j), λ e. none-runs s g o h);
+    }
+    go (inr h) = record {
+      somebody = λ r. (
+        λ e. let k : h .head ≡ r = sym (head-runs s g o h) ∙ e .1 in (rw (← k) (head-ready s g o h .0), λ j a b. head-least s g o h j a (rw k b)),
+        λ e. (λ z. omega (arith, ready-id s g o r (e .0) .0), head-runs s g o h ∙ least-head s g o h r (e .0) (e .1)),
+      );
+      nobody = (λ e j. absurd (omega (arith, ready-id s g o (h .head) (head-ready s g o h .0) .0, e, head-runs s g o h)), λ e. absurd (false≢true (sym (e (h .head)) ∙ head-ready s g o h .0)));
+    }
