@@ -1,6 +1,6 @@
 -- What a setup that is accepted says, and that its idle state is sound. A fact about the reader is a predicate on what is read, carried
 -- from read to read (`reads-then`); a refused read has nothing to show. Assumes nothing.
-use mathlib.Core.Bool.{Bool, true, false, cond, _&&_}
+use mathlib.Core.Bool.{Bool, true, false, cond}
 use mathlib.Core.List.{List, [], _∷_, map}
 use mathlib.Core.Logic.{inl}
 use mathlib.Core.Option.{Option, none}
@@ -9,7 +9,7 @@ use Prim.Native.Nat.{ℕ, zero, suc, _+_, _-_, _≤_, _<_, _^_}
 use native.Mathlib.Nat.{le-antisymm}
 use native.Mathlib.Omega.{arith}
 use lib.Dec.{leb, lit<}
-use lib.ListN.{length, getD, replicate, length-map, length-replicate}
+use lib.ListN.{length, getD, length-map, length-replicate}
 use borrow.Author.Tests.{leb-true}
 use Rattle.rules.specs.Ids.{of, In, once, times}
 use Rattle.rules.specs.Setup.{Fault, S1, S2, S3, S4, Read, got, refused, and-then, wordAt, Range, to, within, readWord, Section, priorities, sections, readEntry, readEntries, readSection, readSections, Entry, Setup, setupOf, readSetup, at-end, setup, taskEntry, wordOf}
@@ -17,15 +17,13 @@ use Rattle.rules.specs.State.{dormant, nobody}
 use Rattle.rules.specs.Places.{Place, readyAt, waiters, mail, belongs, tabulate}
 use Rattle.rules.specs.Sound.{SoundTask, SoundBody, Sound}
 use Rattle.rules.specs.Kernel.{idleTask, idle}
+use Rattle.rules.proofs.Ids.{Each, of-replicate}
+use Rattle.rules.proofs.Waits.{both-true}
 use Rattle.rules.proofs.Lines.{line-tabulate, shape-tabulate}
 
 -- ---- what holds of each of a list
 
 module _ {A : Type 0} where
-  abbrev pub Each : (A → Type 0) → List A → Type 0
-  Each P [] = Unit {0}
-  Each P (x ∷ l) = P x × Each P l
-
   each-of : (P : A → Type 0) (l : List A) (i : ℕ) (d : A) → Each P l → In i (length l) → P (of l i d)
   each-of P l zero d h r = absurd (omega (arith, r .0))
   each-of P [] (suc i) d h r = absurd (omega (arith, r .1))
@@ -84,10 +82,6 @@ SectionsFit [] [] = Unit {0}
 SectionsFit [] (x ∷ xs) = ⊥
 SectionsFit (t ∷ l) [] = ⊥
 SectionsFit (t ∷ l) (x ∷ xs) = SectionFits t x × SectionsFit l xs
-
-both-true : (s t : Bool) → (s && t) ≡ true → (s ≡ true) × (t ≡ true)
-both-true true t e = (refl, e)
-both-true false t e = absurd (mathlib.Core.Bool.false≢true e)
 
 -- nothing is read past the end
 module _ (s : List ℕ) where
@@ -206,19 +200,13 @@ idle-state [] i = refl
 idle-state (x ∷ l) zero = refl
 idle-state (x ∷ l) (suc i) = idle-state l i
 
-idle-message : (n i : ℕ) → _≡_ {A = Option ℕ} (of (replicate n none) i none) none
-idle-message n zero = refl
-idle-message zero (suc i) = refl
-idle-message (suc n) (suc zero) = refl
-idle-message (suc n) (suc (suc i)) = idle-message n (suc i)
-
 pub nobody-belongs : (u : Setup) (q : Place) (i : ℕ) → belongs (idle u) q i ≡ false
 unfolding belongs idle
 nobody-belongs u (readyAt p) zero = refl
 nobody-belongs u (readyAt p) (suc i) = rw (idle-state (u .tasks) i)
 nobody-belongs u (waiters k o) zero = refl
 nobody-belongs u (waiters k o) (suc i) = rw (idle-state (u .tasks) i)
-nobody-belongs u (mail m) i = rw (idle-message (u .messages) i)
+nobody-belongs u (mail m) i = rw (of-replicate {A = Option ℕ} (u .messages) i none)
 
 module _ (u : Setup) (g : GoodSetup u) where
   idle-task : (e : Entry) → In (e .priority) (u .priorities) → SoundTask (idle u .store) (idleTask e)
@@ -250,7 +238,7 @@ module _ (u : Setup) (g : GoodSetup u) where
     store = record {
       semaphores = λ s r. each-of _ (u .semaphores) s 0 (g .counts) r;
       flags = λ f r. each-of _ (u .flags) f 0 (g .patterns) r;
-      messages = λ j r. rw (idle-message (u .messages) j) tt;
+      messages = λ j r. rw (of-replicate {A = Option ℕ} (u .messages) j none) tt;
       pools = λ p r. each-of (λ l. In (length l) 32) _ p [] (each-map _ _ _ (u .pools) (λ n h. rw (length-replicate n true) h) (g .blocks)) r;
       clock = lit< tt;
     };

@@ -1,17 +1,17 @@
 -- The plain kernel's view after an act, an event, or a start is its view before, after the same on queues: in each queue one that goes
 -- last has the largest number, and the others keep theirs.
 use mathlib.Core.Bool.{Bool, true, false, not}
-use mathlib.Core.List.{List, [], _∷_, _++_, map, append-nil}
-use mathlib.Core.Option.{Option, none}
+use mathlib.Core.List.{List, [], _∷_, _++_, append-nil}
+use mathlib.Core.Option.{none}
 use mathlib.Core.Path.{_≡_, refl, sym, ap, _∙_}
-use Prim.Native.Nat.{ℕ, zero, suc, _<_}
+use Prim.Native.Nat.{ℕ, suc, _<_}
 use native.Mathlib.Omega.{arith}
 use lib.Dec.{eqb}
-use lib.ListN.{length, length-map, length-replicate, getD, replicate}
+use lib.ListN.{length, length-map, length-replicate, replicate}
 use Rattle.rules.specs.Ids.{of, put, ids, In, keep, byNumber}
-use Rattle.rules.specs.State.{dormant, Body, nobody}
+use Rattle.rules.specs.State.{Body}
 use Rattle.rules.specs.Places.{Place, readyAt, waiters, mail, Item, aTask, aMessage, item, same, many, belongs, Exists, tabulate}
-use Rattle.rules.specs.Setup.{Entry, Setup}
+use Rattle.rules.specs.Setup.{Setup}
 use Rattle.rules.specs.Events.{Event}
 use Rattle.rules.specs.Acts.{Act, after, Move, stay, leave, last, move}
 use Rattle.rules.specs.View.{line, moved, act, acts}
@@ -19,9 +19,10 @@ use Rattle.rules.specs.Table.{judge}
 use Rattle.rules.specs.Answers.{answer}
 use Rattle.rules.specs.Kernel.{idleTask, idle, starts, fresh, next, served}
 use Rattle.rules.specs.Plain.{Plain, numberOf, queueOf, viewOf, numbered, plainAct, plainActs, unstarted, plainFresh, plainNext, plainAnswer}
-use Rattle.rules.proofs.Ids.{length-put, of-put-other, of-put-same, put-any, keep-keep, keep-same, keep-none}
+use Rattle.rules.proofs.Ids.{of-replicate, length-put, of-put-other, of-put-same, put-any, keep-keep, keep-same, keep-none}
 use Rattle.rules.proofs.Fits.{Fits, fits, tasks-after, messages-after, many-after, in-range}
 use Rattle.rules.proofs.Lines.{line-tabulate, tabulate-same, exists-after}
+use Rattle.rules.proofs.Accepted.{nobody-belongs}
 use Rattle.rules.proofs.Sorting.{keep-byNumber, sort-last}
 
 -- each number is below the count, and each task and each message has a number
@@ -179,11 +180,6 @@ acts-show (a ∷ l) s h = acts-show l (plainAct a s) (numbers-act a s h) ∙ ap 
 
 -- ---- the fresh state
 
-getD-blank {ℓ} : {A : Type ℓ} (n i : ℕ) (d : A) → getD (replicate n d) i d ≡ d
-getD-blank zero i d = refl
-getD-blank (suc n) zero d = refl
-getD-blank (suc n) (suc i) d = getD-blank n i d
-
 pub numbers-unstarted : (u : Setup) → Numbers (unstarted u)
 unfolding unstarted idle
 numbers-unstarted u = record {
@@ -193,26 +189,11 @@ numbers-unstarted u = record {
 }
   where
     none-yet : (n i : ℕ) → of (replicate n 0) i 0 < 1
-    none-yet n zero = omega arith
-    none-yet n (suc i) = omega (arith, getD-blank {A = ℕ} n i 0)
+    none-yet n i = omega (arith, of-replicate {A = ℕ} n i 0)
 
     zeroes : (x : Item) → numberOf (unstarted u) x < 1
     zeroes (aTask i) = none-yet (length (u .tasks)) i
     zeroes (aMessage i) = none-yet (u .messages) i
-
-idle-state : (l : List Entry) (i : ℕ) → getD (map idleTask l) i nobody .state ≡ dormant
-idle-state [] i = refl
-idle-state (x ∷ l) zero = refl
-idle-state (x ∷ l) (suc i) = idle-state l i
-
-pub nobody-belongs : (u : Setup) (q : Place) (i : ℕ) → belongs (idle u) q i ≡ false
-unfolding belongs idle
-nobody-belongs u (readyAt p) zero = refl
-nobody-belongs u (readyAt p) (suc i) = rw (idle-state (u .tasks) i)
-nobody-belongs u (waiters k o) zero = refl
-nobody-belongs u (waiters k o) (suc i) = rw (idle-state (u .tasks) i)
-nobody-belongs u (mail m) zero = refl
-nobody-belongs u (mail m) (suc i) = rw (getD-blank {A = Option ℕ} (u .messages) i none)
 
 pub queue-unstarted : (u : Setup) (q : Place) → queueOf (unstarted u) q ≡ []
 unfolding queueOf unstarted byNumber

@@ -4,34 +4,36 @@ use mathlib.Core.Bool.{Bool, true, false, not, cond, _&&_, _||_, and-false, fals
 use mathlib.Core.List.{List, [], _∷_, _++_, map}
 use mathlib.Core.Logic.{_⊎_, inl, inr, _≢_}
 use mathlib.Core.Option.{Option, none, some}
-use mathlib.Core.Path.{_≡_, refl, sym, ap, _∙_, subst}
+use mathlib.Core.Path.{_≡_, refl, sym, ap, _∙_}
 use Prim.Native.Nat.{ℕ, zero, suc, _+_, _-_, _≤_, _<_}
 use native.Mathlib.Nat.{add-zero, zero-add}
 use native.Mathlib.Omega.{arith}
-use lib.Dec.{eqb, leb}
+use lib.Dec.{eqb}
 use lib.IntN.{ℤ, pos, negsuc}
 use lib.ListN.{length, getD, set}
-use borrow.Author.Tests.{eqb-true, eqb-false, eq-eqb, ne-eqb, not-false}
-use Rattle.rules.specs.Ids.{of, put, ids, In, keep, once, times, first}
-use Rattle.rules.specs.Codes.{Code, OK, H-CALL, E-CTX, E-SELF, E-DMT, E-TMOUT, E-RLWAI, H-POLL, number}
-use Rattle.rules.specs.State.{Kind, semaphore, flag, mailbox, pool, Wait, asleep, timed, on, State, dormant, ready, suspended, waiting, waiting-suspended, Task, Store, Body, task, nobody, objects, waitOf, wish, isDormant, isWaiting, isFreed, sleeps}
-use Rattle.rules.specs.Places.{Place, waiters, mail, many, belongs, sameKind, waitsOn, awaits, Exists}
+use borrow.Author.Tests.{eqb-true, not-false}
+use Rattle.rules.specs.Ids.{of, put, ids, In, once, times, first}
+use Rattle.rules.specs.Codes.{Code, OK, E-TMOUT, E-RLWAI, H-POLL, number}
+use Rattle.rules.specs.State.{Kind, semaphore, flag, mailbox, pool, Wait, asleep, timed, on, State, dormant, ready, suspended, waiting, waiting-suspended, Task, Body, task, nobody, objects, waitOf, wish, isDormant, isWaiting, isFreed, sleeps}
+use Rattle.rules.specs.Places.{waiters, mail, belongs, sameKind, waitsOn, awaits}
 use Rattle.rules.specs.Events.{Event, tick, call, nat, bits, outside}
 use Rattle.rules.specs.Acts.{Act, start, retire, rotate, regrade, wait, release, suspend, resume, wakeups, count, pattern, post, receive, mark, elapse, change, started, retired, freed, releasedTask, halted, resumed, older, with-state, with-priority, with-wakeups, with-cell, after, afters}
 use Rattle.rules.specs.View.{View, line}
-use Rattle.rules.specs.Verdicts.{Verdict, refuse, gives, done, waits, check, choose, onFirst, onCount}
+use Rattle.rules.specs.Verdicts.{Verdict, refuse, gives, waits, check, choose, onFirst, onCount}
 use Rattle.rules.specs.Tasks.{stateOf, sta-tsk, ext-tsk, ter-tsk, chg-pri, rot-rdq, rel-wai, sus-tsk, rsm-tsk, take-wakeup, slp-tsk, wai-for, wai-tsk, wup-tsk, can-wup, get-tid, tsk-sts}
 use Rattle.rules.specs.Objects.{polls, waits-on, countOf, patternOf, free, to-first, obj-sts, met, left, serve-flag, sig-sem, take-sem, set-flg, clr-flg, take-flg, snd-msg, take-msg, blocksOf, lowest, take-blk, rel-blk}
 use Rattle.rules.specs.Time.{get-tim, ending, endings, timeout, ticked}
-use Rattle.rules.specs.Table.{Refusal, Row, caller, table, judge}
-use Rattle.rules.specs.Sound.{Known, Sound}
+use Rattle.rules.specs.Table.{caller, table, judge}
+use Rattle.rules.specs.Sound.{Sound}
 use Rattle.rules.specs.Answers.{Answer, answer}
 use Rattle.rules.specs.Kernel.{next, served}
 use Rattle.rules.specs.Blocks.{isFree, is, ok, taken, handed, handedCount, returned}
-use Rattle.rules.proofs.Ids.{of-put-same, of-put-other, tested, times-keep, times-head, times-tail}
+use Rattle.rules.proofs.Ids.{of-put-same, of-put-other, tested, kept-passes, times-head, times-tail}
+use Rattle.rules.proofs.Fits.{older-awaits}
+use Rattle.rules.proofs.Keeps.{halted-same, resumed-same}
 use Rattle.rules.proofs.Cells.{change-each, map-each, body-acts}
-use Rattle.rules.proofs.Judge.{by-call, by-check, by-first, by-count, Bads, AllRows}
-use Rattle.rules.proofs.Queues.{standing-belongs, first-belongs}
+use Rattle.rules.proofs.Judge.{_⊗_, by-call, by-check, by-first, by-count, AllRows}
+use Rattle.rules.proofs.Queues.{stands-belongs, first-belongs}
 use Rattle.rules.proofs.Waits.{in-by, neither, waits-other}
 
 -- ---- no block is handed to a task
@@ -85,38 +87,13 @@ released-pools c w t h p = go (t .state) refl
     go (waiting-suspended x) e = rw (h p) (rw e)
 
 older-pools : (t : Task) → Same-pools t (with-state (older (t .state)) t)
-older-pools t p = go (t .state)
-  where
-    go : (s : State) → awaits (older s) pool p ≡ awaits s pool p
-    go dormant = refl
-    go ready = refl
-    go suspended = refl
-    go (waiting asleep) = refl
-    go (waiting (timed n)) = refl
-    go (waiting (on k o q m)) = refl
-    go (waiting-suspended asleep) = refl
-    go (waiting-suspended (timed n)) = refl
-    go (waiting-suspended (on k o q m)) = refl
+older-pools t p = older-awaits (t .state) pool p
 
 halted-pools : (t : Task) → Same-pools t (with-state (halted (t .state)) t)
-halted-pools t p = go (t .state)
-  where
-    go : (s : State) → awaits (halted s) pool p ≡ awaits s pool p
-    go dormant = refl
-    go ready = refl
-    go suspended = refl
-    go (waiting w) = refl
-    go (waiting-suspended w) = refl
+halted-pools t p = ap (λ (w : Option Wait). waitsOn w pool p) (halted-same (t .state) .0)
 
 resumed-pools : (t : Task) → Same-pools t (with-state (resumed (t .state)) t)
-resumed-pools t p = go (t .state)
-  where
-    go : (s : State) → awaits (resumed s) pool p ≡ awaits s pool p
-    go dormant = refl
-    go ready = refl
-    go suspended = refl
-    go (waiting w) = refl
-    go (waiting-suspended w) = refl
+resumed-pools t p = ap (λ (w : Option Wait). waitsOn w pool p) (resumed-same (t .state) .0)
 
 dormant-no-pool : (s : State) → isDormant s ≡ true → No-pool s
 dormant-no-pool dormant e p = refl
@@ -210,7 +187,9 @@ Asides b (a ∷ l) = Aside b a × Asides b l
 
 aside-act : (b c : Body) (a : Act) → Aside b a → Pools-kept b c → Pools-kept b (after a c)
 unfolding after
-aside-act b c a (frees j d w n) k i p = change-each Same-pools same-task (releasedTask d w) j c (λ t e. released-pools d w t (λ q. ap (λ (t : Task). awaits (t .state) pool q) e ∙ k j q ∙ n q)) i p ∙ k i p
+aside-act b c a (frees j d w n) k i p =
+    change-each Same-pools same-task (releasedTask d w) j c (λ t e. released-pools d w t (λ q. ap (λ (t : Task). awaits (t .state) pool q) e ∙ k j q ∙ n q)) i p
+    ∙ k i p
 aside-act b c a (sets f n) k i p = k i p
 aside-act b c a elapses k i p = map-each Same-pools same-task (λ t. with-state (older (t .state)) t) older-pools (c .tasks) i nobody p ∙ k i p
 
@@ -287,22 +266,6 @@ module _ {b : Body} where
 
 -- ---- who is released by other calls waits on no pool
 
-known-in : (x n : ℕ) (l : List ℕ) → Known n l → times x l ≢ 0 → In x n
-unfolding times
-known-in x n [] k z = absurd (z refl)
-known-in x n (y ∷ l) k z = go (eqb y x) refl z (known-in x n l (k .1))
-  where
-    go : (t : Bool) → eqb y x ≡ t → once t + times x l ≢ 0 → (times x l ≢ 0 → In x n) → In x n
-    go true e z h = subst (λ (i : ℕ). In i n) (eqb-true y x e) (k .0)
-    go false e z h = h (λ w. z (omega arith))
-
-kept-passes : (p : ℕ → Bool) (x : ℕ) (l : List ℕ) → times x (keep p l) ≢ 0 → p x ≡ true
-kept-passes p x l h = go (p x) refl
-  where
-    go : (t : Bool) → p x ≡ t → t ≡ true
-    go true e = refl
-    go false e = absurd (h (times-keep x p l ∙ rw e))
-
 sleeper-no-pool : (x : Option Wait) → sleeps x ≡ true → (p : ℕ) → waitsOn x pool p ≡ false
 sleeper-no-pool none e p = refl
 sleeper-no-pool (some asleep) e p = refl
@@ -324,7 +287,8 @@ module _ (v : View) (s : Sound v) where
   other-kind : (k : Kind) (o : ℕ) → sameKind k pool ≡ false → (x : ℕ) → awaits (task (v .body) x .state) k o ≡ true → No-pool (task (v .body) x .state)
   other-kind k o n x e p = waits-other (waitOf (task (v .body) x .state)) k pool o p e ∙ rw n
 
-  still-to-first : (k : Kind) (a : ℤ) (w : ℕ) (r : Verdict) → sameKind k pool ≡ false → outside a (objects (v .body .store) k) ≡ false → StillVerdict (v .body) r → StillVerdict (v .body) (to-first v k a w r)
+  still-to-first : (k : Kind) (a : ℤ) (w : ℕ) (r : Verdict) → sameKind k pool ≡ false → outside a (objects (v .body .store) k) ≡ false
+      → StillVerdict (v .body) r → StillVerdict (v .body) (to-first v k a w r)
   unfolding to-first
   still-to-first k a w r n o h = still-first _ r _ h (λ x m e. still-done 0 0 (release x OK w) (inr (other-kind k (nat a) n x (waiter-waits k (nat a) (in-by a _ o) x m e))))
 
@@ -340,12 +304,10 @@ module _ (v : View) (s : Sound v) where
       go true g k = (frees x OK have (h x (times-head x l)), g)
       go false g k = k
 
-  standing : (q : Place) → Exists (v .body .store) q → (x : ℕ) → times x (line v q) ≢ 0 → belongs (v .body) q x ≡ true
-  standing q r x z = standing-belongs (v .body) q (line v q) (s .queues q r) x (known-in x (many (v .body) q) (line v q) (s .queues q r .known) z) z
-
   still-set : (a b : ℤ) → outside a (objects (v .body .store) flag) ≡ false → StillVerdict (v .body) (set-flg v a b)
   unfolding set-flg belongs
-  still-set a b o = still (still-list (v .body) _ (flag-asides (nat a) _ (line v (waiters flag (nat a))) (λ x z. other-kind flag (nat a) refl x (standing (waiters flag (nat a)) (in-by a _ o) x z))))
+  still-set a b o =
+      still (still-list (v .body) _ (flag-asides (nat a) _ (line v (waiters flag (nat a))) (λ x z. other-kind flag (nat a) refl x (stands-belongs v s (waiters flag (nat a)) (in-by a _ o) x z))))
 
 -- the tick
 tick-asides : (b : Body) (l : List ℕ) → ((x : ℕ) → times x l ≢ 0 → No-pool (task b x .state)) → Asides b (map timeout l ++ elapse ∷ [])
@@ -450,10 +412,6 @@ hand-balance b i q j e p k =
 
 -- ---- every call
 
-infixr 5 _⊗_
-_⊗_ : {A B : Type 0} → A → B → A × B
-x ⊗ y = (x, y)
-
 -- the lowest free block is free
 lowest-free : (k j : ℕ) (l : List Bool) → lowest k l ≡ suc j → k ≢ 0 → (k ≤ suc j) × (getD l (suc j - k) true ≡ true)
 lowest-free k j [] e z = absurd (omega arith)
@@ -515,14 +473,23 @@ module _ (v : View) (s : Sound v) (x a y z : ℤ) (p k : ℕ) (rp : In p (length
         ⊗ ((refl, tt), λ w c t d. quiet (pos 8) _ refl refl refl (still-check _ _ _ (λ e. still-done 0 0 (resume (nat a)) tt)))
         ⊗ (tt, λ w c t d. quiet (pos 9) _ refl refl refl (still-count _ _ _ (still-waits me _) (λ n. still-done 0 0 (wakeups me n) tt)))
         ⊗ ((refl, tt), λ w c t d. quiet (pos 10) _ refl refl refl (still-count _ _ _ (still-wait me a) (λ n. still-done 0 0 (wakeups me n) tt)))
-        ⊗ ((refl, tt), λ w c t d. quiet (pos 11) _ refl refl refl (still-choose _ _ _ (λ e. still-done 0 0 (release (nat a) OK 0) (inr (sleeper-no-pool (waitOf (stateOf v a)) e))) (λ e. still-check _ _ _ (λ f. still-done 0 0 (wakeups (nat a) _) tt))))
+        ⊗ (
+          (refl, tt),
+          λ w c t d. quiet (pos 11) _ refl refl refl (still-choose _ _ _
+              (λ e. still-done 0 0 (release (nat a) OK 0) (inr (sleeper-no-pool (waitOf (stateOf v a)) e)))
+              (λ e. still-check _ _ _ (λ f. still-done 0 0 (wakeups (nat a) _) tt))),
+        )
         ⊗ ((refl, tt), λ w c t d. quiet (pos 12) (can-wup v a) refl refl refl (still-done _ 0 (wakeups (nat a) 0) tt))
         ⊗ ((refl, tt), λ w c t d. quiet (pos 13) _ refl refl refl (still-to-first v s semaphore a 0 _ refl (w .0) (still-check _ _ _ (λ f. still-done 0 0 (count (nat a) _) tt))))
         ⊗ ((refl, tt), λ w c t d. quiet (pos 14) _ refl refl refl (still-count _ _ _ (still-waits me _) (λ n. still-done 0 0 (count (nat a) n) tt)))
         ⊗ ((refl, tt), λ w c t d. quiet (pos 15) _ refl refl refl (still-count _ _ _ (still-refuse _) (λ n. still-done 0 0 (count (nat a) n) tt)))
         ⊗ ((refl, tt), λ w c t d. quiet (pos 16) _ refl refl refl (still-set v s a y (w .0)))
         ⊗ ((refl, tt), λ w c t d. quiet (pos 17) _ refl refl refl (still-done 0 0 (pattern (nat a) _) tt))
-        ⊗ ((refl, (refl, (refl, tt))), λ w c t d. quiet (pos 18) (take-flg v a y z (waits me (on flag (nat a) (bits y) (nat z)))) refl refl refl (still-choose _ _ _ (λ e. still-done _ 0 (pattern (nat a) _) tt) (λ e. still-waits me _)))
+        ⊗ (
+          (refl, (refl, (refl, tt))),
+          λ w c t d. quiet (pos 18) (take-flg v a y z (waits me (on flag (nat a) (bits y) (nat z)))) refl refl refl
+              (still-choose _ _ _ (λ e. still-done _ 0 (pattern (nat a) _) tt) (λ e. still-waits me _)),
+        )
         ⊗ ((refl, (refl, (refl, tt))), λ w c t d. quiet (pos 19) (take-flg v a y z polls) refl refl refl (still-choose _ _ _ (λ e. still-done _ 0 (pattern (nat a) _) tt) (λ e. still-refuse _)))
         ⊗ ((refl, (refl, tt)), λ w c t d. quiet (pos 20) _ refl refl refl (still-check _ _ _ (λ e. still-to-first v s mailbox a (nat y) _ refl (w .0) (still-done 0 0 (post (nat y) (nat a)) tt))))
         ⊗ ((refl, tt), λ w c t d. quiet (pos 21) (take-msg v a (waits-on me mailbox a)) refl refl refl (still-first _ _ _ (still-waits me _) (λ i m e. still-done i 0 (receive i) tt)))

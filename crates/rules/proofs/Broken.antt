@@ -1,22 +1,20 @@
 -- Demand 2's broken mark: after an accepted rel_wai the cell reads E_RLWAI and 0 until the task's next release or start. Assumes nothing.
-use mathlib.Core.Bool.{Bool, true, false, not, cond, false≢true}
+use mathlib.Core.Bool.{Bool, true, false, cond, false≢true}
 use mathlib.Core.List.{List, [], _∷_}
-use mathlib.Core.Logic.{_⊎_, inl, inr}
+use mathlib.Core.Logic.{inl, inr}
 use mathlib.Core.Option.{Option, none, some}
 use mathlib.Core.Path.{_≡_, refl, sym, ap, _∙_}
-use Prim.Native.Nat.{ℕ, zero, suc}
-use lib.IntN.{ℤ, pos, negsuc, natAbs}
+use Prim.Native.Nat.{ℕ}
+use lib.IntN.{ℤ, pos}
 use lib.ListN.{length}
-use native.Mathlib.Omega.{arith}
 use borrow.Author.Tests.{not-false}
-use Rattle.rules.specs.Ids.{of, In}
 use Rattle.rules.specs.Codes.{Code, H-CALL, E-NOEXS, E-CTX, E-SELF, E-DMT, E-NOWAI, E-RLWAI, number, negative, refuses}
-use Rattle.rules.specs.State.{State, Cell, Task, Body, task, nobody, isWaiting}
-use Rattle.rules.specs.Events.{Event, tick, call, Words, AllWords, nat, outside}
+use Rattle.rules.specs.State.{Body, task, nobody, isWaiting}
+use Rattle.rules.specs.Events.{Event, call, Words, AllWords, nat, outside}
 use Rattle.rules.specs.Acts.{Act, release, releasedTask, after, afters}
 use Rattle.rules.specs.View.{View}
-use Rattle.rules.specs.Verdicts.{Verdict, refuse, gives, waits, check}
-use Rattle.rules.specs.Tasks.{stateOf, rel-wai}
+use Rattle.rules.specs.Verdicts.{Verdict, refuse, check}
+use Rattle.rules.specs.Tasks.{rel-wai}
 use Rattle.rules.specs.Table.{refusals, judged, table, handler, looked-up, called, judge}
 use Rattle.rules.specs.Answers.{answer, readCell}
 use Rattle.rules.specs.Sound.{Sound}
@@ -25,7 +23,7 @@ use Rattle.rules.specs.Broken.{broken, isFresh, Unless, StaysBroken}
 use Rattle.rules.proofs.Ids.{of-put-same, length-put}
 use Rattle.rules.proofs.Fits.{tasks-after}
 use Rattle.rules.proofs.Waits.{in-by}
-use Rattle.rules.proofs.Cells.{body-acts, Kept, Careful-list, nothing, one, several, list-kept}
+use Rattle.rules.proofs.Cells.{body-acts, Kept, nothing, one, list-kept}
 use Rattle.rules.proofs.Clean.{Clean, refused, given, waited, judge-clean}
 use Rattle.rules.proofs.Events.{event-served, event-next, cell-reads, sound-event}
 
@@ -104,7 +102,8 @@ rel-wai-breaks v x a b c = go (handler x)
     go : (h : Option Bool) → Accepts (Breaks v a) (called v h (pos 6) a b c)
     go none = accepts-refuse (Breaks v a) H-CALL refl
     go (some h) =
-        accepts-check (Breaks v a) _ E-NOEXS _ refl (λ o. accepts-check (Breaks v a) _ E-CTX _ refl (λ p. accepts-check (Breaks v a) false E-SELF _ refl (λ q. accepts-check (Breaks v a) false E-DMT _ refl
+        accepts-check (Breaks v a) _ E-NOEXS _ refl (λ o. accepts-check (Breaks v a) _ E-CTX _ refl
+        (λ p. accepts-check (Breaks v a) false E-SELF _ refl (λ q. accepts-check (Breaks v a) false E-DMT _ refl
         (λ d. accepts-check (Breaks v a) _ E-NOWAI _ refl (λ w. λ k. released-broken (v .body) a o (not-false _ w))))))
 
 -- after an accepted rel_wai the cell reads E_RLWAI and 0 until the task's next release or start
@@ -115,4 +114,5 @@ stays-broken v x a b c s w k l ws =
     let e = call x (pos 6) a b c in
     let ok : number (judge v e .code) ≡ pos 0 = ap (λ o. number (o .answer .code)) (sym (event-served v e s)) ∙ k in
     stays a (event v e .next) l (sound-event v e s w) ws
-    (cell-reads (event v e .next) a (sound-event v e s w) ∙ ap (λ (y : View). readCell (y .body) a) (event-next v e s) ∙ ap (λ (y : Body). readCell y a) (body-acts (judge v e .acts) v) ∙ rel-wai-breaks v x a b c ok)
+    (cell-reads (event v e .next) a (sound-event v e s w) ∙ ap (λ (y : View). readCell (y .body) a) (event-next v e s)
+    ∙ ap (λ (y : Body). readCell y a) (body-acts (judge v e .acts) v) ∙ rel-wai-breaks v x a b c ok)

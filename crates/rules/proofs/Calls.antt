@@ -1,5 +1,6 @@
--- Every event keeps a sound state sound: it is a list of acts, each of which finds what it needs. Shown over the forms of verdicts, then call by call.
-use mathlib.Core.Bool.{Bool, true, false, cond, not, _&&_, false≢true}
+-- Every event keeps a sound state sound: it is a list of acts, each of which finds what it needs. Shown over the forms of verdicts,
+-- then call by call.
+use mathlib.Core.Bool.{Bool, true, false, cond, not, false≢true}
 use mathlib.Core.List.{List, [], _∷_, _++_, map}
 use mathlib.Core.Logic.{_⊎_, inl, inr, _≢_}
 use mathlib.Core.Option.{Option, none, some}
@@ -12,14 +13,14 @@ use lib.Bits.{bitAnd, and-step, and-shr, and-mod, and-le-l, and-le-r, or-lt}
 use lib.Dec.{eqb, leb, lit<}
 use lib.IntN.{ℤ, pos, negsuc}
 use lib.ListN.{length}
-use borrow.Author.Tests.{eqb-true, eqb-false, eq-eqb, ne-eqb, leb-true, leb-false, not-false}
+use borrow.Author.Tests.{eqb-true, eqb-false, eq-eqb, ne-eqb, leb-false, not-false}
 use Rattle.rules.specs.Ids.{of, ids, In, once, times}
 use Rattle.rules.specs.Codes.{Code, OK, E-TMOUT}
-use Rattle.rules.specs.State.{Kind, semaphore, flag, mailbox, pool, Wait, asleep, timed, on, State, dormant, ready, suspended, waiting, waiting-suspended, Task, Body, task, nobody, objects, waitOf, isDormant, isWaiting, sleeps, wish}
-use Rattle.rules.specs.Places.{waiters, mail, belongs, sameKind, waitsOn, awaits, lies}
+use Rattle.rules.specs.State.{Kind, semaphore, flag, mailbox, pool, Wait, on, State, dormant, ready, suspended, waiting, waiting-suspended, Task, Body, task, nobody, objects, waitOf, isDormant, isWaiting, sleeps, wish}
+use Rattle.rules.specs.Places.{waiters, mail, belongs, awaits, lies}
 use Rattle.rules.specs.Setup.{Entry}
 use Rattle.rules.specs.Events.{Event, tick, call, Word, Words, nat, bits, outside, above}
-use Rattle.rules.specs.Acts.{Act, start, wait, release, wakeups, pattern, elapse, after, freed, releasedTask, with-state, with-cell}
+use Rattle.rules.specs.Acts.{Act, start, wait, release, wakeups, elapse, after, freed, releasedTask, with-state, with-cell}
 use Rattle.rules.specs.View.{View, line, act, acts}
 use Rattle.rules.specs.Verdicts.{Verdict, refuse, waits, check, choose, onFirst, onCount}
 use Rattle.rules.specs.Tasks.{stateOf, sta-tsk, ext-tsk, ter-tsk, chg-pri, rot-rdq, rel-wai, sus-tsk, rsm-tsk, take-wakeup, slp-tsk, wai-for, wai-tsk, wup-tsk, can-wup, get-tid, tsk-sts}
@@ -31,7 +32,8 @@ use Rattle.rules.specs.Kernel.{starts, next}
 use Rattle.rules.proofs.Ids.{of-put-other, put-either, inside, tested, times-keep, times-ids}
 use Rattle.rules.proofs.Keeps.{NoneAt, Asks, Pre, asks-waits}
 use Rattle.rules.proofs.Queues.{sound-act, body-act, empty-belongs, none-waits, belongs-stands}
-use Rattle.rules.proofs.Judge.{AllRows, by-check, by-choose, by-first, by-count, by-call}
+use Rattle.rules.proofs.Waits.{in-by, waits-asks}
+use Rattle.rules.proofs.Judge.{_⊗_, AllRows, by-check, by-choose, by-first, by-count, by-call}
 
 -- ---- a list of acts, each of which finds what it needs
 
@@ -87,15 +89,6 @@ module _ {b : Body} where
 
 -- ---- words
 
-in-by : (a : ℤ) (n : ℕ) → outside a n ≡ false → In (nat a) n
-in-by a n e = go (leb 1 (nat a)) (leb (nat a) n) refl refl e
-  where
-    go : (s t : Bool) → leb 1 (nat a) ≡ s → leb (nat a) n ≡ t → not (s && t) ≡ false → In (nat a) n
-    go true true p q e = (leb-true 1 (nat a) p, leb-true (nat a) n q)
-    go true false p q e = absurd (false≢true (sym e))
-    go false true p q e = absurd (false≢true (sym e))
-    go false false p q e = absurd (false≢true (sym e))
-
 mode-small : (m : ℤ) → above m 3 ≡ false → nat m ≤ 3
 mode-small (pos n) e = omega (arith, leb-false 4 n e)
 mode-small (negsuc n) e = omega arith
@@ -109,39 +102,6 @@ bits-small (pos n) h = omega arith
 bits-small (negsuc n) h = omega arith
 
 -- ---- what a sound state says
-
-sameKind-true : (k l : Kind) → sameKind k l ≡ true → k ≡ l
-sameKind-true semaphore semaphore e = refl
-sameKind-true semaphore flag e = absurd (false≢true e)
-sameKind-true semaphore mailbox e = absurd (false≢true e)
-sameKind-true semaphore pool e = absurd (false≢true e)
-sameKind-true flag semaphore e = absurd (false≢true e)
-sameKind-true flag flag e = refl
-sameKind-true flag mailbox e = absurd (false≢true e)
-sameKind-true flag pool e = absurd (false≢true e)
-sameKind-true mailbox semaphore e = absurd (false≢true e)
-sameKind-true mailbox flag e = absurd (false≢true e)
-sameKind-true mailbox mailbox e = refl
-sameKind-true mailbox pool e = absurd (false≢true e)
-sameKind-true pool semaphore e = absurd (false≢true e)
-sameKind-true pool flag e = absurd (false≢true e)
-sameKind-true pool mailbox e = absurd (false≢true e)
-sameKind-true pool pool e = refl
-
-both-true : (s t : Bool) → (s && t) ≡ true → (s ≡ true) × (t ≡ true)
-both-true true true e = (refl, refl)
-both-true true false e = absurd (false≢true e)
-both-true false true e = absurd (false≢true e)
-both-true false false e = absurd (false≢true e)
-
--- a waiter on an object asks something of it
-waits-asks : (x : Option Wait) (k : Kind) (o : ℕ) → waitsOn x k o ≡ true → (p : ℕ) × (m : ℕ) × (x ≡ some (on k o p m))
-waits-asks none k o e = absurd (false≢true e)
-waits-asks (some asleep) k o e = absurd (false≢true e)
-waits-asks (some (timed t)) k o e = absurd (false≢true e)
-waits-asks (some (on k′ o′ p m)) k o e =
-    let h : (sameKind k′ k ≡ true) × (eqb o′ o ≡ true) = both-true _ _ e in
-    (p, m, λ z. some (on (sameKind-true k′ k (h .0) z) (eqb-true o′ o (h .1) z) p m))
 
 module _ (b : Body) (h : SoundBody b) where
   -- whoever asks something of an object does so in order, and is not served
@@ -502,11 +462,6 @@ module _ (v : View) (h : Sound v) (a : ℤ) where
   ret-fine k w i = fine-check _ (λ e. first-fine pool (nat k) _ i (nat-small k w) (λ n. fine (inr n, tt)))
 
 -- ---- the table
-
--- a list of proofs, row by row
-infixr 5 _⊗_
-_⊗_ : {A B : Type 0} → A → B → A × B
-x ⊗ y = (x, y)
 
 module _ (v : View) (h : Sound v) (x : Bool) (a p c : ℤ) (wa : Word a) (wp : Word p) where
   abbrev me : ℕ

@@ -1,28 +1,19 @@
 -- Only release and sta_tsk change a cell: a task whose cell an event changed was released or started, as the states before and after
 -- tell. Assumes nothing.
-use mathlib.Core.Bool.{Bool, true, false, not, cond, _&&_, _||_, false≢true}
+use mathlib.Core.Bool.{Bool, true, false, cond, false≢true}
 use mathlib.Core.List.{List, [], _∷_, _++_, map}
 use mathlib.Core.Logic.{_⊎_, inl, inr}
-use mathlib.Core.Path.{_≡_, refl, sym, ap, _∙_}
+use mathlib.Core.Path.{_≡_, refl, sym, _∙_}
 use Prim.Native.Nat.{ℕ, zero, suc}
-use lib.IntN.{ℤ, pos, negsuc}
-use lib.ListN.{length, getD, set}
-use borrow.Author.Tests.{not-false}
-use Rattle.rules.specs.Ids.{of, put, keep}
+use lib.ListN.{getD, set}
+use Rattle.rules.specs.Ids.{of, put}
 use Rattle.rules.specs.Codes.{Code, OK}
-use Rattle.rules.specs.State.{Wait, asleep, timed, on, State, dormant, ready, suspended, waiting, waiting-suspended, Cell, Task, Body, task, nobody, waitOf, wish, isDormant, isReady, isWaiting, isFreed}
-use Rattle.rules.specs.Events.{Event, tick, call, nat}
+use Rattle.rules.specs.State.{asleep, timed, on, State, dormant, ready, suspended, waiting, waiting-suspended, Task, Body, task, nobody, waitOf, wish, isDormant, isWaiting, isFreed}
 use Rattle.rules.specs.Acts.{Act, start, retire, rotate, regrade, wait, release, suspend, resume, wakeups, count, pattern, post, receive, mark, elapse, change, started, retired, freed, releasedTask, halted, resumed, older, with-state, with-priority, with-wakeups, after, afters}
 use Rattle.rules.specs.View.{View, act, acts}
-use Rattle.rules.specs.Verdicts.{Verdict, refuse, gives, done, waits, check, choose, onFirst, onCount}
-use Rattle.rules.specs.Tasks.{stateOf, sta-tsk, ext-tsk, ter-tsk, chg-pri, rot-rdq, rel-wai, sus-tsk, rsm-tsk, take-wakeup, slp-tsk, wai-for, wai-tsk, wup-tsk, can-wup, get-tid, tsk-sts}
-use Rattle.rules.specs.Objects.{to-first, obj-sts, met, left, serve-flag, sig-sem, take-sem, set-flg, clr-flg, take-flg, snd-msg, take-msg, take-blk, rel-blk}
-use Rattle.rules.specs.Time.{get-tim, ticked, timeout, endings}
-use Rattle.rules.specs.Table.{Refusal, Row, caller, table, judge}
-use Rattle.rules.specs.Answers.{isReleased}
-use Rattle.rules.specs.Kernel.{next}
-use Rattle.rules.specs.Broken.{isStarted, isFresh}
-use Rattle.rules.proofs.Judge.{by-call, Bads, AllRows}
+use Rattle.rules.specs.Objects.{met, left, serve-flag}
+use Rattle.rules.specs.Time.{timeout}
+use Rattle.rules.specs.Broken.{isFresh}
 
 -- ---- what an act makes of each task, task by task
 
@@ -145,7 +136,9 @@ list-mild (a ∷ l) g b i = mild-then (gentle-mild (g .0) b i) (list-mild l (g .
 -- set_flg and the tick are such lists
 pub flag-gentle : (b : Body) (f have : ℕ) (l : List ℕ) → AllGentle (serve-flag b f have l)
 flag-gentle b f have [] = (sets f have, tt)
-flag-gentle b f have (x ∷ l) = go (met have (wish (waitOf (task b x .state)) .0) (wish (waitOf (task b x .state)) .1)) (flag-gentle b f (left have (wish (waitOf (task b x .state)) .1)) l) (flag-gentle b f have l)
+flag-gentle b f have (x ∷ l) =
+    go (met have (wish (waitOf (task b x .state)) .0) (wish (waitOf (task b x .state)) .1))
+    (flag-gentle b f (left have (wish (waitOf (task b x .state)) .1)) l) (flag-gentle b f have l)
   where
     go : (t : Bool) → AllGentle (serve-flag b f (left have (wish (waitOf (task b x .state)) .1)) l) → AllGentle (serve-flag b f have l)
         → AllGentle (cond t (release x OK have ∷ serve-flag b f (left have (wish (waitOf (task b x .state)) .1)) l) (serve-flag b f have l))

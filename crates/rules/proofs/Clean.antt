@@ -18,7 +18,7 @@ use Rattle.rules.specs.Tasks.{sta-tsk, ext-tsk, ter-tsk, chg-pri, rot-rd
 use Rattle.rules.specs.Objects.{to-first, obj-sts, sig-sem, take-sem, set-flg, clr-flg, take-flg, snd-msg, take-msg, take-blk, rel-blk}
 use Rattle.rules.specs.Time.{get-tim, ticked, endings}
 use Rattle.rules.specs.Table.{Refusal, Row, caller, table, judge}
-use Rattle.rules.proofs.Judge.{by-call, Bads, AllRows}
+use Rattle.rules.proofs.Judge.{_⊗_, by-call, Bads, AllRows}
 use Rattle.rules.proofs.Waits.{both-true}
 use Rattle.rules.proofs.Cells.{Careful-list, nothing, one, several, flag-gentle, tick-gentle}
 
@@ -104,103 +104,40 @@ all-rows b v h me a k (r ∷ l) e g = let d = both-true (without-state (r .words
 
 rules : (v : View) (me : ℕ) (a b c : ℤ) → Rules (v .body) (table v me a b c)
 unfolding table sta-tsk ext-tsk ter-tsk chg-pri rot-rdq rel-wai sus-tsk rsm-tsk take-wakeup slp-tsk wai-tsk wup-tsk can-wup get-tid tsk-sts to-first obj-sts sig-sem take-sem set-flg clr-flg take-flg snd-msg take-msg take-blk rel-blk get-tim hasState
-rules v me a b c = (
-  search clean depth 9,
-  (
-    search clean depth 9,
-    (
-      search clean depth 9,
-      (
-        search clean depth 9,
-        (
-          search clean depth 9,
-          (
-            search clean depth 9,
-            (
-              search clean depth 9,
-              (
-                search clean depth 9,
-                (
-                  search clean depth 9,
-                  (
-                    search clean depth 9,
-                    (
-                      search clean depth 9,
-                      (
-                        search clean depth 9,
-                        (
-                          search clean depth 9,
-                          (
-                            search clean depth 9,
-                            (
-                              search clean depth 9,
-                              (
-                                search clean depth 9,
-                                (
-                                  search clean depth 9,
-                                  (
-                                    search clean depth 9,
-                                    (
-                                      search clean depth 9,
-                                      (
-                                        search clean depth 9,
-                                        (
-                                          search clean depth 9,
-                                          (
-                                            search clean depth 9,
-                                            (
-                                              search clean depth 9,
-                                              (
-                                                search clean depth 9,
-                                                (
-                                                  search clean depth 9,
-                                                  (
-                                                    search clean depth 9,
-                                                    (
-                                                      search clean depth 9,
-                                                      (
-                                                        search clean depth 9,
-                                                        (
-                                                          search clean depth 9,
-                                                          (
-                                                            search clean depth 9,
-                                                            (
-                                                              search clean depth 9,
-                                                              (
-                                                                search clean depth 9,
-                                                                tt,
-                                                              ),
-                                                            ),
-                                                          ),
-                                                        ),
-                                                      ),
-                                                    ),
-                                                  ),
-                                                ),
-                                              ),
-                                            ),
-                                          ),
-                                        ),
-                                      ),
-                                    ),
-                                  ),
-                                ),
-                              ),
-                            ),
-                          ),
-                        ),
-                      ),
-                    ),
-                  ),
-                ),
-              ),
-            ),
-          ),
-        ),
-      ),
-    ),
-  ),
-)
+rules v me a b c =
+    (search clean depth 9)
+    ⊗ (search clean depth 9)
+    ⊗ (search clean depth 9)
+    ⊗ (search clean depth 9)
+    ⊗ (search clean depth 9)
+    ⊗ (search clean depth 9)
+    ⊗ (search clean depth 9)
+    ⊗ (search clean depth 9)
+    ⊗ (search clean depth 9)
+    ⊗ (search clean depth 9)
+    ⊗ (search clean depth 9)
+    ⊗ (search clean depth 9)
+    ⊗ (search clean depth 9)
+    ⊗ (search clean depth 9)
+    ⊗ (search clean depth 9)
+    ⊗ (search clean depth 9)
+    ⊗ (search clean depth 9)
+    ⊗ (search clean depth 9)
+    ⊗ (search clean depth 9)
+    ⊗ (search clean depth 9)
+    ⊗ (search clean depth 9)
+    ⊗ (search clean depth 9)
+    ⊗ (search clean depth 9)
+    ⊗ (search clean depth 9)
+    ⊗ (search clean depth 9)
+    ⊗ (search clean depth 9)
+    ⊗ (search clean depth 9)
+    ⊗ (search clean depth 9)
+    ⊗ (search clean depth 9)
+    ⊗ (search clean depth 9)
+    ⊗ (search clean depth 9)
+    ⊗ (search clean depth 9)
+    ⊗ tt
 
 pub judge-clean : (v : View) (e : Event) → Clean (v .body) (judge v e)
 unfolding judge ticked hasState

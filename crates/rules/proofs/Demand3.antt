@@ -1,15 +1,14 @@
 -- Demand 3: for every accepted setup and every list of events the claim of specs/Demand3.antt holds. Assumes nothing.
 use mathlib.Core.Bool.{Bool, true, false, not, cond, false≢true}
 use mathlib.Core.List.{List, [], _∷_, map}
-use mathlib.Core.Logic.{_≢_, _↔_}
+use mathlib.Core.Logic.{_≢_}
 use mathlib.Core.Path.{_≡_, refl, sym, ap, _∙_, subst}
 use Prim.Native.Nat.{ℕ, zero, suc, _+_}
-use native.Mathlib.Nat.{zero-add, add-comm}
+use native.Mathlib.Nat.{add-comm}
 use native.Mathlib.Omega.{arith}
-use lib.IntN.{ℤ}
-use lib.ListN.{length, getD, replicate}
-use Rattle.rules.specs.Ids.{of, put, In, once}
-use Rattle.rules.specs.Codes.{Code, H-STATE}
+use lib.ListN.{length, replicate}
+use Rattle.rules.specs.Ids.{of, In, once}
+use Rattle.rules.specs.Codes.{H-STATE}
 use Rattle.rules.specs.State.{pool, Body}
 use Rattle.rules.specs.Setup.{got, setup, Entry, Setup}
 use Rattle.rules.specs.Places.{tabulate}
@@ -17,16 +16,16 @@ use Rattle.rules.specs.Events.{Event, AllWords}
 use Rattle.rules.specs.Acts.{Act, start, retire, rotate, regrade, wait, release, suspend, resume, wakeups, count, pattern, post, receive, mark, elapse, after, afters}
 use Rattle.rules.specs.View.{View, acts}
 use Rattle.rules.specs.Table.{judge}
-use Rattle.rules.specs.Answers.{Answer, answer, readCell}
+use Rattle.rules.specs.Answers.{answer, readCell}
 use Rattle.rules.specs.Sound.{Sound}
-use Rattle.rules.specs.Kernel.{idle, starts, fresh, next, served, event, cell}
-use Rattle.rules.specs.Plain.{Plain, queueOf, viewOf, plainFresh, plainNext, plainAnswer}
-use Rattle.rules.specs.Blocks.{isFree, Happened, granted, gaveBack, grants, returns, Accounted, AllAccounted}
+use Rattle.rules.specs.Kernel.{idle, starts, fresh, next, served, event}
+use Rattle.rules.specs.Plain.{Plain, viewOf, plainFresh, plainNext, plainAnswer}
+use Rattle.rules.specs.Blocks.{isFree, Happened, granted, gaveBack, grants, returns, Accounted}
 use Rattle.rules.specs.Demand3.{Agree, Alike, happened, Demand3}
-use Rattle.rules.proofs.Ids.{length-put, of-put-test}
+use Rattle.rules.proofs.Ids.{length-put, of-put-test, of-replicate}
 use Rattle.rules.proofs.Lines.{objects-after}
 use Rattle.rules.proofs.Agree.{Numbers, fresh-shows, numbers-fresh, next-shows, numbers-next, same-answer}
-use Rattle.rules.proofs.Blocks.{Balance, event-balance}
+use Rattle.rules.proofs.Blocks.{event-balance}
 use Rattle.rules.proofs.Cells.{body-acts}
 use Rattle.rules.proofs.Clean.{judge-not-state}
 use Rattle.rules.proofs.Events.{event-served, event-next, cell-reads, sound-event, fresh-sound}
@@ -135,16 +134,11 @@ run past v s (e ∷ l) p n g h w = (
 
 -- ---- from the fresh start: no block is out, and none was granted or returned
 
-replicated : (n i : ℕ) → _≡_ {A = Bool} (getD (replicate n true) i true) true
-replicated zero i = refl
-replicated (suc n) zero = refl
-replicated (suc n) (suc i) = replicated n i
-
 all-free : (l : List ℕ) (p k : ℕ) → of (of (map (λ n. replicate n true) l) p []) k true ≡ true
 all-free l p zero = refl
 all-free l zero (suc k) = refl
 all-free [] (suc p) (suc k) = refl
-all-free (n ∷ l) (suc zero) (suc k) = replicated n k
+all-free (n ∷ l) (suc zero) (suc k) = of-replicate n (suc k) true
 all-free (n ∷ l) (suc (suc p)) (suc k) = all-free l (suc p) (suc k)
 
 starts-pools : (i : ℕ) (l : List Entry) (b : Body) → afters (starts i l) b .store .pools ≡ b .store .pools

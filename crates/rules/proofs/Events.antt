@@ -1,6 +1,6 @@
 -- An event on a sound state: the guard lets it through, and the state after it is sound. And the fresh state is sound. Assumes nothing.
 use mathlib.Core.List.{List, [], _∷_}
-use mathlib.Core.Path.{_≡_, refl, sym, ap, _∙_}
+use mathlib.Core.Path.{_≡_, refl, ap}
 use Prim.Native.Nat.{ℕ}
 use lib.IntN.{ℤ}
 use Rattle.rules.specs.Setup.{got, setup, Setup}

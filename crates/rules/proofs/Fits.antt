@@ -142,7 +142,7 @@ older-ready (waiting-suspended asleep) = refl
 older-ready (waiting-suspended (timed t)) = refl
 older-ready (waiting-suspended (on k o p m)) = refl
 
-older-awaits : (s : State) (k : Kind) (o : ℕ) → awaits (older s) k o ≡ awaits s k o
+pub older-awaits : (s : State) (k : Kind) (o : ℕ) → awaits (older s) k o ≡ awaits s k o
 older-awaits dormant k o = refl
 older-awaits ready k o = refl
 older-awaits suspended k o = refl

@@ -4,11 +4,11 @@ use mathlib.Core.List.{List, [], _∷_, _++_, map}
 use mathlib.Core.Logic.{_⊎_, inl, inr, _≢_}
 use mathlib.Core.Path.{_≡_, refl, sym, ap, _∙_, fun-ext}
 use Prim.Native.Nat.{ℕ, zero, suc, _+_, _≤_, _<_}
-use native.Mathlib.Decide.{decLt, decLe, ℕ-discrete}
+use native.Mathlib.Decide.{decLt, ℕ-discrete}
 use native.Mathlib.Nat.{zero-add, add-zero, add-assoc}
 use native.Mathlib.Omega.{arith}
 use lib.Dec.{eqb}
-use lib.ListN.{length, length-set, length-map, List·getD-eq-default, List·getD-map, getD, set}
+use lib.ListN.{length, length-set, length-map, List·getD-eq-default, List·getD-map, getD, set, replicate}
 use lib.Seq.{getD-set-same, getD-set-other}
 use borrow.Author.Tests.{eqb-true, eqb-false, ne-eqb, eq-eqb}
 use Rattle.rules.specs.Ids.{of, put, from, ids, In, keep, once, times}
@@ -98,6 +98,20 @@ module _ {ℓ} {A : Type ℓ} where
   of-map f l zero d e = sym e
   of-map f l (suc i) d e = ap (λ (x : A). getD (map f l) i x) (sym e) ∙ List·getD-map f l i d
 
+  -- a table of defaults
+  pub of-replicate : (n i : ℕ) (d : A) → of (replicate n d) i d ≡ d
+  of-replicate n zero d = refl
+  of-replicate zero (suc i) d = refl
+  of-replicate (suc n) (suc zero) d = refl
+  of-replicate (suc n) (suc (suc i)) d = of-replicate n (suc i) d
+
+-- ---- what holds of each of a list
+
+module _ {A : Type 0} where
+  abbrev pub Each : (A → Type 0) → List A → Type 0
+  Each P [] = Unit {0}
+  Each P (x ∷ l) = P x × Each P l
+
 -- ---- a table made from the ids 1 to n
 
 pub length-from : (k n : ℕ) → length (from k n) ≡ n
@@ -129,15 +143,6 @@ unfolding ids
 map-ids f g n h = map-from f g 1 n (λ i a b. h i (omega arith))
 
 -- ---- lists of ids
-
-cond-append : (t : Bool) (x : ℕ) (l m : List ℕ) → cond t (x ∷ (l ++ m)) (l ++ m) ≡ cond t (x ∷ l) l ++ m
-cond-append true x l m = refl
-cond-append false x l m = refl
-
-pub keep-append : (p : ℕ → Bool) (l m : List ℕ) → keep p (l ++ m) ≡ keep p l ++ keep p m
-unfolding keep
-keep-append p [] m = refl
-keep-append p (x ∷ l) m = ap (λ (r : List ℕ). cond (p x) (x ∷ r) r) (keep-append p l m) ∙ cond-append (p x) x (keep p l) (keep p m)
 
 keep-cond : (p : ℕ → Bool) (t : Bool) (x : ℕ) (l : List ℕ) → keep p (cond t (x ∷ l) l) ≡ cond (t && p x) (x ∷ keep p l) (keep p l)
 unfolding keep
@@ -189,9 +194,20 @@ times-keep i p (x ∷ l) = split (p x) ∙ ap (λ (n : ℕ). cond (p x) (once (e
     join true e = rw (eqb-true x i e) (yes-i (p i))
     join false e = no-i (p x) (p i)
 
-pub once-false : (t : Bool) → 0 ≡ once t → t ≡ false
-once-false true e = absurd (omega arith)
-once-false false e = refl
+-- who is kept stood there before, and passes the test
+pub has-keep : (p : ℕ → Bool) (l : List ℕ) (y : ℕ) → times y (keep p l) ≢ 0 → times y l ≢ 0
+has-keep p l y h e = h (times-keep y p l ∙ rw e (go (p y)))
+  where
+    go : (t : Bool) → _≡_ {A = ℕ} (cond t 0 0) 0
+    go true = refl
+    go false = refl
+
+pub kept-passes : (p : ℕ → Bool) (x : ℕ) (l : List ℕ) → times x (keep p l) ≢ 0 → p x ≡ true
+kept-passes p x l h = go (p x) refl
+  where
+    go : (t : Bool) → p x ≡ t → t ≡ true
+    go true e = refl
+    go false e = absurd (h (times-keep x p l ∙ rw e))
 
 -- x itself stands in a list that begins with it; what stands in the rest stands in the whole
 pub times-head : (x : ℕ) (l : List ℕ) → times x (x ∷ l) ≢ 0
@@ -222,12 +238,3 @@ times-from-in i k (suc n) a b = go (ℕ-discrete k i) (times-from-in i (suc k) n
 pub times-ids : (i n : ℕ) → In i n → times i (ids n) ≡ 1
 unfolding ids
 times-ids i n h = times-from-in i 1 n (h .0) (omega (arith, h .1))
-
-pub times-ids-out : (i n : ℕ) → (In i n → ⊥) → times i (ids n) ≡ 0
-unfolding ids
-times-ids-out i n h = go (decLe 1 i) (decLe i n)
-  where
-    go : Dec (1 ≤ i) → Dec (i ≤ n) → times i (from 1 n) ≡ 0
-    go (yes a) (yes b) = absurd (h (a, b))
-    go (yes a) (no b) = times-from-out i 1 n (inr (omega arith))
-    go (no a) d = times-from-out i 1 n (inl (omega arith))

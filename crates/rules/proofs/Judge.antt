@@ -1,5 +1,5 @@
 -- What holds of every verdict: it is enough that it holds of each call's rule, once the common refusals have passed, and of the tick.
-use mathlib.Core.Bool.{Bool, true, false, cond}
+use mathlib.Core.Bool.{Bool, true, false}
 use mathlib.Core.List.{List, [], _∷_}
 use mathlib.Core.Option.{Option, none, some}
 use mathlib.Core.Path.{_≡_, refl}
@@ -9,12 +9,16 @@ use native.Mathlib.Nat.{add-zero}
 use lib.IntN.{ℤ, pos, negsuc}
 use Rattle.rules.specs.Codes.{Code, H-CALL, E-CTX, E-SELF, E-DMT}
 use Rattle.rules.specs.State.{isDormant}
-use Rattle.rules.specs.Events.{Event, tick, call, nat}
-use Rattle.rules.specs.View.{View, running}
+use Rattle.rules.specs.Events.{call, nat}
+use Rattle.rules.specs.View.{View}
 use Rattle.rules.specs.Verdicts.{Verdict, refuse, check, choose, onFirst, onCount}
 use Rattle.rules.specs.Tasks.{stateOf}
-use Rattle.rules.specs.Time.{ticked}
 use Rattle.rules.specs.Table.{Refusal, refusals, Row, misplaced, names-self, names-dormant, judged, table, handler, caller, looked-up, entry, called, judge}
+
+-- a list of proofs, row by row
+infixr 5 _⊗_
+pub _⊗_ : {A B : Type 0} → A → B → A × B
+x ⊗ y = (x, y)
 
 -- none of the reasons applies
 abbrev pub Passed : List Refusal → Type 0

@@ -1,5 +1,6 @@
--- What an act needs so that a sound body stays sound: a change of one task leaves the store alone, a change of the store is looked at over the kind of object.
-use mathlib.Core.Bool.{Bool, true, false, cond, not, _||_, false≢true}
+-- What an act needs so that a sound body stays sound: a change of one task leaves the store alone, a change of the store is looked
+-- at over the kind of object.
+use mathlib.Core.Bool.{Bool, true, false, cond, not, false≢true}
 use mathlib.Core.List.{List, [], _∷_, map}
 use mathlib.Core.Logic.{_⊎_, inl, inr, _≢_}
 use mathlib.Core.Option.{Option, none, some}
@@ -18,6 +19,7 @@ use Rattle.rules.specs.Acts.{Act, start, retire, rotate, regrade, wait, 
 use Rattle.rules.specs.Objects.{met, free}
 use Rattle.rules.specs.Time.{ending}
 use Rattle.rules.specs.Sound.{Sizes, LiesWell, StoreNumbers, CellNumbers, WaitNumbers, anyLies, would-serve, Unserved, SoundTask, SoundBody}
+use Rattle.rules.proofs.Waits.{neither}
 use Rattle.rules.proofs.Ids.{length-put, of-put-other, of-put-same, put-all, of-map}
 
 -- ---- what an act needs
@@ -152,14 +154,14 @@ released-well {u} c w t k g = go (isWaiting (t .state)) refl
     go true e = cell-well (idle-well g (freed (t .state)) (freed-idle (t .state) e .0) (freed-idle (t .state) e .1)) _ k
     go false e = g
 
-halted-same : (s : State) → (waitOf (halted s) ≡ waitOf s) × (isDormant (halted s) ≡ isDormant s)
+pub halted-same : (s : State) → (waitOf (halted s) ≡ waitOf s) × (isDormant (halted s) ≡ isDormant s)
 halted-same dormant = (refl, refl)
 halted-same ready = (refl, refl)
 halted-same suspended = (refl, refl)
 halted-same (waiting w) = (refl, refl)
 halted-same (waiting-suspended w) = (refl, refl)
 
-resumed-same : (s : State) → (waitOf (resumed s) ≡ waitOf s) × (isDormant (resumed s) ≡ isDormant s)
+pub resumed-same : (s : State) → (waitOf (resumed s) ≡ waitOf s) × (isDormant (resumed s) ≡ isDormant s)
 resumed-same dormant = (refl, refl)
 resumed-same ready = (refl, refl)
 resumed-same suspended = (refl, refl)
@@ -267,10 +269,6 @@ zero-unserved n e = ap not (eq-eqb n 0 e)
 
 unserved-zero : (n : ℕ) → not (eqb n 0) ≡ false → n ≡ 0
 unserved-zero n e = eqb-true n 0 (not-false (eqb n 0) e)
-
-neither : (s t : Bool) → (s || t) ≡ false → (s ≡ false) × (t ≡ false)
-neither true t e = absurd (false≢true (sym e))
-neither false t e = (refl, e)
 
 -- no message comes to lie there
 anyLies-set : (l : List (Option ℕ)) (j : ℕ) (x : Option ℕ) (m : ℕ) → lies x m ≡ false → anyLies l m ≡ false → anyLies (set l j x) m ≡ false
@@ -455,7 +453,8 @@ older-same u (waiting-suspended (on k o p m)) = (λ h. h, refl, refl)
 
 older-well : (u : Store) (t : Task) → ending (waitOf (t .state)) ≡ false → SoundTask u t → SoundTask u (olderTask t)
 older-well u t e g =
-    state-well g (older (t .state)) (older-numbers u (t .state) e (g .wait)) (older-same u (t .state) .0 (g .unserved)) (rw (older-same u (t .state) .1) (g .sleeper)) (rw (older-same u (t .state) .2) (λ x. x))
+    state-well g (older (t .state)) (older-numbers u (t .state) e (g .wait)) (older-same u (t .state) .0 (g .unserved))
+    (rw (older-same u (t .state) .1) (g .sleeper)) (rw (older-same u (t .state) .2) (λ x. x))
 
 older-sound : (b : Body) → SoundBody b → ((i : ℕ) → ending (waitOf (task b i .state)) ≡ false) → SoundBody (with-tasks (map olderTask (b .tasks)) b)
 older-sound b h e = record {

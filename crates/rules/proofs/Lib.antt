@@ -1,23 +1,23 @@
--- The theorems about the rules.
+-- The theorems about the rules, in the order in which to read them.
 pub mod Ids
+pub mod Waits
 pub mod Judge
-pub mod Cells
-pub mod Clean
-pub mod Refused
+pub mod Sorting
 pub mod Fits
 pub mod Lines
 pub mod Keeps
 pub mod Queues
-pub mod Accepted
-pub mod Waits
-pub mod Blocks
-pub mod Sorting
-pub mod Agree
 pub mod Calls
-pub mod Rising
+pub mod Accepted
 pub mod Events
+pub mod Cells
+pub mod Clean
+pub mod Refused
+pub mod Broken
+pub mod Agree
+pub mod Rising
+pub mod Blocks
 pub mod Demand3
+pub mod Runs
 pub mod BenchSheet
 pub mod Examples
-pub mod Broken
-pub mod Runs

@@ -12,8 +12,9 @@ use Rattle.rules.specs.Places.{Place, readyAt, waiters, mail, Item, aTas
 use Rattle.rules.specs.Acts.{Act, after, Move, stay, leave, last, move}
 use Rattle.rules.specs.View.{View, line, alone, without, moved, act}
 use Rattle.rules.specs.Sound.{Shape, Known, Queue, Sound}
-use Rattle.rules.proofs.Ids.{times-append, times-keep, times-head}
+use Rattle.rules.proofs.Ids.{Each, times-append, times-keep, times-head}
 use Rattle.rules.proofs.Fits.{Fits, fits, many-after, in-range}
+use Rattle.rules.proofs.Sorting.{all-has}
 use Rattle.rules.proofs.Lines.{shape-tabulate, exists-after, line-act}
 use Rattle.rules.proofs.Keeps.{NoneAt, Pre, sound-after}
 
@@ -104,35 +105,49 @@ queue-moved b c m q l f e h = record {
 
 -- ---- who stands first belongs there, and where nobody stands nobody belongs
 
+known-each : (n : ℕ) (l : List ℕ) → Known n l → Each (λ i. In i n) l
+known-each n [] h = tt
+known-each n (x ∷ l) h = (h .0, known-each n l (h .1))
+
 once-true : (t : Bool) → once t ≢ 0 → t ≡ true
 once-true true h = refl
 once-true false h = absurd (h refl)
 
 module _ (b : Body) (q : Place) (l : List ℕ) (h : Queue b q l) where
-  -- whoever stands in the line belongs to it
-  pub standing-belongs : (i : ℕ) → In i (many b q) → times i l ≢ 0 → belongs b q i ≡ true
-  standing-belongs i r z = once-true (belongs b q i) (λ e. z (h .stands i r ∙ e))
+  -- whoever stands in the line is there, and belongs to it
+  standing-known : (i : ℕ) → times i l ≢ 0 → In i (many b q)
+  standing-known i z = all-has (λ j. In j (many b q)) l (known-each _ l (h .known)) i z
+
+  standing-belongs : (i : ℕ) → times i l ≢ 0 → belongs b q i ≡ true
+  standing-belongs i z = once-true (belongs b q i) (λ e. z (h .stands i (standing-known i z) ∙ e))
 
   pub belongs-stands : (i : ℕ) → belongs b q i ≡ true → times i l ≡ 1
   belongs-stands i e = h .stands i (in-range b q i e) ∙ ap once e
 
 head-belongs : (b : Body) (q : Place) (x : ℕ) (l : List ℕ) → Queue b q (x ∷ l) → belongs b q x ≡ true
-head-belongs b q x l h = standing-belongs b q (x ∷ l) h x (h .known .0) (times-head x l)
+head-belongs b q x l h = standing-belongs b q (x ∷ l) h x (times-head x l)
 
-nobody-belongs : (b : Body) (q : Place) (i : ℕ) → Queue b q [] → belongs b q i ≡ false
+empty-line-belongs : (b : Body) (q : Place) (i : ℕ) → Queue b q [] → belongs b q i ≡ false
 unfolding times
-nobody-belongs b q i h = go (belongs b q i) refl
+empty-line-belongs b q i h = go (belongs b q i) refl
   where
     go : (t : Bool) → belongs b q i ≡ t → t ≡ false
     go true e = absurd (omega (arith, belongs-stands b q [] h i e))
     go false e = refl
 
 module _ (v : View) (h : Sound v) (q : Place) (r : Exists (v .body .store) q) where
+  pub stands-known : (i : ℕ) → times i (line v q) ≢ 0 → In i (many (v .body) q)
+  stands-known i z = standing-known (v .body) q (line v q) (h .queues q r) i z
+
+  -- who stands in a line belongs there
+  pub stands-belongs : (i : ℕ) → times i (line v q) ≢ 0 → belongs (v .body) q i ≡ true
+  stands-belongs i z = standing-belongs (v .body) q (line v q) (h .queues q r) i z
+
   pub first-belongs : (x : ℕ) (l : List ℕ) → line v q ≡ x ∷ l → belongs (v .body) q x ≡ true
   first-belongs x l e = head-belongs (v .body) q x l (subst (Queue (v .body) q) e (h .queues q r))
 
   pub empty-belongs : line v q ≡ [] → (i : ℕ) → belongs (v .body) q i ≡ false
-  empty-belongs e i = nobody-belongs (v .body) q i (subst (Queue (v .body) q) e (h .queues q r))
+  empty-belongs e i = empty-line-belongs (v .body) q i (subst (Queue (v .body) q) e (h .queues q r))
 
 -- where nobody stands, nobody waits
 pub none-waits : (v : View) → Sound v → (k : Kind) (o : ℕ) → Exists (v .body .store) (waiters k o) → line v (waiters k o) ≡ [] → NoneAt (v .body) k o

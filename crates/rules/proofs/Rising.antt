@@ -1,5 +1,5 @@
 -- In each line of the plain kernel numbers rise, each task and message stands in one line at most, and who runs follows from the two.
-use mathlib.Core.Bool.{Bool, true, false, cond, not, _&&_, false≢true}
+use mathlib.Core.Bool.{Bool, true, false, cond, not, false≢true}
 use mathlib.Core.List.{List, [], _∷_, _++_, map}
 use mathlib.Core.Logic.{_⊎_, inl, inr, _≢_}
 use mathlib.Core.Option.{Option, none, some}
@@ -9,32 +9,27 @@ use native.Mathlib.Decide.{ℕ-discrete, decLt}
 use native.Mathlib.Omega.{arith}
 use lib.Dec.{eqb}
 use lib.ListN.{length}
-use borrow.Author.Tests.{eqb-true, eq-eqb, ne-eqb}
+use borrow.Author.Tests.{eqb-true, eq-eqb, ne-eqb, not-true}
 use Rattle.rules.specs.Ids.{of, from, ids, In, keep, once, times, first}
-use Rattle.rules.specs.State.{Kind, semaphore, flag, mailbox, pool, Wait, asleep, timed, on, State, dormant, ready, suspended, waiting, waiting-suspended, Body, task, waitOf, isReady}
+use Rattle.rules.specs.State.{Kind, Wait, asleep, timed, on, State, dormant, ready, suspended, waiting, waiting-suspended, Body, task, waitOf, isReady}
 use Rattle.rules.specs.Places.{Place, readyAt, waiters, mail, Item, aTask, aMessage, item, same, sameKind, many, belongs, waitsOn, awaits, lies, Exists, tabulate}
 use Rattle.rules.specs.Setup.{Setup}
 use Rattle.rules.specs.Events.{Event}
 use Rattle.rules.specs.Acts.{Act, after, Move, stay, leave, last, move}
 use Rattle.rules.specs.View.{View, line, nonempty, running, alone, without, moved}
 use Rattle.rules.specs.Table.{judge}
-use Rattle.rules.specs.Sound.{Known, Sound}
+use Rattle.rules.specs.Sound.{Sound}
 use Rattle.rules.specs.Kernel.{starts}
 use Rattle.rules.specs.Plain.{Plain, numberOf, queueOf, viewOf, numbered, plainAct, plainActs, unstarted, plainFresh, plainNext}
 use Rattle.rules.specs.Order.{Rising, Ordered, OneLine, Ready, Before, WhoRuns}
-use Rattle.rules.proofs.Ids.{times-append, times-keep, times-ids, times-head, times-tail}
+use Rattle.rules.proofs.Ids.{Each, times-append, times-keep, has-keep, kept-passes, times-ids, times-head, times-tail}
 use Rattle.rules.proofs.Fits.{many-after, in-range}
-use Rattle.rules.proofs.Sorting.{All, all-keep, all-kept, all-has, times-byNumber}
+use Rattle.rules.proofs.Sorting.{all-has, times-byNumber}
+use Rattle.rules.proofs.Waits.{both-true, sameKind-true}
+use Rattle.rules.proofs.Queues.{stands-known, stands-belongs}
 use Rattle.rules.proofs.Agree.{Numbers, numbers-act, numbers-unstarted, number-body, number-other, number-new, queue-act, queue-unstarted}
 
 -- ---- lists whose numbers rise
-
-has-keep : (p : ℕ → Bool) (l : List ℕ) (y : ℕ) → times y (keep p l) ≢ 0 → times y l ≢ 0
-has-keep p l y h e = h (times-keep y p l ∙ rw e (go (p y)))
-  where
-    go : (t : Bool) → _≡_ {A = ℕ} (cond t 0 0) 0
-    go true = refl
-    go false = refl
 
 rising-keep : (f : ℕ → ℕ) (p : ℕ → Bool) (l : List ℕ) → Rising f l → Rising f (keep p l)
 unfolding keep
@@ -63,7 +58,7 @@ rising-append f (x ∷ l) m a b h = (λ y t. go y t (ℕ-discrete (times y l) 0)
 
 -- ---- an act keeps the order
 
-alone-is : (x : Item) (q : Place) → All (λ z. item q z ≡ x) (alone x q)
+alone-is : (x : Item) (q : Place) → Each (λ z. item q z ≡ x) (alone x q)
 alone-is (aTask a) (readyAt p) = (refl, tt)
 alone-is (aTask a) (waiters k o) = (refl, tt)
 alone-is (aTask a) (mail m) = tt
@@ -83,20 +78,16 @@ alone-rises f (aMessage a) (readyAt p) = tt
 alone-rises f (aMessage a) (waiters k o) = tt
 alone-rises f (aMessage a) (mail m) = rising-one f a
 
-not-true : (t : Bool) → not t ≡ true → t ≡ false
-not-true true e = sym e
-not-true false e = refl
-
 module _ (c : Body) (s : Plain) (h : Numbers s) (q : Place) (few : many c q ≡ many (s .body) q) where
   -- one that goes last has the largest number
   module _ (x : Item) where
     stayed : (l : List ℕ) (y : ℕ) → times y (without x q l) ≢ 0 → numberOf (numbered c (last x) s) (item q y) ≡ numberOf s (item q y)
-    stayed l y t = number-other c x s (item q y) (not-true _ (all-has (λ i. not (same x (item q i)) ≡ true) _ (all-kept _ (λ i. not (same x (item q i))) l (λ i e. e)) y t))
+    stayed l y t = number-other c x s (item q y) (not-true _ (kept-passes (λ i. not (same x (item q i))) y l t))
 
     newest : (z : ℕ) → times z (keep (belongs c q) (alone x q)) ≢ 0 → numberOf (numbered c (last x) s) (item q z) ≡ s .count
     newest z t =
-        subst (λ (y : Item). numberOf (numbered c (last y) s) (item q z) ≡ s .count) (all-has (λ i. item q i ≡ x) _ (all-keep _ (belongs c q) (alone x q) (alone-is x q)) z t)
-        (number-new c s h q z (rw (← few) (in-range c q z (all-has (λ i. belongs c q i ≡ true) _ (all-kept _ (belongs c q) (alone x q) (λ i e. e)) z t))))
+        subst (λ (y : Item). numberOf (numbered c (last y) s) (item q z) ≡ s .count) (all-has (λ i. item q i ≡ x) (alone x q) (alone-is x q) z (has-keep (belongs c q) (alone x q) z t))
+        (number-new c s h q z (rw (← few) (in-range c q z (kept-passes (belongs c q) z (alone x q) t))))
 
   rising-move : (m : Move) (l : List ℕ) → Rising (λ i. numberOf s (item q i)) l → Rising (λ i. numberOf (numbered c m s) (item q i)) (moved c m q l)
   unfolding moved numbered
@@ -128,28 +119,6 @@ ordered-next s e h o = ordered-acts (judge (viewOf s) e .acts) s h o
 
 -- ---- each stands in one line at most
 
-both : (s t : Bool) → (s && t) ≡ true → (s ≡ true) × (t ≡ true)
-both true t e = (refl, e)
-both false t e = absurd (false≢true e)
-
-same-kind : (j k : Kind) → sameKind j k ≡ true → j ≡ k
-same-kind semaphore semaphore e = refl
-same-kind semaphore flag e = absurd (false≢true e)
-same-kind semaphore mailbox e = absurd (false≢true e)
-same-kind semaphore pool e = absurd (false≢true e)
-same-kind flag semaphore e = absurd (false≢true e)
-same-kind flag flag e = refl
-same-kind flag mailbox e = absurd (false≢true e)
-same-kind flag pool e = absurd (false≢true e)
-same-kind mailbox semaphore e = absurd (false≢true e)
-same-kind mailbox flag e = absurd (false≢true e)
-same-kind mailbox mailbox e = refl
-same-kind mailbox pool e = absurd (false≢true e)
-same-kind pool semaphore e = absurd (false≢true e)
-same-kind pool flag e = absurd (false≢true e)
-same-kind pool mailbox e = absurd (false≢true e)
-same-kind pool pool e = refl
-
 ready-waits : (s : State) (k : Kind) (o : ℕ) → isReady s ≡ true → awaits s k o ≡ true → ⊥
 ready-waits dormant k o r w = false≢true r
 ready-waits ready k o r w = false≢true w
@@ -162,9 +131,9 @@ one-wait none k k′ o o′ e f = absurd (false≢true e)
 one-wait (some asleep) k k′ o o′ e f = absurd (false≢true e)
 one-wait (some (timed t)) k k′ o o′ e f = absurd (false≢true e)
 one-wait (some (on j n p m)) k k′ o o′ e f =
-    let a : (sameKind j k ≡ true) × (eqb n o ≡ true) = both _ _ e in
-    let b : (sameKind j k′ ≡ true) × (eqb n o′ ≡ true) = both _ _ f in
-    λ z. waiters ((sym (same-kind j k (a .0)) ∙ same-kind j k′ (b .0)) z) ((sym (eqb-true n o (a .1)) ∙ eqb-true n o′ (b .1)) z)
+    let a : (sameKind j k ≡ true) × (eqb n o ≡ true) = both-true _ _ e in
+    let b : (sameKind j k′ ≡ true) × (eqb n o′ ≡ true) = both-true _ _ f in
+    λ z. waiters ((sym (sameKind-true j k (a .0)) ∙ sameKind-true j k′ (b .0)) z) ((sym (eqb-true n o (a .1)) ∙ eqb-true n o′ (b .1)) z)
 
 one-box : (x : Option ℕ) (m n : ℕ) → lies x m ≡ true → lies x n ≡ true → m ≡ n
 one-box none m n e f = absurd (false≢true e)
@@ -174,7 +143,7 @@ one-box (some k) m n e f = sym (eqb-true k m e) ∙ eqb-true k n f
 ready-is : (b : Body) (p i : ℕ) → belongs b (readyAt p) i ≡ true → (isReady (task b i .state) ≡ true) × (task b i .priority ≡ p)
 unfolding belongs
 ready-is b p i e =
-    let h : (isReady (task b i .state) ≡ true) × (eqb (task b i .priority) p ≡ true) = both (isReady (task b i .state)) (eqb (task b i .priority) p) e in
+    let h : (isReady (task b i .state) ≡ true) × (eqb (task b i .priority) p ≡ true) = both-true (isReady (task b i .state)) (eqb (task b i .priority) p) e in
     (h .0, eqb-true (task b i .priority) p (h .1))
 
 abbrev idOf : Item → ℕ
@@ -219,32 +188,16 @@ one-place b q r i j e f g =
     let k : i ≡ j = sym (id-item q i) ∙ ap idOf e ∙ id-item r j in
     placed b q r i (sym (sort-item q i) ∙ ap isTask e ∙ sort-item r j) f (rw k g)
 
-known-all : (n : ℕ) (l : List ℕ) → Known n l → All (λ i. In i n) l
-known-all n [] h = tt
-known-all n (x ∷ l) h = (h .0, known-all n l (h .1))
+stands-once : (v : View) → Sound v → (q : Place) → Exists (v .body .store) q → (i : ℕ) → times i (line v q) ≤ 1
+stands-once v g q e i = go (ℕ-discrete (times i (line v q)) 0)
+  where
+    once-le : (b : Bool) → once b ≤ 1
+    once-le true = omega arith
+    once-le false = omega arith
 
-module _ (v : View) (g : Sound v) (q : Place) (e : Exists (v .body .store) q) (i : ℕ) where
-  known-in : times i (line v q) ≢ 0 → In i (many (v .body) q)
-  known-in t = all-has _ (line v q) (known-all _ (line v q) (g .queues q e .known)) i t
-
-  -- who stands in a line belongs there
-  pub stands-belongs : times i (line v q) ≢ 0 → belongs (v .body) q i ≡ true
-  stands-belongs t = go (belongs (v .body) q i) (g .queues q e .stands i (known-in t))
-    where
-      go : (b : Bool) → times i (line v q) ≡ once b → b ≡ true
-      go true k = refl
-      go false k = absurd (t k)
-
-  stands-once : times i (line v q) ≤ 1
-  stands-once = go (ℕ-discrete (times i (line v q)) 0)
-    where
-      once-le : (b : Bool) → once b ≤ 1
-      once-le true = omega arith
-      once-le false = omega arith
-
-      go : Dec (times i (line v q) ≡ 0) → times i (line v q) ≤ 1
-      go (yes k) = omega arith
-      go (no k) = rw (g .queues q e .stands i (known-in k)) (once-le (belongs (v .body) q i))
+    go : Dec (times i (line v q) ≡ 0) → times i (line v q) ≤ 1
+    go (yes k) = omega arith
+    go (no k) = rw (g .queues q e .stands i (stands-known v g q e i k)) (once-le (belongs (v .body) q i))
 
 pub one-line : (v : View) → Sound v → OneLine v
 one-line v g = record {
@@ -261,8 +214,6 @@ record Nowhere (F : ℕ → List ℕ) (k n : ℕ) (found : List ℕ) : Type 0 wh
 
 record Somewhere (F : ℕ → List ℕ) (k n : ℕ) (found : List ℕ) : Type 0 where
   place : ℕ
-  low : k ≤ place
-  high : place < k + n
   head : ℕ
   tail : List ℕ
   holds : F place ≡ head ∷ tail
@@ -281,8 +232,6 @@ nonempty-from F k (suc n) = go (F k) refl (nonempty-from F (suc k) n)
     go [] e (inl h) = inl (record { empty = λ p a b. at-first p a (λ c. rw c e) (λ c. h .empty p c (omega arith)); none-found = h .none-found })
     go [] e (inr h) = inr (record {
       place = h .place;
-      low = omega (arith, h .low);
-      high = omega (arith, h .high);
       head = h .head;
       tail = h .tail;
       holds = h .holds;
@@ -291,8 +240,6 @@ nonempty-from F k (suc n) = go (F k) refl (nonempty-from F (suc k) n)
     })
     go (x ∷ l) e h = inr (record {
       place = k;
-      low = omega arith;
-      high = omega arith;
       head = x;
       tail = l;
       holds = e;

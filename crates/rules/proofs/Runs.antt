@@ -1,16 +1,15 @@
 -- What holds of every state that a run reaches: who runs, the order of the lines, and that no block is given out twice. Assumes nothing.
 use mathlib.Core.Bool.{Bool, true, false, not}
 use mathlib.Core.List.{List, [], _∷_}
-use mathlib.Core.Path.{_≡_, refl, sym, ap, subst}
+use mathlib.Core.Path.{_≡_}
 use Prim.Native.Nat.{ℕ, _+_}
 use native.Mathlib.Omega.{arith}
 use lib.ListN.{length}
 use Rattle.rules.specs.Ids.{of, In, once}
 use Rattle.rules.specs.Setup.{got, setup, Setup}
 use Rattle.rules.specs.Events.{Event, AllWords}
-use Rattle.rules.specs.View.{View}
 use Rattle.rules.specs.Sound.{Sound}
-use Rattle.rules.specs.Kernel.{fresh, next}
+use Rattle.rules.specs.Kernel.{fresh}
 use Rattle.rules.specs.Plain.{Plain, viewOf, plainFresh, plainNext}
 use Rattle.rules.specs.Runs.{states, plainStates}
 use Rattle.rules.specs.Order.{Ordered, OneLine, WhoRuns}
@@ -32,7 +31,11 @@ reached : (s : Plain) (l : List Event) → Reached s → AllWords l → Reached 
 unfolding plainStates
 reached s [] r w = r
 reached s (e ∷ l) r w =
-    reached (plainNext s e) l (record { numbers = numbers-next s e (r .numbers); ordered = ordered-next s e (r .numbers) (r .ordered); sound = rw (next-shows s e (r .numbers)) (sound-next (viewOf s) e (r .sound) (w .0)) }) (w .1)
+    reached (plainNext s e) l (record {
+      numbers = numbers-next s e (r .numbers);
+      ordered = ordered-next s e (r .numbers) (r .ordered);
+      sound = rw (next-shows s e (r .numbers)) (sound-next (viewOf s) e (r .sound) (w .0));
+    }) (w .1)
 
 module _ (s : List ℕ) (u : Setup) (i : ℕ) (e : setup s ≡ got u i) (l : List Event) (w : AllWords l) where
   by-run : Reached (plainStates (plainFresh u) l)
@@ -53,9 +56,10 @@ module _ (s : List ℕ) (u : Setup) (i : ℕ) (e : setup s ≡ got u i) (l : Lis
   -- a block that is out is never granted, unless the same event returns it
   pub out-not-granted : (f : Event) (p k : ℕ) → In p (length (plainStates (plainFresh u) l .body .store .pools)) → In k (length (of (plainStates (plainFresh u) l .body .store .pools) p []))
       → isFree (plainStates (plainFresh u) l .body) p k ≡ false → gaveBack (happened (plainStates (plainFresh u) l) f) p k ≡ 0 → granted (happened (plainStates (plainFresh u) l) f) p k ≡ 0
-  out-not-granted f p k rp rk o b = few (isFree (plainNext (plainStates (plainFresh u) l) f .body) p k) (plain-balance (plainStates (plainFresh u) l) f (by-run .numbers) (by-run .sound) p k rp rk)
+  out-not-granted f p k rp rk o b =
+      few (isFree (plainNext (plainStates (plainFresh u) l) f .body) p k) _
+      (rw (o, b) at (plain-balance (plainStates (plainFresh u) l) f (by-run .numbers) (by-run .sound) p k rp rk))
     where
-      few : (t : Bool) → granted (happened (plainStates (plainFresh u) l) f) p k + once (not (isFree (plainStates (plainFresh u) l .body) p k)) ≡ gaveBack (happened (plainStates (plainFresh u) l) f) p k + once (not t)
-          → granted (happened (plainStates (plainFresh u) l) f) p k ≡ 0
-      few true h = let q = rw (o, b) at h in absurd (omega arith)
-      few false h = let q = rw (o, b) at h in omega arith
+      few : (t : Bool) (n : ℕ) → n + 1 ≡ 0 + once (not t) → n ≡ 0
+      few true n h = absurd (omega arith)
+      few false n h = omega arith

@@ -7,51 +7,47 @@ use Prim.Native.Nat.{ℕ, zero, suc, _+_, _≤_, _<_}
 use native.Mathlib.Decide.{ℕ-discrete}
 use native.Mathlib.Omega.{arith}
 use lib.Dec.{eqb, ltb}
-use borrow.Author.Tests.{ltb-true, ltb-false, lt-ltb, le-ltb, eqb-true, ne-eqb, eq-eqb}
+use borrow.Author.Tests.{ltb-true, ltb-false, lt-ltb, le-ltb, eqb-true, ne-eqb, eq-eqb, not-true}
 use Rattle.rules.specs.Ids.{from, ids, In, keep, once, times, insert, byNumber}
-use Rattle.rules.proofs.Ids.{keep-keep, keep-same, times-head, times-tail}
+use Rattle.rules.proofs.Ids.{Each, keep-keep, keep-same}
 
 -- ---- what holds of each of a list
 
-abbrev pub All : (ℕ → Type 0) → List ℕ → Type 0
-All P [] = Unit {0}
-All P (x ∷ l) = P x × All P l
-
 module _ (P : ℕ → Type 0) where
-  pub all-keep : (p : ℕ → Bool) (l : List ℕ) → All P l → All P (keep p l)
+  pub all-keep : (p : ℕ → Bool) (l : List ℕ) → Each P l → Each P (keep p l)
   unfolding keep
   all-keep p [] h = tt
   all-keep p (x ∷ l) h = go (p x) (all-keep p l (h .1))
     where
-      go : (t : Bool) → All P (keep p l) → All P (cond t (x ∷ keep p l) (keep p l))
+      go : (t : Bool) → Each P (keep p l) → Each P (cond t (x ∷ keep p l) (keep p l))
       go true k = (h .0, k)
       go false k = k
 
   -- those that pass a test
-  pub all-kept : (p : ℕ → Bool) (l : List ℕ) → ((i : ℕ) → p i ≡ true → P i) → All P (keep p l)
+  pub all-kept : (p : ℕ → Bool) (l : List ℕ) → ((i : ℕ) → p i ≡ true → P i) → Each P (keep p l)
   unfolding keep
   all-kept p [] h = tt
   all-kept p (x ∷ l) h = go (p x) refl (all-kept p l h)
     where
-      go : (t : Bool) → p x ≡ t → All P (keep p l) → All P (cond t (x ∷ keep p l) (keep p l))
+      go : (t : Bool) → p x ≡ t → Each P (keep p l) → Each P (cond t (x ∷ keep p l) (keep p l))
       go true e k = (h x e, k)
       go false e k = k
 
-  all-insert : (f : ℕ → ℕ) (x : ℕ) (l : List ℕ) → P x → All P l → All P (insert f x l)
+  all-insert : (f : ℕ → ℕ) (x : ℕ) (l : List ℕ) → P x → Each P l → Each P (insert f x l)
   all-insert f x [] h k = (h, tt)
   all-insert f x (y ∷ l) h k = go (ltb (f x) (f y)) (all-insert f x l h (k .1))
     where
-      go : (t : Bool) → All P (insert f x l) → All P (cond t (x ∷ y ∷ l) (y ∷ insert f x l))
+      go : (t : Bool) → Each P (insert f x l) → Each P (cond t (x ∷ y ∷ l) (y ∷ insert f x l))
       go true r = (h, k)
       go false r = (k .0, r)
 
-  pub all-byNumber : (f : ℕ → ℕ) (l : List ℕ) → All P l → All P (byNumber f l)
+  pub all-byNumber : (f : ℕ → ℕ) (l : List ℕ) → Each P l → Each P (byNumber f l)
   unfolding byNumber
   all-byNumber f [] h = tt
   all-byNumber f (x ∷ l) h = all-insert f x (byNumber f l) (h .0) (all-byNumber f l (h .1))
 
   -- of each that stands in the list
-  pub all-has : (l : List ℕ) → All P l → (y : ℕ) → times y l ≢ 0 → P y
+  pub all-has : (l : List ℕ) → Each P l → (y : ℕ) → times y l ≢ 0 → P y
   unfolding times
   all-has [] h y t = absurd (t refl)
   all-has (x ∷ l) h y t = go (ℕ-discrete x y) (all-has l (h .1) y)
@@ -60,11 +56,7 @@ module _ (P : ℕ → Type 0) where
       go (yes e) r = rw (← e) (h .0)
       go (no e) r = r (λ k. t (rw (ne-eqb x y e, k)))
 
-  pub has-all : (l : List ℕ) → ((y : ℕ) → times y l ≢ 0 → P y) → All P l
-  has-all [] h = tt
-  has-all (x ∷ l) h = (h x (times-head x l), has-all l (λ y t. h y (times-tail x y l t)))
-
-pub all-map : (P Q : ℕ → Type 0) (l : List ℕ) → ((i : ℕ) → P i → Q i) → All P l → All Q l
+pub all-map : (P Q : ℕ → Type 0) (l : List ℕ) → ((i : ℕ) → P i → Q i) → Each P l → Each Q l
 all-map P Q [] h k = tt
 all-map P Q (x ∷ l) h k = (h x (k .0), all-map P Q l h (k .1))
 
@@ -86,11 +78,11 @@ times-byNumber i f [] = refl
 times-byNumber i f (x ∷ l) = times-insert i f x (byNumber f l) ∙ ap (λ (n : ℕ). once (eqb x i) + n) (times-byNumber i f l)
 
 -- numbers that agree on the members sort alike
-insert-same : (f g : ℕ → ℕ) (x : ℕ) (l : List ℕ) → f x ≡ g x → All (λ i. f i ≡ g i) l → insert f x l ≡ insert g x l
+insert-same : (f g : ℕ → ℕ) (x : ℕ) (l : List ℕ) → f x ≡ g x → Each (λ i. f i ≡ g i) l → insert f x l ≡ insert g x l
 insert-same f g x [] e h = refl
 insert-same f g x (y ∷ l) e h = λ z. cond (ltb (e z) (h .0 z)) (x ∷ y ∷ l) (y ∷ insert-same f g x l e (h .1) z)
 
-pub byNumber-same : (f g : ℕ → ℕ) (l : List ℕ) → All (λ i. f i ≡ g i) l → byNumber f l ≡ byNumber g l
+pub byNumber-same : (f g : ℕ → ℕ) (l : List ℕ) → Each (λ i. f i ≡ g i) l → byNumber f l ≡ byNumber g l
 unfolding byNumber
 byNumber-same f g [] h = refl
 byNumber-same f g (x ∷ l) h =
@@ -100,10 +92,10 @@ byNumber-same f g (x ∷ l) h =
 
 abbrev pub Sorted : (ℕ → ℕ) → List ℕ → Type 0
 Sorted f [] = Unit {0}
-Sorted f (x ∷ l) = All (λ i. f x ≤ f i) l × Sorted f l
+Sorted f (x ∷ l) = Each (λ i. f x ≤ f i) l × Sorted f l
 
 -- x with a smaller number than all goes first
-insert-first : (f : ℕ → ℕ) (x : ℕ) (l : List ℕ) → All (λ i. f x < f i) l → insert f x l ≡ x ∷ l
+insert-first : (f : ℕ → ℕ) (x : ℕ) (l : List ℕ) → Each (λ i. f x < f i) l → insert f x l ≡ x ∷ l
 insert-first f x [] h = refl
 insert-first f x (y ∷ l) h = rw (lt-ltb (f x) (f y) (h .0))
 
@@ -163,13 +155,6 @@ keep-byNumber f p (x ∷ l) = go (p x) refl (keep-byNumber f p l)
 abbrev pub but : ℕ → List ℕ → List ℕ
 but a l = keep (λ i. not (eqb a i)) l
 
-other : (a i : ℕ) → not (eqb a i) ≡ true → eqb a i ≡ false
-other a i e = go (eqb a i) e
-  where
-    go : (t : Bool) → not t ≡ true → t ≡ false
-    go true k = sym k
-    go false k = refl
-
 module _ (g : ℕ → ℕ) (a : ℕ) where
   -- as often as a stands in the list
   abbrev each-a : List ℕ → List ℕ
@@ -194,7 +179,7 @@ module _ (g : ℕ → ℕ) (a : ℕ) where
       go true e r = rw (← eqb-true a x e) (rw (le-ltb (g a) (g a) (omega arith)) (ap (λ (k : List ℕ). a ∷ k) r))
       go false e r = r
 
-  insert-last : (m l : List ℕ) → All (λ i. g i < g a) m → insert g a (m ++ each-a l) ≡ m ++ (a ∷ each-a l)
+  insert-last : (m l : List ℕ) → Each (λ i. g i < g a) m → insert g a (m ++ each-a l) ≡ m ++ (a ∷ each-a l)
   insert-last [] l h = insert-alike l
   insert-last (x ∷ m) l h = rw (le-ltb (g a) (g x) (omega (arith, h .0))) (ap (λ (k : List ℕ). x ∷ k) (insert-last m l (h .1)))
 
@@ -207,7 +192,7 @@ module _ (g : ℕ → ℕ) (a : ℕ) where
       go : (t : Bool) → eqb a y ≡ t → insert g y (byNumber g (but a l) ++ each-a l) ≡ byNumber g (cond (not t) (y ∷ but a l) (but a l)) ++ cond t (y ∷ each-a l) (each-a l)
       go true e =
           rw (← eqb-true a y e)
-          (insert-last (byNumber g (but a l)) l (all-byNumber (λ i. g i < g a) g (but a l) (all-kept (λ i. g i < g a) (λ i. not (eqb a i)) l (λ i n. h i (other a i n)))))
+          (insert-last (byNumber g (but a l)) l (all-byNumber (λ i. g i < g a) g (but a l) (all-kept (λ i. g i < g a) (λ i. not (eqb a i)) l (λ i n. h i (not-true (eqb a i) n)))))
       go false e = insert-before y (byNumber g (but a l)) l (h y e)
 
 -- ---- the newcomer among the ids
@@ -237,7 +222,7 @@ keep-at r a n h = keep-from r a 1 n (h .0) (omega (arith, h .1))
 module _ (f g : ℕ → ℕ) (was is : ℕ → Bool) (a n : ℕ) (others : (i : ℕ) → eqb a i ≡ false → (is i ≡ was i) × (g i ≡ f i)) where
   but-last : byNumber g (but a (keep is (ids n))) ≡ but a (byNumber f (keep was (ids n)))
   but-last =
-      byNumber-same g f (but a (keep is (ids n))) (all-kept (λ i. g i ≡ f i) (λ i. not (eqb a i)) (keep is (ids n)) (λ i e. others i (other a i e) .1))
+      byNumber-same g f (but a (keep is (ids n))) (all-kept (λ i. g i ≡ f i) (λ i. not (eqb a i)) (keep is (ids n)) (λ i e. others i (not-true (eqb a i) e) .1))
       ∙ ap (byNumber f) (keep-keep _ is (ids n) ∙ keep-same (ids n) (λ i. alike i (eqb a i) refl) ∙ sym (keep-keep _ was (ids n)))
       ∙ sym (keep-byNumber f (λ i. not (eqb a i)) (keep was (ids n)))
     where

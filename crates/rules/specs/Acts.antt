@@ -1,5 +1,5 @@
 -- The acts of which every event is made: what each changes in the state, and who leaves a queue or goes last in one.
-use mathlib.Core.Bool.{Bool, true, false, cond}
+use mathlib.Core.Bool.{Bool, cond}
 use mathlib.Core.List.{List, [], _∷_, map}
 use mathlib.Core.Option.{Option, none, some}
 use Prim.Native.Nat.{ℕ, suc, pred, _%_, _^_}

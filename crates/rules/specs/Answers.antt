@@ -1,11 +1,11 @@
 -- What comes back of an event, and the reading of a cell.
-use mathlib.Core.Bool.{Bool, true, false, cond, _&&_}
+use mathlib.Core.Bool.{Bool, cond, _&&_}
 use mathlib.Core.List.{List, [], _∷_}
 use Prim.Native.Nat.{ℕ, _+_}
 use lib.IntN.{ℤ, pos}
 use lib.ListN.{length}
 use Rattle.rules.specs.Ids.{once}
-use Rattle.rules.specs.Codes.{Code, H-STATE, E-NOEXS, number}
+use Rattle.rules.specs.Codes.{Code, E-NOEXS, number}
 use Rattle.rules.specs.State.{State, Cell, Task, Body, task, isWaiting, isFreed}
 use Rattle.rules.specs.Events.{nat, outside}
 use Rattle.rules.specs.View.{View, running}

@@ -1,19 +1,18 @@
 -- Soundness is decided: the type of `sound?` says all that there is to know of it.
-use mathlib.Core.Bool.{Bool, true, false}
+use mathlib.Core.Bool.{Bool, true, false, false≢true, Bool-discrete}
 use mathlib.Core.List.{List, [], _∷_}
-use mathlib.Core.Logic.{_⊎_, inl, inr, _≢_}
+use mathlib.Core.Logic.{_⊎_, inl, inr}
 use mathlib.Core.Option.{Option, none, some}
 use mathlib.Core.Path.{_≡_, refl}
-use mathlib.Core.Bool.{Bool-discrete}
-use Prim.Native.Nat.{ℕ, zero, suc, _≤_, _<_, _^_}
+use Prim.Native.Nat.{ℕ, zero, suc, _<_, _^_}
 use native.Mathlib.Decide.{decLe, decLt, ℕ-discrete}
-use native.Mathlib.Nat.{eq-or-lt-of-le, le-of-lt, le-refl}
+use native.Mathlib.Nat.{eq-or-lt-of-le}
 use native.Mathlib.Omega.{arith}
 use lib.ListN.{length}
 use Rattle.rules.specs.Ids.{of, In, times}
 use Rattle.rules.specs.Codes.{OK, E-TMOUT, E-RLWAI, Code-discrete}
 use Rattle.rules.specs.State.{Kind, semaphore, flag, mailbox, pool, Wait, asleep, timed, on, Cell, Task, Store, Body, task, objects, waitOf, isDormant, sleeps}
-use Rattle.rules.specs.Places.{Place, readyAt, waiters, mail, many, belongs, at, Lines, Exists, lineAt}
+use Rattle.rules.specs.Places.{Place, readyAt, waiters, mail, many, at, Lines, Exists}
 use Rattle.rules.specs.Sound.{Sizes, LiesWell, StoreNumbers, CellNumbers, WishNumbers, WaitNumbers, Unserved, SoundTask, SoundBody, Shape, Known, Queue, Sound}
 use Rattle.rules.specs.View.{View, line}
 
@@ -40,7 +39,7 @@ module _ {A : Type 0} where
   unfoldable pub if? : (t : Bool) → Dec A → Dec (t ≡ true → A)
   if? true (yes a) = yes (λ e. a)
   if? true (no h) = no (λ f. h (f refl))
-  if? false d = yes (λ e. absurd (mathlib.Core.Bool.false≢true e))
+  if? false d = yes (λ e. absurd (false≢true e))
 
 -- over the ids 1 to n, and over the kinds
 module _ {P : ℕ → Type 0} where

@@ -3,11 +3,11 @@ use mathlib.Core.List.{List, [], _∷_}
 use mathlib.Core.Logic.{_≢_}
 use mathlib.Core.Path.{_≡_}
 use lib.IntN.{ℤ}
-use Rattle.rules.specs.Codes.{Code, H-STATE}
+use Rattle.rules.specs.Codes.{H-STATE}
 use Rattle.rules.specs.Places.{tabulate}
 use Rattle.rules.specs.Events.{Event}
 use Rattle.rules.specs.View.{View}
-use Rattle.rules.specs.Answers.{Answer, readCell}
+use Rattle.rules.specs.Answers.{readCell}
 use Rattle.rules.specs.Kernel.{event, cell}
 use Rattle.rules.specs.Plain.{Plain, queueOf, plainNext, plainAnswer}
 use Rattle.rules.specs.Blocks.{Happened, AllAccounted}

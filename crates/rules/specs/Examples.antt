@@ -1,15 +1,17 @@
 -- Worked examples: every call in use and every code that a run can give; damaged states; setups that are refused.
+use mathlib.Core.Bool.{cond}
 use mathlib.Core.List.{List, [], _∷_, _++_, map}
 use mathlib.Core.Option.{none, some}
 use Prim.Native.Nat.{ℕ, _-_, _/_, _%_, _^_}
 use lib.IntN.{ℤ, pos}
 use lib.ListN.{replicate}
 use Rattle.rules.specs.Ids.{put}
-use Rattle.rules.specs.Codes.{E-RLWAI, minus, number}
+use Rattle.rules.specs.Codes.{H-POLL, E-RLWAI, minus, number}
 use Rattle.rules.specs.Setup.{Fault, S1, S2, S3, S4, Read, got, refused, and-then, setup}
 use Rattle.rules.specs.Events.{Event, tick, call}
-use Rattle.rules.specs.State.{semaphore, asleep, timed, on, State, waiting, Body}
-use Rattle.rules.specs.Acts.{with-state, with-wakeups, with-cell, with-messages, with-store, change}
+use Rattle.rules.specs.State.{Kind, semaphore, flag, mailbox, pool, asleep, timed, on, State, suspended, waiting, Body}
+use Rattle.rules.specs.Places.{sameKind, at, each}
+use Rattle.rules.specs.Acts.{with-state, with-priority, with-wakeups, with-cell, with-semaphores, with-messages, with-store, change}
 use Rattle.rules.specs.View.{View}
 use Rattle.rules.specs.Answers.{numbers}
 use Rattle.rules.specs.Kernel.{fresh, event, cell}
@@ -336,6 +338,7 @@ examples = record {
       (step (X wai-flg 99 0 9) (minus 2100) 0 0 1 0
       ∷ step (X wai-flg 1 0 9) (minus 2) 0 0 1 0
       ∷ step (X wai-flg 1 1 4) (minus 2) 0 0 1 0
+      ∷ step (X pol-flg 1 0 0) (minus 2) 0 0 1 0
       ∷ step (X± pol-flg (pos 1) (pos 1) (minus 1)) (minus 2) 0 0 1 0
       ∷ step (H wai-flg 1 0 0) (minus 2) 0 0 1 0
       ∷ step (H wai-flg 1 1 0) (minus 2629) 0 0 1 0
@@ -449,6 +452,69 @@ examples = record {
       ∷ step (X get-tim 0 0 0) (pos 0) 1 1 1 0
       ∷ [])
       1 (pos 0) 0
+      -- After 2^48 - 1 comes 0, and not sooner.
+      ∷ case (2 ^ 47 - 1) 1
+      (step tick (pos 0) 0 0 1 0 ∷ step (X get-tim 0 0 0) (pos 0) 32768 0 1 0 ∷ [])
+      1 (pos 0) 0
+      -- E_NOEXS: id outside 1..count, in every call that names a task or an object.
+      ∷ case 0 1
+      (step (X sta-tsk 6 0 0) (minus 2100) 0 0 1 0
+      ∷ step (X ter-tsk 6 0 0) (minus 2100) 0 0 1 0
+      ∷ step (X chg-pri 6 1 0) (minus 2100) 0 0 1 0
+      ∷ step (X rel-wai 6 0 0) (minus 2100) 0 0 1 0
+      ∷ step (X sus-tsk 6 0 0) (minus 2100) 0 0 1 0
+      ∷ step (X rsm-tsk 6 0 0) (minus 2100) 0 0 1 0
+      ∷ step (X wup-tsk 6 0 0) (minus 2100) 0 0 1 0
+      ∷ step (X can-wup 6 0 0) (minus 2100) 0 0 1 0
+      ∷ step (X sig-sem 4 0 0) (minus 2100) 0 0 1 0
+      ∷ step (X wai-sem 4 0 0) (minus 2100) 0 0 1 0
+      ∷ step (X preq-sem 4 0 0) (minus 2100) 0 0 1 0
+      ∷ step (X set-flg 3 1 0) (minus 2100) 0 0 1 0
+      ∷ step (X clr-flg 3 1 0) (minus 2100) 0 0 1 0
+      ∷ step (X wai-flg 3 1 0) (minus 2100) 0 0 1 0
+      ∷ step (X pol-flg 3 1 0) (minus 2100) 0 0 1 0
+      ∷ step (X snd-msg 3 1 0) (minus 2100) 0 0 1 0
+      ∷ step (X rcv-msg 3 0 0) (minus 2100) 0 0 1 0
+      ∷ step (X prcv-msg 3 0 0) (minus 2100) 0 0 1 0
+      ∷ step (X get-blk 3 0 0) (minus 2100) 0 0 1 0
+      ∷ step (X pget-blk 3 0 0) (minus 2100) 0 0 1 0
+      ∷ step (X rel-blk 3 1 0) (minus 2100) 0 0 1 0
+      ∷ step (X tsk-sts 6 0 0) (minus 2100) 0 0 1 0
+      ∷ step (X sem-sts 4 0 0) (minus 2100) 0 0 1 0
+      ∷ step (X flg-sts 3 0 0) (minus 2100) 0 0 1 0
+      ∷ step (X mbx-sts 3 0 0) (minus 2100) 0 0 1 0
+      ∷ step (X mpl-sts 3 0 0) (minus 2100) 0 0 1 0
+      ∷ [])
+      1 (pos 0) 0
+      -- T marks task-only: every other call is served from a handler too.
+      ∷ case 7 1
+      (step (X slp-tsk 0 0 0) (pos 1) 0 0 2 0
+      ∷ step (H rel-wai 1 0 0) (pos 0) 0 0 2 1
+      ∷ step (H sta-tsk 3 0 0) (pos 0) 0 0 3 0
+      ∷ step (H chg-pri 3 4 0) (pos 0) 0 0 2 0
+      ∷ step (H rot-rdq 2 0 0) (pos 0) 0 0 5 0
+      ∷ step (H sus-tsk 5 0 0) (pos 0) 0 0 1 0
+      ∷ step (H rsm-tsk 5 0 0) (pos 0) 0 0 1 0
+      ∷ step (H wup-tsk 5 0 0) (pos 0) 0 0 1 0
+      ∷ step (H can-wup 5 0 0) (pos 0) 1 0 1 0
+      ∷ step (H sig-sem 1 0 0) (pos 0) 0 0 1 0
+      ∷ step (H sem-sts 1 0 0) (pos 0) 0 1 1 0
+      ∷ step (H preq-sem 1 0 0) (pos 0) 0 0 1 0
+      ∷ step (H set-flg 1 3 0) (pos 0) 0 0 1 0
+      ∷ step (H clr-flg 1 1 0) (pos 0) 0 0 1 0
+      ∷ step (H flg-sts 1 0 0) (pos 0) 0 1 1 0
+      ∷ step (H pol-flg 1 1 0) (pos 0) 1 0 1 0
+      ∷ step (H snd-msg 1 2 0) (pos 0) 0 0 1 0
+      ∷ step (H mbx-sts 1 0 0) (pos 0) 0 2 1 0
+      ∷ step (H prcv-msg 1 0 0) (pos 0) 2 0 1 0
+      ∷ step (H pget-blk 1 0 0) (pos 0) 1 0 1 0
+      ∷ step (H mpl-sts 1 0 0) (pos 0) 0 1 1 0
+      ∷ step (H rel-blk 1 1 0) (pos 0) 0 0 1 0
+      ∷ step (H get-tid 0 0 0) (pos 0) 1 0 1 0
+      ∷ step (H tsk-sts 3 0 0) (pos 0) 1 4 1 0
+      ∷ step (H get-tim 0 0 0) (pos 0) 0 7 1 0
+      ∷ [])
+      1 (minus 3414) 0
       -- H_CALL: call number not 1..32, or context not 0 or 1; before the parameters.
       ∷ case 0 1
       (step (call (pos 0) (pos 0) (pos 0) (pos 0) (pos 0)) (minus 1) 0 0 1 0
@@ -487,16 +553,16 @@ examples = record {
 abbrev with-body : (Body → Body) → View → View
 with-body f v = record { body = f (v .body); lines = v .lines }
 
--- the lines of a priority, of a semaphore and of a mailbox changed
+-- the lines of a priority, of an object and of a mailbox changed
 abbrev with-ready : ℕ → List ℕ → View → View
 with-ready p l v = record { body = v .body; lines = record { ready = put (v .lines .ready) p l; waiting = v .lines .waiting; mail = v .lines .mail } }
 
-abbrev with-waiters : ℕ → List ℕ → View → View
-with-waiters s l v = record {
+abbrev with-waiters : Kind → ℕ → List ℕ → View → View
+with-waiters k o l v = record {
   body = v .body;
   lines = record {
     ready = v .lines .ready;
-    waiting = record { semaphores = put (v .lines .waiting .semaphores) s l; flags = v .lines .waiting .flags; mailboxes = v .lines .waiting .mailboxes; pools = v .lines .waiting .pools };
+    waiting = each (λ j. cond (sameKind k j) (put (at (v .lines .waiting) j) o l) (at (v .lines .waiting) j));
     mail = v .lines .mail;
   };
 }
@@ -504,9 +570,13 @@ with-waiters s l v = record {
 abbrev with-mail : ℕ → List ℕ → View → View
 with-mail m l v = record { body = v .body; lines = record { ready = v .lines .ready; waiting = v .lines .waiting; mail = put (v .lines .mail) m l } }
 
--- task 2 put by hand into a wait on a semaphore, everything else as it must then be
-abbrev pub with-waiter : ℕ → View → View
-with-waiter s v = with-waiters s (2 ∷ []) (with-ready 2 (1 ∷ 5 ∷ []) (with-body (change (with-state (waiting (on semaphore s 0 0))) 2) v))
+-- message 1 laid by hand in a mailbox
+abbrev pub with-message : ℕ → View → View
+with-message m v = with-mail m (1 ∷ []) (with-body (λ b. with-store (with-messages (some m ∷ none ∷ none ∷ []) (b .store)) b) v)
+
+-- task 2 put by hand into a wait on an object, with a pattern and a mode; everything else as it must then be
+abbrev pub with-waiter : Kind → ℕ → ℕ → ℕ → View → View
+with-waiter k o p m v = with-waiters k o (2 ∷ []) (with-ready 2 (1 ∷ 5 ∷ []) (with-body (change (with-state (waiting (on k o p m))) 2) v))
 
 -- task 2 put by hand into a sleep
 abbrev pub with-sleeper : State → View → View
@@ -523,26 +593,56 @@ damages =
     ∷ with-ready 2 (1 ∷ 2 ∷ 5 ∷ 4 ∷ [])
     -- a task 9, that there is not, stands in one.
     ∷ with-ready 4 (9 ∷ [])
-    -- No waiter beside a nonzero semaphore: semaphore 2 has the count 1.
-    ∷ with-waiter 2
-    -- A wait names an object that exists: there is no semaphore 4.
-    ∷ with-waiter 4
-    -- Numbers lie in their ranges: the clock is 2^48.
+    -- Others stand in none: task 2, SUSPEND, has kept its place.
+    ∷ with-body (change (with-state suspended) 2)
+    -- A waiter on an object stands once in that object's queue: task 2 stands in none; in another's as well.
+    ∷ (λ v. with-waiters semaphore 1 [] (with-waiter semaphore 1 0 0 v))
+    ∷ (λ v. with-waiters semaphore 2 (2 ∷ []) (with-waiter semaphore 1 0 0 v))
+    -- No waiter beside a nonzero semaphore (semaphore 2 has the count 1), a waiting message, a free block or a pattern that meets its
+    -- condition (flag 2 has the pattern 5).
+    ∷ with-waiter semaphore 2 0 0
+    ∷ (λ v. with-message 1 (with-waiter mailbox 1 0 0 v))
+    ∷ with-waiter pool 1 0 0
+    ∷ with-waiter flag 2 4 0
+    -- A wait names an object that exists: there is no semaphore 4. A flag wait has a nonzero pattern and a mode 0..3.
+    ∷ with-waiter semaphore 4 0 0
+    ∷ with-waiter flag 1 0 1
+    ∷ with-waiter flag 1 2 4
+    -- Numbers lie in their ranges: the clock is 2^48; a wake-up count is 16; a priority is 5; a semaphore has the
+    -- count 65536.
     ∷ with-body (at-clock (2 ^ 48))
-    -- A cell's word is 0 unless the code is 0.
+    ∷ with-body (change (with-wakeups 16) 1)
+    ∷ (λ v. with-ready 3 [] (with-body (change (with-priority 5) 4) v))
+    ∷ with-body (λ b. with-store (with-semaphores (0 ∷ 1 ∷ 65536 ∷ []) (b .store)) b)
+    -- A cell's code is 0, E_TMOUT or E_RLWAI, its word 0 unless the code is 0.
+    ∷ with-body (change (with-cell (record { code = H-POLL; word = 0 })) 1)
     ∷ with-body (change (with-cell (record { code = E-RLWAI; word = 5 })) 1)
-    -- A message lies in one mailbox at most: message 1 stands in both.
-    ∷ (λ v. with-mail 1 (1 ∷ []) (with-mail 2 (1 ∷ []) (with-body (λ b. with-store (with-messages (some 1 ∷ none ∷ none ∷ []) (b .store)) b) v)))
-    -- A sleeper has wake-up count 0.
+    -- A message lies in one mailbox at most, once: message 1 stands in both; twice in one; it lies in one in which it does not stand;
+    -- it lies in one that there is not.
+    ∷ (λ v. with-mail 2 (1 ∷ []) (with-message 1 v))
+    ∷ (λ v. with-mail 1 (1 ∷ 1 ∷ []) (with-message 1 v))
+    ∷ (λ v. with-mail 1 [] (with-message 1 v))
+    ∷ with-message 3
+    -- A sleeper and a dormant task have wake-up count 0; a dormant task has its starting priority.
     ∷ (λ v. with-body (change (with-wakeups 1) 2) (with-sleeper (waiting asleep) v))
+    ∷ with-body (change (with-wakeups 1) 3)
+    ∷ with-body (change (with-priority 2) 3)
     -- A timed wait has 1 to 2147483647 ticks left.
     ∷ with-sleeper (waiting (timed 0))
     ∷ with-sleeper (waiting (timed 2147483648))
     ∷ []
 
--- close to these, but no rule is broken: a waiter on semaphore 1, whose count is 0; a sleeper with one tick left; the last clock
+-- close to these, but no rule is broken: a waiter on semaphore 1, whose count is 0; one on flag 2 that asks for a bit that is not set; one
+-- beside another mailbox's message; a sleeper with one tick left; the last clock; a message that lies in a mailbox
 abbrev pub repairs : List (View → View)
-repairs = with-waiter 1 ∷ with-sleeper (waiting (timed 1)) ∷ with-body (at-clock (2 ^ 48 - 1)) ∷ []
+repairs =
+    with-waiter semaphore 1 0 0
+    ∷ with-waiter flag 2 2 3
+    ∷ (λ v. with-message 1 (with-waiter mailbox 2 0 0 v))
+    ∷ with-sleeper (waiting (timed 1))
+    ∷ with-body (at-clock (2 ^ 48 - 1))
+    ∷ with-message 1
+    ∷ []
 
 -- what comes back of an event there, the state after it, and the cell of a task before it
 pub record Touched : Type 0 where

@@ -2,9 +2,9 @@
 -- The kinds have one shape: a call that gives (sig, set, snd, rel) serves the first waiter, else stores; a call that takes is
 -- served at once, or else waits (wai, rcv, get) or is refused (the polls); a status call gives the first waiter and what is stored.
 use mathlib.Core.Bool.{Bool, true, false, not, cond, _||_}
-use mathlib.Core.List.{List, [], _∷_, _++_}
+use mathlib.Core.List.{List, [], _∷_}
 use mathlib.Core.Option.{Option, none, some}
-use Prim.Native.Nat.{ℕ, zero, suc, _%_}
+use Prim.Native.Nat.{ℕ, suc, _%_}
 use lib.Bits.{bitAnd, bitOr}
 use lib.Dec.{eqb, leb}
 use lib.IntN.{ℤ}

@@ -1,12 +1,12 @@
 -- The queues' places, who belongs where (it follows from the state), and the table of the lines at all places.
 use mathlib.Core.Bool.{Bool, true, false, _&&_}
-use mathlib.Core.List.{List, [], _∷_, map}
+use mathlib.Core.List.{List, [], map}
 use mathlib.Core.Option.{Option, none, some}
 use Prim.Native.Nat.{ℕ}
 use lib.Dec.{eqb}
 use lib.ListN.{length}
 use Rattle.rules.specs.Ids.{of, ids, In}
-use Rattle.rules.specs.State.{Kind, semaphore, flag, mailbox, pool, Wait, asleep, timed, on, State, Task, Store, Body, task, objects, waitOf, isReady}
+use Rattle.rules.specs.State.{Kind, semaphore, flag, mailbox, pool, Wait, asleep, timed, on, State, Store, Body, task, objects, waitOf, isReady}
 
 -- the ready queue of a priority, the waiters on an object, the messages of a mailbox
 pub data Place : Type 0 where

@@ -1,9 +1,7 @@
 -- The plain kernel (the paper's word): no queues, but arrival numbers from one count that only rises. It is fed the setup and the
 -- events alone, and judges an event by the same rules, all over its own queues, its own running task and its own states.
-use mathlib.Core.Bool.{Bool, true, false}
 use mathlib.Core.List.{List, [], _∷_}
 use Prim.Native.Nat.{ℕ, suc}
-use lib.IntN.{ℤ}
 use lib.ListN.{length, replicate}
 use Rattle.rules.specs.Ids.{of, put, ids, keep, byNumber}
 use Rattle.rules.specs.State.{Body}

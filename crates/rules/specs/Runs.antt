@@ -5,7 +5,7 @@ use lib.IntN.{ℤ}
 use native.Mathlib.Decide.{decLe, decLt, ℕ-discrete}
 use Rattle.rules.specs.Ids.{ids, keep, times, byNumber}
 use Rattle.rules.specs.Codes.{number}
-use Rattle.rules.specs.Setup.{Read, got, refused, and-then, readWord, readEntry, readEntries, readSection, readSections, readSetup, at-end, setup, Setup}
+use Rattle.rules.specs.Setup.{Read, got, and-then, readWord, readEntry, readEntries, readSection, readSections, readSetup, at-end, setup}
 use Rattle.rules.specs.Events.{Event, eventsOf}
 use Rattle.rules.specs.Places.{many, belongs, lineAt, tabulate}
 use Rattle.rules.specs.Acts.{after, move}

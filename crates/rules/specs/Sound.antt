@@ -8,8 +8,8 @@ use Prim.Native.Nat.{ℕ, _≤_, _<_, _^_}
 use lib.Dec.{eqb}
 use lib.ListN.{length}
 use Rattle.rules.specs.Ids.{of, In, once, times}
-use Rattle.rules.specs.Codes.{Code, OK, E-TMOUT, E-RLWAI}
-use Rattle.rules.specs.State.{Kind, semaphore, flag, mailbox, pool, Wait, asleep, timed, on, State, Cell, Task, Store, Body, task, objects, waitOf, isDormant, sleeps}
+use Rattle.rules.specs.Codes.{OK, E-TMOUT, E-RLWAI}
+use Rattle.rules.specs.State.{Kind, semaphore, flag, mailbox, pool, Wait, asleep, timed, on, Cell, Task, Store, Body, task, objects, waitOf, isDormant, sleeps}
 use Rattle.rules.specs.Places.{Place, many, lies, belongs, at, Lines, Exists}
 use Rattle.rules.specs.Objects.{met, free}
 use Rattle.rules.specs.View.{View, line}

@@ -1,12 +1,12 @@
 -- The table of the calls, the order of the refusals, and the judgement of an event.
-use mathlib.Core.Bool.{Bool, true, false, not, cond, _&&_, _||_}
-use mathlib.Core.List.{List, [], _∷_, _++_}
+use mathlib.Core.Bool.{Bool, true, false, not, cond, _&&_}
+use mathlib.Core.List.{List, [], _∷_}
 use mathlib.Core.Option.{Option, none, some}
 use Prim.Native.Nat.{ℕ, zero, suc}
 use lib.Dec.{eqb}
 use lib.IntN.{ℤ, pos, negsuc}
-use lib.ListN.{length, getD}
-use Rattle.rules.specs.Ids.{of, first}
+use lib.ListN.{length}
+use Rattle.rules.specs.Ids.{first}
 use Rattle.rules.specs.Codes.{Code, H-CALL, H-PAR, E-NOEXS, E-TPRI, E-ILTIME, E-CTX, E-SELF, E-DMT}
 use Rattle.rules.specs.State.{Kind, semaphore, flag, mailbox, pool, on, objects, isDormant}
 use Rattle.rules.specs.Places.{mail}

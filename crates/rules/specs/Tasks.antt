@@ -1,7 +1,7 @@
 -- Calls 1 to 12, 26 and 27: tasks. A rule here is what is left of a call once the common refusals are out of the way (Table.antt):
 -- the task that a word names exists, and is neither oneself nor dormant where that would be refused. `me` is the caller.
-use mathlib.Core.Bool.{Bool, true, false, not, cond}
-use mathlib.Core.List.{List, [], _∷_}
+use mathlib.Core.Bool.{Bool, not, cond}
+use mathlib.Core.List.{[], _∷_}
 use Prim.Native.Nat.{ℕ, zero, suc}
 use lib.Dec.{eqb, leb}
 use lib.IntN.{ℤ, pos, negsuc}

@@ -1,5 +1,5 @@
 -- A view: what the rules are read over. And the running rule.
-use mathlib.Core.Bool.{Bool, true, false, not}
+use mathlib.Core.Bool.{not}
 use mathlib.Core.List.{List, [], _∷_, _++_}
 use Prim.Native.Nat.{ℕ}
 use Rattle.rules.specs.Ids.{keep, first}
