@@ -1,0 +1,4 @@
+pub mod Columns
+pub mod Links
+pub mod Rings
+pub mod Survey

@@ -1,0 +1,105 @@
+-- What the reader gives without what it read: a fault is passed on, and the rest goes by the offset alone. Assumes nothing.
+use mathlib.Core.Bool.{Bool, true, false, cond}
+use mathlib.Core.List.{List, [], _∷_}
+use mathlib.Core.Path.{_≡_, refl, ap, _∙_}
+use Prim.Native.Nat.{ℕ, zero, suc, _-_, _<_}
+use native.Mathlib.Omega.{arith}
+use lib.Dec.{leb}
+use lib.ListN.{length}
+use Rattle.rules.specs.Setup.{Fault, S2, S3, S4, digit, Read, got, refused, and-then, wordAt, Range, readWord, Section, priorities, sections, readEntry, readEntries, readSection, readSections, readSetup, at-end, setup}
+use Rattle.setup.specs.Judging.{judgedOf, onGood}
+use Rattle.setup.specs.declared.Judged.{Judged}
+use Rattle.setup.specs.declared.Judged.the-variants.{Bad, Good}
+use Rattle.setup.proofs.Reading.{from-read, word-lies, section-lies}
+
+module _ {A B : Type 0} where
+  -- where what follows goes by the offset alone
+  then-judged : (r : Read A) (f : A → ℕ → Read B) (g : ℕ → Judged) → ((a : A) (i : ℕ) → r ≡ got a i → judgedOf (f a i) ≡ g i) → judgedOf (and-then r f) ≡ onGood (judgedOf r) g
+  unfolding and-then
+  then-judged (got a i) f g h = h a i refl
+  then-judged (refused d i) f g h = refl
+
+  -- where nothing follows
+  map-judged : (r : Read A) (f : A → B) → judgedOf (and-then r (λ a i. got (f a) i)) ≡ judgedOf r
+  unfolding and-then
+  map-judged (got a i) f = refl
+  map-judged (refused d i) f = refl
+
+module _ {A : Type 0} where
+  -- what was judged tells what the reader gave
+  pub good-read : (r : Read A) (k : ℕ) → judgedOf r ≡ Good k → (a : A) × (r ≡ got a k)
+  good-read (got a i) k e = (a, let z : i ≡ k = cc in ap (got a) z)
+  good-read (refused f i) k e = absurd (let z : _≡_ {A = ℕ} 0 1 = cc in omega arith)
+
+  pub bad-read : (r : Read A) (d i : ℕ) → judgedOf r ≡ Bad d i → (f : Fault) × (r ≡ refused f i) × (d ≡ digit f)
+  bad-read (got a k) d i e = absurd (let z : _≡_ {A = ℕ} 0 1 = cc in omega arith)
+  bad-read (refused f k) d i e = (f, let z : k ≡ i = cc in ap (refused f) z, cc)
+
+on-good : (x : Judged) → onGood x Good ≡ x
+on-good (Good i) = refl
+on-good (Bad d i) = refl
+
+module _ (s : List ℕ) where
+  pub nothing-judged : (i : ℕ) → judgedOf (readEntry s [] i) ≡ Good i
+  unfolding readEntry
+  nothing-judged i = refl
+
+  words-judged : (r : Range) (e : List Range) (i : ℕ) → judgedOf (readEntry s (r ∷ e) i) ≡ onGood (judgedOf (readWord s r S3 i)) (λ j. judgedOf (readEntry s e j))
+  unfolding readEntry
+  words-judged r e i = then-judged (readWord s r S3 i) _ _ (λ w j q. map-judged (readEntry s e j) _)
+
+  pub word-judged : (r : Range) (i : ℕ) → judgedOf (readEntry s (r ∷ []) i) ≡ judgedOf (readWord s r S3 i)
+  unfolding readEntry
+  word-judged r i = words-judged r [] i ∙ on-good (judgedOf (readWord s r S3 i))
+
+  pub pair-judged : (a b : Range) (i : ℕ) → judgedOf (readEntry s (a ∷ b ∷ []) i) ≡ onGood (judgedOf (readWord s a S3 i)) (λ j. judgedOf (readWord s b S3 j))
+  pair-judged a b i = words-judged a (b ∷ []) i ∙ simp (word-judged b)
+
+  pub entries-judged : (e : List Range) (n i : ℕ) → 0 < n → judgedOf (readEntries s e n i) ≡ onGood (judgedOf (readEntry s e i)) (λ j. judgedOf (readEntries s e (n - 1) j))
+  unfolding readEntries
+  entries-judged e zero i l = absurd (omega (arith, l))
+  entries-judged e (suc n) i l =
+      let m : suc n - 1 ≡ n = omega arith in
+      rw m (then-judged (readEntry s e i) _ _ (λ x j q. map-judged (readEntries s e n j) _))
+
+  pub no-entries-judged : (e : List Range) (n i : ℕ) → n ≡ 0 → judgedOf (readEntries s e n i) ≡ Good i
+  unfolding readEntries
+  no-entries-judged e n i z = rw z
+
+  pub section-judged : (t : Section) (i : ℕ) → judgedOf (readSection s t i) ≡ onGood (judgedOf (readWord s (t .count) S2 i)) (λ j. judgedOf (readEntries s (t .entry) (wordAt s i) j))
+  unfolding readSection
+  section-judged t i =
+      then-judged (readWord s (t .count) S2 i) _ _
+      (λ n j q. ap (λ m. judgedOf (readEntries s (t .entry) m j)) (from-read _ _ n j q (word-lies s (t .count) S2 i) .0))
+
+  -- one section after the other, as the code goes
+  abbrev pub afterAll : List Section → Judged → Judged
+  afterAll [] x = x
+  afterAll (t ∷ l) x = afterAll l (onGood x (λ i. judgedOf (readSection s t i)))
+
+  sections-judged : (l : List Section) (x : Judged) → onGood x (λ i. judgedOf (readSections s l i)) ≡ afterAll l x
+  unfolding readSections
+  sections-judged [] (Good i) = refl
+  sections-judged [] (Bad d i) = refl
+  sections-judged (t ∷ l) (Good i) =
+      then-judged (readSection s t i) _ _ (λ x j q. map-judged (readSections s l j) _) ∙ sections-judged l (judgedOf (readSection s t i))
+  sections-judged (t ∷ l) (Bad d i) = sections-judged l (Bad d i)
+
+  pub setup-judged : (i : ℕ) → judgedOf (readSetup s i) ≡ afterAll (sections (wordAt s i)) (judgedOf (readSection s priorities i))
+  unfolding readSetup
+  setup-judged i =
+      then-judged (readSection s priorities i) _ _
+      (λ p j q. map-judged (readSections s (sections (length p)) j) _ ∙ ap (λ n. judgedOf (readSections s (sections n) j)) (from-read _ _ p j q (section-lies s priorities i) .0))
+      ∙ sections-judged (sections (wordAt s i)) (judgedOf (readSection s priorities i))
+
+  pub whole-judged : judgedOf (setup s) ≡ onGood (judgedOf (readSetup s 0)) (λ i. cond (leb (length s) i) (Good i) (Bad 4 i))
+  unfolding setup at-end
+  whole-judged = go (readSetup s 0)
+    where
+      go : {A : Type 0} (r : Read A) → judgedOf (at-end s r) ≡ onGood (judgedOf r) (λ i. cond (leb (length s) i) (Good i) (Bad 4 i))
+      go {A} (got a i) = pick (leb (length s) i)
+        where
+          pick : (t : Bool) → judgedOf (cond {A = Read A} t (got a i) (refused S4 i)) ≡ cond t (Good i) (Bad 4 i)
+          pick true = refl
+          pick false = refl
+      go (refused d i) = refl

@@ -1,0 +1,49 @@
+-- `judge_section`: the entries go by what was judged of the count. Assumes nothing.
+use mathlib.Core.Path.{_≡_, refl, sym, _∙_}
+use Rattle.rules.specs.Setup.{S2, wordAt, to, section, readEntries, readSection}
+use Rattle.setup.specs.Judging.{judgedOf, onGood, rangesOf}
+use Rattle.setup.proofs.Judging.{section-judged}
+use borrow.Author.Needs.{needs}
+use Rattle.setup.proofs.judge_section.Statement.{statement}
+use Rattle.setup.proofs.judge_section.Tie as tie
+
+judge-word-requires : tie.Need-judge-word-requires
+judge-word-requires c κs = search needs
+
+enum-known-d : tie.Need-enum-known-d
+enum-known-d c = search needs
+
+enum-known-next : tie.Need-enum-known-next
+enum-known-next c = search needs
+
+word-requires : tie.Need-word-requires
+word-requires c κs = search needs
+
+judge-entries-requires : tie.Need-judge-entries-requires
+judge-entries-requires c κs = search needs
+
+-- the entries go by what was judged of the count
+counted : (c : tie.After-judge-word) → let a = c .before .before .args in
+    judgedOf (readSection (a .bytes .now) (section (to (a .least) (a .most)) (rangesOf (a .e))) (a .at))
+    ≡ onGood (c .judge-word .result) (λ j. judgedOf (readEntries (a .bytes .now) (rangesOf (a .e)) (wordAt (a .bytes .now) (a .at)) j))
+counted c = section-judged _ _ _ ∙ simp (c .judge-word .ensures S2 refl)
+
+returns : tie.Need-returns
+returns c = sym (counted (c .before .before .before) ∙ simp (c .before .d .given .1))
+
+returns-2 : tie.Need-returns-2
+returns-2 c =
+    let next = c .before .before .before in
+    c .judge-entries .ensures ∙ sym (counted (next .before .before) ∙ simp (next .next .given .1, c .before .word .ensures))
+
+pub judge-section-spec : {M : Type 1} → statement M
+judge-section-spec =
+    tie.close
+    (tie.spec
+    judge-word-requires
+    enum-known-d
+    enum-known-next
+    word-requires
+    judge-entries-requires
+    returns
+    returns-2)

@@ -1,0 +1,35 @@
+-- `part_at`: its fields are what the callees ensure; the size of the entries fits since an entry has at most 8 bytes. Assumes nothing.
+use Prim.Native.Nat.{_≤_}
+use native.Mathlib.Nat.{mul-le-mul, lt-of-le-of-lt}
+use native.Mathlib.Omega.{arith}
+use lib.Dec.{lit<}
+use Rattle.setup.specs.Layout.{partAt}
+use borrow.Author.Needs.{needs}
+use Rattle.setup.proofs.part_at.Statement.{statement}
+use Rattle.setup.proofs.part_at.Tie as tie
+
+count-at-requires : tie.Need-count-at-requires
+count-at-requires c κs = search needs
+
+onward-requires : tie.Need-onward-requires
+onward-requires c κs = search needs
+
+cast-onward : tie.Need-cast-onward
+cast-onward c = search needs
+
+mul-onward : tie.Need-mul-onward
+mul-onward c =
+    let few : c .before .count-at .result ≤ 4294967295 = omega arith in
+    record { fits = lt-of-le-of-lt (mul-le-mul (c .before .before .before .pre) few) (lit< tt) }
+
+onward-requires-2 : tie.Need-onward-requires-2
+onward-requires-2 c κs = search needs
+
+returns : tie.Need-returns
+unfolding partAt
+returns c = simp (c .onward2 .ensures, c .before .onward .ensures, c .before .before .count-at .ensures)
+
+pub part-at-spec : {M : Type 1} → statement M
+part-at-spec =
+    tie.close
+    (tie.spec count-at-requires onward-requires cast-onward mul-onward onward-requires-2 returns)

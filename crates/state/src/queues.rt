@@ -1,0 +1,105 @@
+// The queues: rings of tasks and of messages, over the crate `rings`.
+use crate::STATE_WORDS;
+ghost use mathlib.Core.Path.{_≡_};
+ghost use Prim.Native.Nat.{_-_, _≤_};
+ghost use lib.ListN.{length};
+ghost use Rattle.rings.specs.Columns.{col, splice};
+ghost use Rattle.rings.specs.Links.{firstOf, pushed, left};
+ghost use Rattle.state.specs.Layout as Layout;
+ghost use Rattle.state.specs.Layout.{words as wordsOf};
+ghost use Rattle.state.specs.Moves.{entry, readyAnchor, waitAnchor, mailAnchor, queued, unqueued, mailed, unmailed};
+
+// The anchor of the ready queue of a priority; 0 for a number that is none.
+pub fn ready_anchor(priority: u32) -> u32
+    ensures { λ r. ⌜ r ≡ readyAnchor priority ⌝ }
+{
+    if priority <= 16 { 32 + priority } else { 0 }
+}
+
+// The anchor of the waiters on an object of a kind.
+pub fn wait_anchor(kind: u32, object: u32) -> u32
+    ensures { λ r. ⌜ r ≡ waitAnchor kind object ⌝ }
+{
+    if 5 < kind {
+        return 0;
+    }
+    if 16 < object {
+        return 0;
+    }
+    16 + (16 * kind + object)
+}
+
+// The anchor of a mailbox's messages.
+pub fn mail_anchor(mailbox: u32) -> u32
+    ensures { λ r. ⌜ r ≡ mailAnchor mailbox ⌝ }
+{
+    if mailbox <= 16 { 256 + mailbox } else { 0 }
+}
+
+// The ring that stands in the words from `from` to `to`: id goes last behind an anchor.
+fn push_in(all: &mut [u32], from: usize, to: usize, anchor: u32, id: u32)
+    requires { ⌜ (from ≤ to) × (to ≤ length (now all)) ⌝ }
+    ensures { λ _. ⌜ now (all .exit) ≡ splice from (pushed anchor id (col from (to - from) (now (all .entry)))) (now (all .entry)) ⌝ }
+{
+    rings::push(&mut all[from..to], anchor, id);
+}
+
+// The same ring: id leaves it.
+fn leave_in(all: &mut [u32], from: usize, to: usize, id: u32)
+    requires { ⌜ (from ≤ to) × (to ≤ length (now all)) ⌝ }
+    ensures { λ _. ⌜ now (all .exit) ≡ splice from (left id (col from (to - from) (now (all .entry)))) (now (all .entry)) ⌝ }
+{
+    rings::leave(&mut all[from..to], id);
+}
+
+// Task t goes last in the queue of an anchor.
+pub fn push(words: &mut [u32; STATE_WORDS], anchor: u32, t: u32)
+    ensures { λ _. ⌜ now (words .exit) ≡ queued anchor t (now (words .entry)) ⌝ }
+{
+    push_in(words, 363, 573, anchor, t);
+}
+
+// Task t leaves the queue in which it stands, if it stands in one.
+pub fn leave(words: &mut [u32; STATE_WORDS], t: u32)
+    ensures { λ _. ⌜ now (words .exit) ≡ unqueued t (now (words .entry)) ⌝ }
+{
+    leave_in(words, 363, 573, t);
+}
+
+// The first task in the queue of an anchor, 0 if it is empty.
+pub fn first(words: &[u32; STATE_WORDS], anchor: u32) -> u32
+    ensures { λ r. ⌜ r ≡ firstOf (wordsOf Layout.next (now (words .entry))) anchor ⌝ }
+{
+    let all = &words[..];
+    rings::first(&all[363..573], anchor)
+}
+
+// The node behind x in its queue: a task, or the anchor.
+pub fn follow(words: &[u32; STATE_WORDS], x: u32) -> u32
+    ensures { λ r. ⌜ r ≡ entry Layout.next (now (words .entry)) x ⌝ }
+{
+    let all = &words[..];
+    rings::follow(&all[363..573], x)
+}
+
+// Message j goes last in the queue of an anchor.
+pub fn mail_push(words: &mut [u32; STATE_WORDS], anchor: u32, j: u32)
+    ensures { λ _. ⌜ now (words .exit) ≡ mailed anchor j (now (words .entry)) ⌝ }
+{
+    push_in(words, 625, 1171, anchor, j);
+}
+
+// Message j leaves the mailbox in which it lies.
+pub fn mail_leave(words: &mut [u32; STATE_WORDS], j: u32)
+    ensures { λ _. ⌜ now (words .exit) ≡ unmailed j (now (words .entry)) ⌝ }
+{
+    leave_in(words, 625, 1171, j);
+}
+
+// The first message of a mailbox's anchor, 0 if it is empty.
+pub fn mail_first(words: &[u32; STATE_WORDS], anchor: u32) -> u32
+    ensures { λ r. ⌜ r ≡ firstOf (wordsOf Layout.mailNext (now (words .entry))) anchor ⌝ }
+{
+    let all = &words[..];
+    rings::first(&all[625..1171], anchor)
+}
