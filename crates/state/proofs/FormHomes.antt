@@ -14,7 +14,7 @@ use Rattle.rules.specs.Ids.{of, In, once, times}
 use Rattle.rules.specs.State.{Kind, semaphore, flag, mailbox, pool, asleep, timed, on, State, dormant, ready, suspended, waiting, waiting-suspended, Store, Body, task, nobody, objects, waitOf, isReady}
 use Rattle.rules.specs.Places.{Place, readyAt, waiters, mail, many, sameKind, awaits, lies, belongs, at, lineAt, Exists}
 use Rattle.rules.specs.View.{View}
-use Rattle.rules.specs.Sound.{LiesWell, WaitNumbers, SoundBody, Known, Sound}
+use Rattle.rules.specs.Sound.{Sizes, LiesWell, WaitNumbers, Known, Sound}
 use Rattle.rules.proofs.Ids.{inside}
 use Rattle.rules.proofs.Queues.{belongs-stands, stands-belongs}
 use Rattle.rules.proofs.Rising.{one-line}
@@ -27,18 +27,18 @@ use Rattle.state.proofs.FormLinks.{Housed, Lives, link-below, linked-li
 
 -- ---- standing and counting
 
-times-out : (i : ℕ) (l : List ℕ) → times i l ≡ 0 → Out i l
+pub times-out : (i : ℕ) (l : List ℕ) → times i l ≡ 0 → Out i l
 unfolding times
 times-out i [] e = tt
 times-out i (x ∷ l) e = ((λ q. let z : once (eqb x i) ≡ 1 = ap once (eq-eqb x i q) in omega arith), times-out i l (omega arith))
 
-stands-times : (i : ℕ) (l : List ℕ) → Stands i l → times i l ≢ 0
+pub stands-times : (i : ℕ) (l : List ℕ) → Stands i l → times i l ≢ 0
 unfolding times
 stands-times i [] s = absurd s
 stands-times i (x ∷ l) (inl e) = λ z. omega (arith, ap once (eq-eqb x i e))
 stands-times i (x ∷ l) (inr s) = λ z. stands-times i l s (omega arith)
 
-times-stands : (i : ℕ) (l : List ℕ) → times i l ≡ 1 → Stands i l
+pub times-stands : (i : ℕ) (l : List ℕ) → times i l ≡ 1 → Stands i l
 unfolding times
 times-stands i [] e = absurd (omega arith)
 times-stands i (x ∷ l) e = go (eqb x i) refl e (times-stands i l)
@@ -68,77 +68,77 @@ MailQueue u (readyAt p) = ⊥
 MailQueue u (waiters k o) = ⊥
 MailQueue u (mail m) = Exists u (mail m)
 
-task-exists : (u : Store) (q : Place) → TaskQueue u q → Exists u q
+pub task-exists : (u : Store) (q : Place) → TaskQueue u q → Exists u q
 task-exists u (readyAt p) h = h
 task-exists u (waiters k o) h = h
 task-exists u (mail m) h = absurd h
 
-mail-exists : (u : Store) (q : Place) → MailQueue u q → Exists u q
+pub mail-exists : (u : Store) (q : Place) → MailQueue u q → Exists u q
 mail-exists u (readyAt p) h = absurd h
 mail-exists u (waiters k o) h = absurd h
 mail-exists u (mail m) h = h
 
-task-many : (b : Body) (q : Place) → TaskQueue (b .store) q → many b q ≡ length (b .tasks)
+pub task-many : (b : Body) (q : Place) → TaskQueue (b .store) q → many b q ≡ length (b .tasks)
 unfolding many
 task-many b (readyAt p) h = refl
 task-many b (waiters k o) h = refl
 task-many b (mail m) h = absurd h
 
-mail-many : (b : Body) (q : Place) → MailQueue (b .store) q → many b q ≡ length (b .store .messages)
+pub mail-many : (b : Body) (q : Place) → MailQueue (b .store) q → many b q ≡ length (b .store .messages)
 unfolding many
 mail-many b (readyAt p) h = absurd h
 mail-many b (waiters k o) h = absurd h
 mail-many b (mail m) h = refl
 
 module _ (u : Store) where
-  task-from : (a : ℕ) → UsedByTasks u a → (q : Place) × TaskQueue u q × (anchor q ≡ a)
+  pub task-from : (a : ℕ) → UsedByTasks u a → (q : Place) × TaskQueue u q × (anchor q ≡ a)
   task-from a (ready-queue p h) = (readyAt p, h, refl)
   task-from a (wait-queue k o h) = (waiters k o, h, refl)
 
-  task-to : (q : Place) → TaskQueue u q → UsedByTasks u (anchor q)
+  pub task-to : (q : Place) → TaskQueue u q → UsedByTasks u (anchor q)
   task-to (readyAt p) h = ready-queue p h
   task-to (waiters k o) h = wait-queue k o h
   task-to (mail m) h = absurd h
 
-  mail-from : (a : ℕ) → UsedByMail u a → (q : Place) × MailQueue u q × (anchor q ≡ a)
+  pub mail-from : (a : ℕ) → UsedByMail u a → (q : Place) × MailQueue u q × (anchor q ≡ a)
   mail-from a (mailbox-queue m h) = (mail m, h, refl)
 
-  mail-to : (q : Place) → MailQueue u q → UsedByMail u (anchor q)
+  pub mail-to : (q : Place) → MailQueue u q → UsedByMail u (anchor q)
   mail-to (readyAt p) h = absurd h
   mail-to (waiters k o) h = absurd h
   mail-to (mail m) h = mailbox-queue m h
 
 -- ---- anchors
 
-module _ (b : Body) (S : SoundBody b) where
-  task-anchored : (q : Place) → TaskQueue (b .store) q → (32 < anchor q) × (anchor q < 105)
+module _ (b : Body) (S : Sizes b) where
+  pub task-anchored : (q : Place) → TaskQueue (b .store) q → (32 < anchor q) × (anchor q < 105)
   unfolding anchor
-  task-anchored (readyAt p) h = (omega (arith, h .0), omega (arith, h .1, S .sizes .priorities .1))
-  task-anchored (waiters semaphore o) h = (omega (arith, h .0), omega (arith, h .1, S .sizes .semaphores))
-  task-anchored (waiters flag o) h = (omega (arith, h .0), omega (arith, h .1, S .sizes .flags))
-  task-anchored (waiters mailbox o) h = (omega (arith, h .0), omega (arith, h .1, S .sizes .mailboxes))
-  task-anchored (waiters pool o) h = (omega (arith, h .0), omega (arith, h .1, S .sizes .pools))
+  task-anchored (readyAt p) h = (omega (arith, h .0), omega (arith, h .1, S .priorities .1))
+  task-anchored (waiters semaphore o) h = (omega (arith, h .0), omega (arith, h .1, S .semaphores))
+  task-anchored (waiters flag o) h = (omega (arith, h .0), omega (arith, h .1, S .flags))
+  task-anchored (waiters mailbox o) h = (omega (arith, h .0), omega (arith, h .1, S .mailboxes))
+  task-anchored (waiters pool o) h = (omega (arith, h .0), omega (arith, h .1, S .pools))
   task-anchored (mail m) h = absurd h
 
-  mail-anchored : (q : Place) → MailQueue (b .store) q → (256 < anchor q) × (anchor q < 273)
+  pub mail-anchored : (q : Place) → MailQueue (b .store) q → (256 < anchor q) × (anchor q < 273)
   unfolding anchor
   mail-anchored (readyAt p) h = absurd h
   mail-anchored (waiters k o) h = absurd h
-  mail-anchored (mail m) h = (omega (arith, h .0), omega (arith, h .1, S .sizes .mailboxes))
+  mail-anchored (mail m) h = (omega (arith, h .0), omega (arith, h .1, S .mailboxes))
 
-  task-place-back : (q : Place) → TaskQueue (b .store) q → taskPlace (anchor q) ≡ q
+  pub task-place-back : (q : Place) → TaskQueue (b .store) q → taskPlace (anchor q) ≡ q
   unfolding anchor taskPlace
-  task-place-back (readyAt p) h = rw (le-leb (32 + p) 48 (omega (arith, h .1, S .sizes .priorities .1))) (ap readyAt (omega arith))
+  task-place-back (readyAt p) h = rw (le-leb (32 + p) 48 (omega (arith, h .1, S .priorities .1))) (ap readyAt (omega arith))
   task-place-back (waiters semaphore o) h =
-      rw (lt-leb (16 + (32 + o)) 48 (omega (arith, h .0)), le-leb (16 + (32 + o)) 64 (omega (arith, h .1, S .sizes .semaphores))) (ap (waiters semaphore) (omega arith))
+      rw (lt-leb (16 + (32 + o)) 48 (omega (arith, h .0)), le-leb (16 + (32 + o)) 64 (omega (arith, h .1, S .semaphores))) (ap (waiters semaphore) (omega arith))
   task-place-back (waiters flag o) h =
-      rw (lt-leb (16 + (48 + o)) 48 (omega (arith, h .0)), lt-leb (16 + (48 + o)) 64 (omega (arith, h .0)), le-leb (16 + (48 + o)) 80 (omega (arith, h .1, S .sizes .flags))) (ap (waiters flag) (omega arith))
+      rw (lt-leb (16 + (48 + o)) 48 (omega (arith, h .0)), lt-leb (16 + (48 + o)) 64 (omega (arith, h .0)), le-leb (16 + (48 + o)) 80 (omega (arith, h .1, S .flags))) (ap (waiters flag) (omega arith))
   task-place-back (waiters mailbox o) h =
       rw (
         lt-leb (16 + (64 + o)) 48 (omega (arith, h .0)),
         lt-leb (16 + (64 + o)) 64 (omega (arith, h .0)),
         lt-leb (16 + (64 + o)) 80 (omega (arith, h .0)),
-        le-leb (16 + (64 + o)) 96 (omega (arith, h .1, S .sizes .mailboxes)),
+        le-leb (16 + (64 + o)) 96 (omega (arith, h .1, S .mailboxes)),
       ) (ap (waiters mailbox) (omega arith))
   task-place-back (waiters pool o) h =
       rw (
@@ -149,7 +149,7 @@ module _ (b : Body) (S : SoundBody b) where
       ) (ap (waiters pool) (omega arith))
   task-place-back (mail m) h = absurd h
 
-  mail-place-back : (q : Place) → MailQueue (b .store) q → mailPlace (anchor q) ≡ q
+  pub mail-place-back : (q : Place) → MailQueue (b .store) q → mailPlace (anchor q) ≡ q
   unfolding anchor mailPlace
   mail-place-back (readyAt p) h = absurd h
   mail-place-back (waiters k o) h = absurd h
@@ -157,7 +157,7 @@ module _ (b : Body) (S : SoundBody b) where
 
 -- ---- homes
 
-ready-home : (s : State) (p r : ℕ) → (isReady s && eqb p r) ≡ true → taskHome s p ≡ some (readyAt r)
+pub ready-home : (s : State) (p r : ℕ) → (isReady s && eqb p r) ≡ true → taskHome s p ≡ some (readyAt r)
 ready-home dormant p r e = absurd (false≢true e)
 ready-home ready p r e = ap (λ (n : ℕ). some (readyAt n)) (eqb-true p r e)
 ready-home suspended p r e = absurd (false≢true e)
@@ -167,7 +167,7 @@ ready-home (waiting-suspended w) p r e = absurd (false≢true e)
 same-waiters : (k′ k : Kind) (o′ o : ℕ) → (sameKind k′ k && eqb o′ o) ≡ true → waiters k′ o′ ≡ waiters k o
 same-waiters k′ k o′ o e = let h = both-true (sameKind k′ k) (eqb o′ o) e in λ z. waiters (sameKind-true k′ k (h .0) z) (eqb-true o′ o (h .1) z)
 
-wait-home : (s : State) (p : ℕ) (k : Kind) (o : ℕ) → awaits s k o ≡ true → taskHome s p ≡ some (waiters k o)
+pub wait-home : (s : State) (p : ℕ) (k : Kind) (o : ℕ) → awaits s k o ≡ true → taskHome s p ≡ some (waiters k o)
 wait-home dormant p k o e = absurd (false≢true e)
 wait-home ready p k o e = absurd (false≢true e)
 wait-home suspended p k o e = absurd (false≢true e)
@@ -178,12 +178,12 @@ wait-home (waiting-suspended asleep) p k o e = absurd (false≢true e)
 wait-home (waiting-suspended (timed t)) p k o e = absurd (false≢true e)
 wait-home (waiting-suspended (on k′ o′ x m)) p k o e = ap (λ (q : Place). some q) (same-waiters k′ k o′ o e)
 
-lies-home : (x : Option ℕ) (m : ℕ) → lies x m ≡ true → mailHome x ≡ some (mail m)
+pub lies-home : (x : Option ℕ) (m : ℕ) → lies x m ≡ true → mailHome x ≡ some (mail m)
 lies-home none m e = absurd (false≢true e)
 lies-home (some n) m e = ap (λ (r : ℕ). some (mail r)) (eqb-true n m e)
 
 -- a home is a queue that there is, and the task belongs to it
-abbrev TaskHolds : Store → State → ℕ → Option Place → Type 0
+abbrev pub TaskHolds : Store → State → ℕ → Option Place → Type 0
 TaskHolds u s p none = Unit {0}
 TaskHolds u s p (some (readyAt r)) = In r (u .priorities) × ((isReady s && eqb p r) ≡ true)
 TaskHolds u s p (some (waiters k o)) = In o (objects u k) × (awaits s k o ≡ true)
@@ -195,7 +195,7 @@ same-kind flag = refl
 same-kind mailbox = refl
 same-kind pool = refl
 
-task-holds : (u : Store) (s : State) (p : ℕ) → In p (u .priorities) → WaitNumbers u (waitOf s) → TaskHolds u s p (taskHome s p)
+pub task-holds : (u : Store) (s : State) (p : ℕ) → In p (u .priorities) → WaitNumbers u (waitOf s) → TaskHolds u s p (taskHome s p)
 task-holds u dormant p h w = tt
 task-holds u ready p h w = (h, eq-eqb p p refl)
 task-holds u suspended p h w = tt
@@ -234,8 +234,8 @@ module _ (v : View) (S : Sound v) where
   tasks-housed : Housed (length (v .body .tasks)) 105 homeOf taskPlace (TaskQueue (v .body .store)) lines
   tasks-housed = record {
     room = omega (arith, S .body .sizes .tasks .1);
-    anchored = λ q u. let a = task-anchored (v .body) (S .body) q u in (omega (arith, a .0, S .body .sizes .tasks .1), a .1);
-    place-back = task-place-back (v .body) (S .body);
+    anchored = λ q u. let a = task-anchored (v .body) (S .body .sizes) q u in (omega (arith, a .0, S .body .sizes .tasks .1), a .1);
+    place-back = task-place-back (v .body) (S .body .sizes);
     known = λ q u. known-ids (many (v .body) q) (length (v .body .tasks)) (rw (task-many (v .body) q u) (omega arith)) (lines q) (S .queues q (task-exists (v .body .store) q u) .known);
     apart = λ q u. few-distinct (lines q) (one-line v S .once q (task-exists (v .body .store) q u));
     at-home = task-at-home;
@@ -244,8 +244,8 @@ module _ (v : View) (S : Sound v) where
   messages-housed : Housed (length (v .body .store .messages)) 273 boxOf mailPlace (MailQueue (v .body .store)) lines
   messages-housed = record {
     room = omega (arith, S .body .sizes .messages);
-    anchored = λ q u. let a = mail-anchored (v .body) (S .body) q u in (omega (arith, a .0, S .body .sizes .messages), a .1);
-    place-back = mail-place-back (v .body) (S .body);
+    anchored = λ q u. let a = mail-anchored (v .body) (S .body .sizes) q u in (omega (arith, a .0, S .body .sizes .messages), a .1);
+    place-back = mail-place-back (v .body) (S .body .sizes);
     known = λ q u. known-ids (many (v .body) q) (length (v .body .store .messages)) (rw (mail-many (v .body) q u) (omega arith)) (lines q) (S .queues q (mail-exists (v .body .store) q u) .known);
     apart = λ q u. few-distinct (lines q) (one-line v S .once q (mail-exists (v .body .store) q u));
     at-home = message-at-home;
