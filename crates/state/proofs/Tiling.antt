@@ -12,11 +12,11 @@ use lib.ListN.{length, getD, set}
 use lib.Seq.{getD-set-same}
 use borrow.Author.Tests.{eqb-true, leb-true}
 use Rattle.rings.specs.Columns.{col, splice}
-use Rattle.rings.specs.Links.{pushNext, pushPrev, leftNext, leftPrev, half, nexts, prevs, pushed, left}
+use Rattle.rings.specs.Links.{pushNext, pushPrev, leftNext, leftPrev, half, nexts, prevs, pushed, left, cleared}
 use Rattle.rings.proofs.Columns.{length-col, length-splice, col-splice-inside, col-splice-outside}
-use Rattle.rings.proofs.Halves.{nexts-pushed, prevs-pushed, length-pushed, nexts-left, prevs-left, length-left, nexts-col, prevs-col}
+use Rattle.rings.proofs.Halves.{nexts-pushed, prevs-pushed, length-pushed, nexts-left, prevs-left, length-left, nexts-cleared, prevs-cleared, length-cleared, nexts-col, prevs-col}
 use Rattle.state.specs.Layout.{Column, column, columns, stateWords, next, prev, mailNext, mailPrev, words}
-use Rattle.state.specs.Moves.{queued, unqueued, mailed, unmailed}
+use Rattle.state.specs.Moves.{queued, unqueued, clearedQueue, mailed, unmailed, clearedMail}
 
 -- ---- the layout
 
@@ -93,6 +93,9 @@ module _ (b : List ℕ) (size : length b ≡ stateWords) where
     take-out : (t : ℕ) → Relinked p q b (splice p (left t (col p (q + q) b)) b) (leftNext (col p q b) (col (p + q) q b) t) (leftPrev (col p q b) (col (p + q) q b) t)
     take-out t = rw (← nexts-col p q b wide, ← prevs-col p q b wide, ← nexts-left, ← prevs-left) (relinked (left t (col p (q + q) b)) (length-left t (col p (q + q) b) ∙ long))
 
+    clear : (a : ℕ) → Relinked p q b (splice p (cleared a (col p (q + q) b)) b) (set (col p q b) a a) (set (col (p + q) q b) a a)
+    clear a = rw (← nexts-col p q b wide, ← prevs-col p q b wide, ← nexts-cleared, ← prevs-cleared) (relinked (cleared a (col p (q + q) b)) (length-cleared a (col p (q + q) b) ∙ long))
+
   -- the rings of tasks, and those of messages
   pub queued-law : (a t : ℕ) → Relinked 363 105 b (queued a t b) (pushNext (words next b) (words prev b) a t) (pushPrev (words prev b) a t)
   unfolding queued
@@ -102,6 +105,10 @@ module _ (b : List ℕ) (size : length b ≡ stateWords) where
   unfolding unqueued
   unqueued-law = take-out 363 105 (lit≤ tt)
 
+  pub cleared-queue-law : (a : ℕ) → Relinked 363 105 b (clearedQueue a b) (set (words next b) a a) (set (words prev b) a a)
+  unfolding clearedQueue
+  cleared-queue-law = clear 363 105 (lit≤ tt)
+
   pub mailed-law : (a j : ℕ) → Relinked 625 273 b (mailed a j b) (pushNext (words mailNext b) (words mailPrev b) a j) (pushPrev (words mailPrev b) a j)
   unfolding mailed
   mailed-law = push 625 273 (lit≤ tt)
@@ -109,6 +116,10 @@ module _ (b : List ℕ) (size : length b ≡ stateWords) where
   pub unmailed-law : (j : ℕ) → Relinked 625 273 b (unmailed j b) (leftNext (words mailNext b) (words mailPrev b) j) (leftPrev (words mailNext b) (words mailPrev b) j)
   unfolding unmailed
   unmailed-law = take-out 625 273 (lit≤ tt)
+
+  pub cleared-mail-law : (a : ℕ) → Relinked 625 273 b (clearedMail a b) (set (words mailNext b) a a) (set (words mailPrev b) a a)
+  unfolding clearedMail
+  cleared-mail-law = clear 625 273 (lit≤ tt)
 
   -- a word that was just written: with numerals for p and q it computes
   pub put-at : (p q i v : ℕ) → i < q → getD (set (col p q b) i v) i 0 ≡ cond (leb (p + q) stateWords) v (getD (set (col p q b) i v) i 0)

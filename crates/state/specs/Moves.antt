@@ -7,7 +7,7 @@ use lib.Bits.{bitAnd, bitOr}
 use lib.Dec.{eqb, leb}
 use lib.ListN.{getD, set}
 use Rattle.rings.specs.Columns.{splice}
-use Rattle.rings.specs.Links.{pushed, left}
+use Rattle.rings.specs.Links.{pushed, left, cleared}
 use Rattle.state.specs.Layout.{Column, status, priority, start, wakeups, code, word, kind, object, wish, mode, ticks, free, system, links, mailLinks, words, put}
 
 -- the entry of an id
@@ -33,12 +33,19 @@ queued a t b = splice (links .at) (pushed a t (words links b)) b
 unfoldable pub unqueued : ℕ → List ℕ → List ℕ
 unqueued t b = splice (links .at) (left t (words links b)) b
 
--- the same for message j
+-- the queue of an anchor is made empty
+unfoldable pub clearedQueue : ℕ → List ℕ → List ℕ
+clearedQueue a b = splice (links .at) (cleared a (words links b)) b
+
+-- the same for message j, and for an anchor of mailboxes
 unfoldable pub mailed : ℕ → ℕ → List ℕ → List ℕ
 mailed a j b = splice (mailLinks .at) (pushed a j (words mailLinks b)) b
 
 unfoldable pub unmailed : ℕ → List ℕ → List ℕ
 unmailed j b = splice (mailLinks .at) (left j (words mailLinks b)) b
+
+unfoldable pub clearedMail : ℕ → List ℕ → List ℕ
+clearedMail a b = splice (mailLinks .at) (cleared a (words mailLinks b)) b
 
 -- ---- tasks
 

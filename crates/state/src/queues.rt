@@ -4,10 +4,10 @@ ghost use mathlib.Core.Path.{_≡_};
 ghost use Prim.Native.Nat.{_-_, _≤_};
 ghost use lib.ListN.{length};
 ghost use Rattle.rings.specs.Columns.{col, splice};
-ghost use Rattle.rings.specs.Links.{firstOf, pushed, left};
+ghost use Rattle.rings.specs.Links.{firstOf, pushed, left, cleared};
 ghost use Rattle.state.specs.Layout as Layout;
 ghost use Rattle.state.specs.Layout.{words as wordsOf};
-ghost use Rattle.state.specs.Moves.{entry, readyAnchor, waitAnchor, mailAnchor, queued, unqueued, mailed, unmailed};
+ghost use Rattle.state.specs.Moves.{entry, readyAnchor, waitAnchor, mailAnchor, queued, unqueued, clearedQueue, mailed, unmailed, clearedMail};
 
 // The anchor of the ready queue of a priority; 0 for a number that is none.
 pub fn ready_anchor(priority: u32) -> u32
@@ -52,6 +52,14 @@ fn leave_in(all: &mut [u32], from: usize, to: usize, id: u32)
     rings::leave(&mut all[from..to], id);
 }
 
+// The same ring: an anchor's queue is made empty.
+fn clear_in(all: &mut [u32], from: usize, to: usize, anchor: u32)
+    requires { ⌜ (from ≤ to) × (to ≤ length (now all)) ⌝ }
+    ensures { λ _. ⌜ now (all .exit) ≡ splice from (cleared anchor (col from (to - from) (now (all .entry)))) (now (all .entry)) ⌝ }
+{
+    rings::clear(&mut all[from..to], anchor);
+}
+
 // Task t goes last in the queue of an anchor.
 pub fn push(words: &mut [u32; STATE_WORDS], anchor: u32, t: u32)
     ensures { λ _. ⌜ now (words .exit) ≡ queued anchor t (now (words .entry)) ⌝ }
@@ -64,6 +72,13 @@ pub fn leave(words: &mut [u32; STATE_WORDS], t: u32)
     ensures { λ _. ⌜ now (words .exit) ≡ unqueued t (now (words .entry)) ⌝ }
 {
     leave_in(words, 363, 573, t);
+}
+
+// The queue of an anchor is made empty, where no task has a link yet.
+pub fn clear(words: &mut [u32; STATE_WORDS], anchor: u32)
+    ensures { λ _. ⌜ now (words .exit) ≡ clearedQueue anchor (now (words .entry)) ⌝ }
+{
+    clear_in(words, 363, 573, anchor);
 }
 
 // The first task in the queue of an anchor, 0 if it is empty.
@@ -94,6 +109,13 @@ pub fn mail_leave(words: &mut [u32; STATE_WORDS], j: u32)
     ensures { λ _. ⌜ now (words .exit) ≡ unmailed j (now (words .entry)) ⌝ }
 {
     leave_in(words, 625, 1171, j);
+}
+
+// The mailbox of an anchor is made empty, where no message has a link yet.
+pub fn mail_clear(words: &mut [u32; STATE_WORDS], anchor: u32)
+    ensures { λ _. ⌜ now (words .exit) ≡ clearedMail anchor (now (words .entry)) ⌝ }
+{
+    clear_in(words, 625, 1171, anchor);
 }
 
 // The first message of a mailbox's anchor, 0 if it is empty.

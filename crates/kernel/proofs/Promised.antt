@@ -1,0 +1,62 @@
+-- What is read of a memory, and of its running task, from the verdict on it. Assumes nothing.
+use mathlib.Core.Bool.{Bool, true, false, true≢false}
+use mathlib.Core.List.{List}
+use mathlib.Core.Logic.{_↔_}
+use mathlib.Core.Path.{_≡_, refl, sym, _∙_}
+use Prim.Native.Nat.{ℕ}
+use borrow.Author.Tests.{not-true, not-false}
+use lib.IntN.{ℤ}
+use lib.ListN.{length}
+use Rattle.rules.specs.Codes.{H-STATE, E-NOEXS, number}
+use Rattle.rules.specs.Events.{nat, outside}
+use Rattle.rules.specs.Answers.{readCell}
+use Rattle.rules.specs.State.{task, nobody}
+use Rattle.rules.proofs.Ids.{of-ids, length-ids}
+use Rattle.state.specs.Layout as Layout
+use Rattle.state.specs.Moves.{entry}
+use Rattle.state.specs.Picture.{taskShown, tasksShown, bodyShown, viewShown, Accepted}
+use Rattle.kernel.specs.Running.{runningOf}
+use Rattle.kernel.specs.Promises.{kept, isTask, Reads, Runs}
+use Rattle.kernel.proofs.Accepts.{running-law}
+use Rattle.kernel.proofs.Signed.{task-in}
+
+module _ {b msgs : List ℕ} {r : Bool} (law : (r ≡ true) ↔ Accepted b msgs) where
+  refuted : r ≡ false → Accepted b msgs → ⊥
+  refuted e h = true≢false (sym (law .1 h) ∙ e)
+
+  -- ---- cells
+
+  pub unreadable : (a : ℤ) → r ≡ false → Reads b msgs a (number H-STATE) 0
+  unreadable a e = record { sound = λ h. absurd (refuted e h); damaged = λ h. (refl, refl) }
+
+  module _ (y : r ≡ true) (a : ℤ) {n : ℕ} (en : n ≡ tasksShown b) where
+    count : length (viewShown b msgs .body .tasks) ≡ n
+    unfolding viewShown bodyShown
+    count = length-ids (taskShown b) (tasksShown b) ∙ sym en
+
+    pub foreign : isTask a n ≡ false → Reads b msgs a (number E-NOEXS) 0
+    unfolding readCell
+    foreign e = record {
+      sound = λ h. rw (count, not-false (outside a n) e) (refl, refl);
+      damaged = λ h. absurd (h (law .0 y));
+    }
+
+    module _ (e : isTask a n ≡ true) where
+      at-id : task (viewShown b msgs .body) (nat a) ≡ taskShown b (nat a)
+      unfolding viewShown bodyShown
+      at-id = of-ids (taskShown b) (tasksShown b) (nat a) nobody (rw en at (task-in a n e))
+
+      pub readable : {k w : ℕ} {c : ℤ} → k ≡ entry Layout.code b (nat a) → c ≡ kept k → w ≡ entry Layout.word b (nat a) → Reads b msgs a c w
+      unfolding readCell taskShown
+      readable ek ec ew = record {
+        sound = λ h. rw (count, not-true (outside a n) e, at-id) (rw (← ek) ec, ew);
+        damaged = λ h. absurd (h (law .0 y));
+      }
+
+  -- ---- the running task
+
+  pub runs : {t : ℕ} → r ≡ true → t ≡ runningOf b → Runs b msgs t
+  runs y e = record { sound = λ h. e ∙ running-law b msgs h; damaged = λ h. absurd (h (law .0 y)) }
+
+  pub idle : r ≡ false → Runs b msgs 0
+  idle e = record { sound = λ h. absurd (refuted e h); damaged = λ h. refl }

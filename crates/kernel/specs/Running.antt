@@ -1,0 +1,34 @@
+-- The running task as the code finds it, for any words: a word of one-bit marks, one for each nonempty ready queue, is searched for its
+-- lowest bit.
+use mathlib.Core.Bool.{Bool, true, false, cond}
+use mathlib.Core.List.{List}
+use Prim.Native.Nat.{ℕ, zero, suc, pred, _/_, _%_, _^_}
+use lib.Bits.{bitOr}
+use lib.Dec.{eqb, leb}
+use Rattle.rings.specs.Links.{firstOf}
+use Rattle.state.specs.Layout as Layout
+use Rattle.state.specs.Layout.{words}
+use Rattle.state.specs.Moves.{entry, readyAnchor}
+
+-- a count that is too large to be one reads 0
+abbrev pub atMost : ℕ → ℕ → ℕ
+atMost n most = cond (leb n most) n 0
+
+-- the first of the ready queue of a priority, 0 if it is empty
+abbrev pub headAt : List ℕ → ℕ → ℕ
+headAt b p = firstOf (words Layout.next b) (readyAnchor p)
+
+-- n priorities from p on; the marks of those before are in w
+unfoldable pub marksOf : ℕ → ℕ → ℕ → List ℕ → ℕ
+marksOf zero p w b = w
+marksOf (suc n) p w b = marksOf n (suc p) (cond (eqb (headAt b p) 0) w (bitOr w (2 ^ pred p))) b
+
+-- the place of the lowest of k bits, the first of them being place p; 0 if none is set
+unfoldable pub lowestMark : ℕ → ℕ → ℕ → ℕ
+lowestMark zero p w = 0
+lowestMark (suc k) p w = cond (eqb (w % 2) 1) p (lowestMark k (suc p) (w / 2))
+
+unfoldable pub runningOf : List ℕ → ℕ
+runningOf b =
+    let p : ℕ = lowestMark 32 1 (marksOf (atMost (entry Layout.system b 0) 16) 1 0 b) in
+    cond (eqb p 0) 0 (headAt b p)
