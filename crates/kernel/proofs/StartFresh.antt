@@ -1,5 +1,5 @@
 -- The start: the memory that it lays for an accepted setup shows the fresh state. Each started task is an act of the rules. Assumes nothing.
-use Prim.Native.Nat.{ℕ, zero, suc, _+_, _-_, _*_, _≤_, _<_}
+use Prim.Native.Nat.{ℕ, zero, suc, _+_, _-_, _*_, _≤_}
 use mathlib.Core.Bool.{Bool, true, false, cond}
 use mathlib.Core.List.{List, [], _∷_}
 use mathlib.Core.Path.{_≡_, refl, sym, ap, _∙_, subst}
@@ -25,7 +25,7 @@ use Rattle.setup.specs.Layout.{planOf, PlanShows}
 use Rattle.setup.proofs.Plans.{whole-plan-law, plan-fits}
 use Rattle.state.specs.Layout.{stateWords}
 use Rattle.state.specs.Moves.{started}
-use Rattle.state.specs.Picture.{viewShown, bodyShown, Accepted, Shows}
+use Rattle.state.specs.Picture.{viewShown, Accepted, Shows}
 use Rattle.state.specs.Perform.{performed, performedMarks}
 use Rattle.state.proofs.Perform.{perform-law}
 use Rattle.kernel.specs.Starting.{StartsAs, Starts, inTurn, counted, entered, emptied, laid, begun, freshWords}

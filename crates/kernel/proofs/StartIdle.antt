@@ -1,23 +1,22 @@
 -- The words that the start lays, part by part. Assumes nothing.
-use Prim.Native.Nat.{ℕ, zero, suc, _+_, _-_, _*_, _^_, _≤_, _<_}
+use Prim.Native.Nat.{ℕ, _+_, _≤_, _<_}
 use mathlib.Core.Bool.{true}
 use mathlib.Core.List.{List, [], _∷_}
 use mathlib.Core.Logic.{_⊎_, inl, inr}
-use mathlib.Core.Path.{_≡_, refl, sym, ap, _∙_}
+use mathlib.Core.Path.{_≡_, refl, ap, _∙_}
 use native.Mathlib.Omega.{arith}
 use lib.Dec.{lit≤}
-use lib.ListN.{length, getD, set, replicate, length-replicate, getD-replicate}
-use lib.Seq.{ext-getD}
+use lib.ListN.{length, getD, set, replicate}
 use Rattle.rules.specs.Ids.{In}
 use Rattle.rings.specs.Columns.{col}
-use Rattle.rings.proofs.Columns.{clear-of, col-store, length-store, length-col, col-at}
+use Rattle.rings.proofs.Columns.{clear-of, col-store, length-store, length-col}
 use Rattle.setup.specs.declared.Plan.{Plan}
 use Rattle.setup.specs.Layout.{PlanFits}
 use Rattle.state.specs.Layout as Layout
 use Rattle.state.specs.Layout.{stateWords, words}
 use Rattle.state.specs.Moves.{entry, clearedQueue, clearedMail}
 use Rattle.state.proofs.Tiling.{cleared-queue-law, cleared-mail-law}
-use Rattle.kernel.specs.Starting.{inTurn, counted, wordOfId, laidTask, laidSemaphore, laidFlag, allFree, laidPool, entered, anchorsOf, emptiedQueues, emptied, laid}
+use Rattle.kernel.specs.Starting.{inTurn, counted, wordOfId, laidTask, laidSemaphore, laidFlag, allFree, laidPool, entered, anchorsOf, emptiedQueues, emptied}
 use Rattle.kernel.proofs.StartTurns.{Sized, Within, turn-size, turn-apart, turn-length, turn-below, turn-right, turn-at, put-apart, queues-within, mails-within}
 
 -- ---- counts

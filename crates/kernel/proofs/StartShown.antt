@@ -1,30 +1,29 @@
 -- The memory that the start lays for an accepted setup, before any task is started, shows the idle state with empty queues, and is accepted.
 -- Assumes nothing.
-use Prim.Native.Nat.{ℕ, zero, suc, _+_, _-_, _*_, _/_, _^_, _≤_, _<_}
+use Prim.Native.Nat.{ℕ, zero, suc, _+_, _-_, _*_, _^_, _≤_, _<_}
 use mathlib.Core.Bool.{Bool, true, false}
 use mathlib.Core.List.{List, [], _∷_, map}
 use mathlib.Core.Logic.{inl, inr}
-use mathlib.Core.Option.{Option, none}
+use mathlib.Core.Option.{none}
 use mathlib.Core.Path.{_≡_, refl, sym, ap, _∙_, subst}
 use native.Mathlib.Decide.{ℕ-discrete}
 use native.Mathlib.Nat.{pow-suc}
 use native.Mathlib.Omega.{arith}
 use lib.Dec.{lit<, lit≤}
-use lib.ListN.{length, getD, replicate, length-replicate, getD-replicate, length-map}
+use lib.ListN.{length, getD, replicate, length-replicate, length-map}
 use lib.Pow.{pow-pos}
 use lib.Seq.{ext-getD}
-use borrow.Author.Tests.{lt-ltb, le-ltb}
+use borrow.Author.Tests.{lt-ltb}
 use Rattle.rules.specs.Ids.{of, In}
-use Rattle.rules.specs.Setup.{Setup, Entry, got, setup}
-use Rattle.rules.specs.State.{semaphore, flag, mailbox, pool, nobody, objects, Store}
+use Rattle.rules.specs.Setup.{Setup, Entry}
+use Rattle.rules.specs.State.{semaphore, flag, mailbox, pool, nobody, Store}
 use Rattle.rules.specs.Places.{Place, readyAt, waiters, mail, Exists, tabulate}
-use Rattle.rules.specs.View.{View}
 use Rattle.rules.specs.Kernel.{idleTask, idle}
 use Rattle.rules.proofs.Ids.{of-replicate}
 use Rattle.rules.proofs.Accepted.{GoodSetup, idle-sound, unstarted-sound}
 use Rattle.rules.proofs.Lines.{tabulate-same}
 use Rattle.rings.specs.Columns.{col}
-use Rattle.rings.specs.Rings.{IsId, lineOf, Linked}
+use Rattle.rings.specs.Rings.{lineOf, Linked}
 use Rattle.rings.proofs.Columns.{clear-of, length-col, col-at}
 use Rattle.rings.proofs.Laws.{blank-law, linked-ext, line-is}
 use Rattle.setup.specs.declared.Plan.{Plan}
@@ -36,7 +35,7 @@ use Rattle.state.specs.Picture.{codeOf, stateShown, taskShown, messageShown, po
 use Rattle.state.specs.Form.{maskOf}
 use Rattle.state.proofs.FormPile.{table-is}
 use Rattle.state.proofs.FormWords.{back-pool}
-use Rattle.kernel.specs.Starting.{counted, wordOfId, allFree, entered, emptied, anchorsOf}
+use Rattle.kernel.specs.Starting.{counted, allFree, entered, emptied, anchorsOf}
 use Rattle.kernel.proofs.StartTurns.{Sized}
 use Rattle.kernel.proofs.StartIdle.{counted-size, counted-apart, counted-system, entered-size, entered-apart, entered-priority, entered-start, entered-semaphore, entered-flag, entered-size-of, entered-free, Among, emptied-size, emptied-apart, emptied-anchor, emptied-task, emptied-mailbox, emptied-message}
 
