@@ -1,0 +1,87 @@
+-- The first of a queue, as the code reads it from the links, is the head of the line that the view shows. Assumes nothing.
+use mathlib.Core.Bool.{false, cond}
+use mathlib.Core.List.{List, [], _∷_, map}
+use mathlib.Core.Path.{_≡_, refl, sym, subst}
+use Prim.Native.Nat.{ℕ, zero, suc, _+_, _≤_, _<_}
+use native.Mathlib.Omega.{arith}
+use borrow.Author.Tests.{ne-eqb, le-leb, leb-false}
+use lib.Dec.{eqb}
+use lib.IntN.{ℤ, pos, negsuc}
+use Rattle.rules.specs.Ids.{from, ids, first, In}
+use Rattle.rules.specs.Events.{nat, above}
+use Rattle.rules.specs.State.{Kind}
+use Rattle.rules.specs.Places.{Place, readyAt, waiters, mail, Exists, tabulate}
+use Rattle.rules.specs.View.{line, nonempty, best, running}
+use Rattle.rules.proofs.Lines.{line-tabulate}
+use Rattle.rings.specs.Links.{firstOf}
+use Rattle.rings.specs.Rings.{IsId, All, headOf}
+use Rattle.rings.proofs.Laws.{first-law}
+use Rattle.state.specs.Layout as Layout
+use Rattle.state.specs.Layout.{words}
+use Rattle.state.specs.Moves.{entry}
+use Rattle.state.specs.Picture.{tasksShown, messagesShown, storeShown, bodyShown, anchor, lineShown, viewShown, ready-queue, wait-queue, mailbox-queue, Accepted}
+use Rattle.kernel.specs.Running.{headAt, runningOf}
+use Rattle.kernel.proofs.Lowest.{HeadOf}
+use Rattle.kernel.proofs.Accepts.{running-law}
+use Rattle.calls.specs.Reading.{turnAt}
+
+head-of : (n v : ℕ) (l : List ℕ) → v ≡ headOf l 0 → All (IsId n) l → HeadOf v l
+head-of n v [] e h = e
+head-of n v (x ∷ l) e h = (e, h .0 .0)
+
+-- of the first nonempty line
+nonempty-head : (n : ℕ) (L : ℕ → List ℕ) (k c : ℕ) → ((q : ℕ) → k ≤ q → q < k + c → All (IsId n) (L q)) → HeadOf (first (nonempty (map L (from k c)))) (nonempty (map L (from k c)))
+nonempty-head n L k zero f = refl
+nonempty-head n L k (suc c) f = go (L k) (f k (omega arith) (omega arith)) (nonempty-head n L (suc k) c (λ q a z. f q (omega arith) (omega arith)))
+  where
+    go : (l : List ℕ) → All (IsId n) l → HeadOf (first (nonempty (map L (from (suc k) c)))) (nonempty (map L (from (suc k) c)))
+        → HeadOf (first (nonempty (l ∷ map L (from (suc k) c)))) (nonempty (l ∷ map L (from (suc k) c)))
+    go [] h r = r
+    go (x ∷ l) h r = (refl, h .0 .0)
+
+module _ (b m : List ℕ) (A : Accepted b m) where
+  line-is : (q : Place) → Exists (storeShown b m) q → line (viewShown b m) q ≡ lineShown b q
+  unfolding viewShown
+  line-is q h = line-tabulate (storeShown b m) (lineShown b) q h
+
+  pub waiters-head : (k : Kind) (o : ℕ) → Exists (storeShown b m) (waiters k o) → HeadOf (firstOf (words Layout.next b) (anchor (waiters k o))) (line (viewShown b m) (waiters k o))
+  unfolding lineShown
+  waiters-head k o h = rw (line-is (waiters k o) h) (head-of (tasksShown b) _ (lineShown b (waiters k o)) (first-law (A .whole .tasks) _ (wait-queue k o h)) (A .whole .tasks .ring _ (wait-queue k o h) .ids))
+
+  pub mail-head : (j : ℕ) → Exists (storeShown b m) (mail j) → HeadOf (firstOf (words Layout.mailNext b) (anchor (mail j))) (line (viewShown b m) (mail j))
+  unfolding lineShown
+  mail-head j h = rw (line-is (mail j) h) (head-of (messagesShown b) _ (lineShown b (mail j)) (first-law (A .whole .mails) _ (mailbox-queue j h)) (A .whole .mails .ring _ (mailbox-queue j h) .ids))
+
+  few : entry Layout.system b 0 ≤ 16
+  unfolding viewShown bodyShown storeShown
+  few = A .sound .body .sizes .priorities .1
+
+  there : (p : ℕ) → In p (entry Layout.system b 0) → Exists (storeShown b m) (readyAt p)
+  unfolding storeShown
+  there p h = h
+
+  pub ready-head : (p : ℕ) → In p (entry Layout.system b 0) → HeadOf (headAt b p) (line (viewShown b m) (readyAt p))
+  unfolding lineShown anchor
+  ready-head p h = rw (line-is (readyAt p) (there p h), le-leb p 16 (omega (arith, few, h .1)))
+      (head-of (tasksShown b) _ (lineShown b (readyAt p)) (first-law (A .whole .tasks) _ (ready-queue p (there p h))) (A .whole .tasks .ring _ (ready-queue p (there p h)) .ids))
+
+  pub best-head : HeadOf (runningOf b) (best (viewShown b m))
+  best-head = subst (λ (x : ℕ). HeadOf x (best (viewShown b m))) (sym (running-law b m A)) go
+    where
+      go : HeadOf (running (viewShown b m)) (best (viewShown b m))
+      go = unfold running viewShown tabulate ids storeShown lineShown in nonempty-head (tasksShown b) (λ p. lineShown b (readyAt p)) 1 (entry Layout.system b 0)
+          (λ q h k. A .whole .tasks .ring (anchor (readyAt q)) (ready-queue q (h, omega arith)) .ids)
+
+upto : (a : ℤ) (n : ℕ) → above a n ≡ false → nat a ≤ n
+upto (pos k) n e = omega (arith, leb-false (suc n) k e)
+upto (negsuc k) n e = omega arith
+
+-- the queue that rot_rdq names
+pub turn-head : (b m : List ℕ) → Accepted b m → (a : ℤ) → above a (entry Layout.system b 0) ≡ false
+    → HeadOf (turnAt b (nat a)) (cond (eqb (nat a) 0) (best (viewShown b m)) (line (viewShown b m) (readyAt (nat a))))
+unfolding turnAt
+turn-head b m A a e = go (nat a) (upto a (entry Layout.system b 0) e)
+  where
+    go : (p : ℕ) → p ≤ entry Layout.system b 0 → HeadOf (cond (eqb p 0) (runningOf b) (headAt b p)) (cond (eqb p 0) (best (viewShown b m)) (line (viewShown b m) (readyAt p)))
+    go zero h = best-head b m A
+    go (suc p) h = rw (ne-eqb (suc p) 0 (λ z. omega arith)) (ready-head b m A (suc p) (omega arith, h))

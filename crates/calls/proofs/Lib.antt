@@ -1,0 +1,15 @@
+-- Laws of the calls.
+pub mod Judged
+pub mod Readings
+pub mod Targets
+pub mod Named
+pub mod Verdicts
+pub mod TaskCalls
+pub mod WakeCalls
+pub mod Heads
+pub mod AskCalls
+pub mod Objects
+pub mod Ticks
+pub mod Done
+pub mod Entries
+pub mod Releases

@@ -1,0 +1,189 @@
+-- The tick: the releases of its first pass are those of the rules. A release changes no other task, so that who is released along the way is who was to be at the start. Assumes nothing.
+use mathlib.Core.Bool.{Bool, true, false, cond, _&&_, _||_}
+use mathlib.Core.List.{List, [], _∷_, _++_, map}
+use mathlib.Core.Logic.{_≢_}
+use mathlib.Core.Path.{_≡_, refl, sym, ap, _∙_}
+use Prim.Native.Nat.{ℕ, zero, suc, _+_, _-_, _≤_, _<_}
+use native.Mathlib.Numerals.{sub-one, add-one}
+use native.Mathlib.Omega.{arith}
+use lib.Dec.{eqb}
+use lib.IntN.{pos}
+use lib.ListN.{length}
+use borrow.Author.Tests.{eqb-true, le-leb}
+use Rattle.rules.specs.Ids.{from, ids, keep}
+use Rattle.rules.specs.Codes.{number}
+use Rattle.rules.specs.State.{semaphore, flag, mailbox, pool, Wait, asleep, timed, on, State, dormant, ready, suspended, waiting, waiting-suspended, task, nobody, waitOf}
+use Rattle.rules.specs.Acts.{Act, elapse}
+use Rattle.rules.specs.Time.{ending, endings, timeout, ticked}
+use Rattle.rules.proofs.Ids.{of-ids, length-ids}
+use Rattle.state.specs.Layout as Layout
+use Rattle.state.specs.Layout.{stateWords}
+use Rattle.state.specs.Moves.{entry, queued, unqueued, rotated, readied, released, elapsed}
+use Rattle.state.specs.Picture.{noWait, waitShown, stateShown, taskShown, bodyShown, viewShown, Accepted}
+use Rattle.state.specs.Perform.{performed, performedMarks}
+use Rattle.state.proofs.Tiling.{queued-law}
+use Rattle.state.proofs.Lines.{out}
+use Rattle.state.proofs.Touched.{Touched, untouched, touched-put, touched-left, relinked-shown}
+use Rattle.state.proofs.OneTask.{sizes}
+use Rattle.kernel.specs.Running.{atMost}
+use Rattle.calls.specs.Doing.{performs, performsMarks, DoesOnWords}
+use Rattle.calls.specs.Ticking.{lastTick, endsAt, expiredAt, expired}
+
+-- ---- a wait that ends, as shown
+
+wait-ends : (k o p m t : ℕ) → ending (waitOf (waiting (waitShown k o p m t))) ≡ (eqb k 1 && eqb t 1)
+unfolding waitShown
+wait-ends k o p m t = go (eqb k 0) (eqb k 1) (eqb k 2) (eqb k 3) (eqb k 4) (eqb k 5) refl refl
+  where
+    W : Bool → Bool → Bool → Bool → Bool → Bool → Wait
+    W t0 t1 t2 t3 t4 t5 = cond t0 asleep (cond t1 (timed t) (cond t2 (on semaphore o 0 0) (cond t3 (on flag o p m) (cond t4 (on mailbox o 0 0) (cond t5 (on pool o 0 0) noWait)))))
+
+    go : (t0 t1 t2 t3 t4 t5 : Bool) → eqb k 0 ≡ t0 → eqb k 1 ≡ t1 → ending (waitOf (waiting (W t0 t1 t2 t3 t4 t5))) ≡ (eqb k 1 && eqb t 1)
+    go true t1 t2 t3 t4 t5 e f = rw (eqb-true k 0 e)
+    go false true t2 t3 t4 t5 e f = rw f
+    go false false true t3 t4 t5 e f = rw f
+    go false false false true t4 t5 e f = rw f
+    go false false false false true t5 e f = rw f
+    go false false false false false true e f = rw f
+    go false false false false false false e f = rw f
+
+shown-ends : (s k o p m t : ℕ) → ending (waitOf (stateShown s (waitShown k o p m t))) ≡ lastTick s k t
+unfolding stateShown
+shown-ends s k o p m t = go (eqb s 0) (eqb s 1) (eqb s 3) (eqb s 4) (eqb s 5) refl refl refl refl refl
+  where
+    S : Bool → Bool → Bool → Bool → Bool → State
+    S a b c d e = let w = waitShown k o p m t in cond a dormant (cond b ready (cond c (waiting w) (cond d suspended (cond e (waiting-suspended w) (waiting noWait)))))
+
+    go : (a b c d e : Bool) → eqb s 0 ≡ a → eqb s 1 ≡ b → eqb s 3 ≡ c → eqb s 4 ≡ d → eqb s 5 ≡ e → ending (waitOf (S a b c d e)) ≡ (((eqb s 3 || eqb s 5) && eqb k 1) && eqb t 1)
+    go true b c d e e0 e1 e3 e4 e5 = rw (eqb-true s 0 e0)
+    go false true c d e e0 e1 e3 e4 e5 = rw (eqb-true s 1 e1)
+    go false false true d e e0 e1 e3 e4 e5 = rw e3 (wait-ends k o p m t)
+    go false false false true e e0 e1 e3 e4 e5 = rw (eqb-true s 4 e4)
+    go false false false false true e0 e1 e3 e4 e5 = rw (e3, e5) (wait-ends k o p m t)
+    go false false false false false e0 e1 e3 e4 e5 = rw (e3, e5)
+
+ends-shown : (b : List ℕ) (i : ℕ) → ending (waitOf (taskShown b i .state)) ≡ endsAt b i
+unfolding taskShown endsAt
+ends-shown b i = shown-ends _ _ _ _ _ _
+
+-- ---- a release changes no other task
+
+record Spared (t : ℕ) (b c : List ℕ) : Type 0 where
+  size : length c ≡ stateWords
+  others : (j : ℕ) → j ≢ t → taskShown c j ≡ taskShown b j
+
+released-spares : (t c w : ℕ) (b : List ℕ) → length b ≡ stateWords → Spared t b (released t c w b)
+unfolding released readied rotated
+released-spares t c w b e = go (eqb (entry Layout.status b t) 3) (eqb (entry Layout.status b t) 5)
+  where
+    kept : ℕ → List ℕ
+    kept s = Layout.put Layout.status t s (Layout.put Layout.word t w (Layout.put Layout.code t c b))
+
+    away : (s : ℕ) → Touched t (out t) b (unqueued t (kept s))
+    away s = touched-left (touched-put 0 s refl (touched-put 165 w refl (touched-put 132 c refl (untouched e))))
+
+    -- it goes last in the ready queue of its priority, whichever that is
+    last : (a : ℕ) → Spared t b (queued a t (unqueued t (kept 1)))
+    last a =
+        let T = away 1 in
+        let R = queued-law (unqueued t (kept 1)) (T .size) a t in record { size = R .size; others = λ j ne. relinked-shown R j ∙ T .others j ne }
+
+    go : (x y : Bool) → Spared t b (cond x (readied t (Layout.put Layout.word t w (Layout.put Layout.code t c b))) (cond y (unqueued t (kept 4)) b))
+    go true y = last _
+    go false true = record { size = away 4 .size; others = away 4 .others }
+    go false false = record { size = e; others = λ j ne. refl }
+
+-- who is to be released at the start is so along the way
+still-ends : {t : ℕ} {b c : List ℕ} → Spared t b c → (j : ℕ) → j ≢ t → endsAt c j ≡ endsAt b j
+still-ends {t} {b} {c} S j ne = sym (ends-shown c j) ∙ ap (λ x. ending (waitOf (x .state))) (S .others j ne) ∙ ends-shown b j
+
+-- ---- the first pass
+
+module _ (p : ℕ → Bool) where
+  pass : (n t : ℕ) (b : List ℕ) → length b ≡ stateWords → ((j : ℕ) → t ≤ j → endsAt b j ≡ p j) → expired n t b ≡ performs (map timeout (keep p (from t n))) b
+  unfolding expired expiredAt keep performs performed
+  pass zero t b e h = refl
+  pass (suc n) t b e h = go (p t) (h t (omega arith)) (pass n (suc t))
+    where
+      go : (x : Bool) → endsAt b t ≡ x → ((c : List ℕ) → length c ≡ stateWords → ((j : ℕ) → suc t ≤ j → endsAt c j ≡ p j) → expired n (suc t) c ≡ performs (map timeout (keep p (from (suc t) n))) c)
+          → expired n (suc t) (expiredAt t b) ≡ performs (map timeout (cond x (t ∷ keep p (from (suc t) n)) (keep p (from (suc t) n)))) b
+      go true f ih =
+          let S = released-spares t 1 0 b e in
+          rw f (ih (released t 1 0 b) (S .size) (λ j k. still-ends S j (λ q. omega arith) ∙ h j (omega arith)))
+      go false f ih = rw f (ih b e (λ j k. h j (omega arith)))
+
+keep-from : (p q : ℕ → Bool) (k n : ℕ) → ((i : ℕ) → k ≤ i → i < k + n → p i ≡ q i) → keep p (from k n) ≡ keep q (from k n)
+unfolding keep
+keep-from p q k zero h = refl
+keep-from p q k (suc n) h = λ z. cond (h k (omega arith) (omega arith) z) (k ∷ keep-from p q (suc k) n (λ i a b. h i (omega arith) (omega arith)) z) (keep-from p q (suc k) n (λ i a b. h i (omega arith) (omega arith)) z)
+
+-- the ids that the rules name
+endings-shown : (b m : List ℕ) → endings (bodyShown b m) ≡ keep (endsAt b) (from 1 (entry Layout.system b 1))
+unfolding bodyShown ids
+endings-shown b m =
+    ap (λ (n : ℕ). keep (λ i. ending (waitOf (task (bodyShown b m) i .state))) (from 1 n)) (length-ids (taskShown b) (entry Layout.system b 1))
+    ∙ keep-from _ _ 1 (entry Layout.system b 1)
+    (λ i k l. ap (λ x. ending (waitOf (x .state))) (of-ids (taskShown b) (entry Layout.system b 1) i nobody (k, omega arith)) ∙ ends-shown b i)
+
+-- ---- the tick
+
+performs-append : (l r : List Act) (b : List ℕ) → performs (l ++ r) b ≡ performs r (performs l b)
+unfolding performs
+performs-append [] r b = refl
+performs-append (a ∷ l) r b = performs-append l r (performed a b)
+
+tick-marks : (l : List ℕ) (m : List ℕ) → performsMarks (map timeout l ++ elapse ∷ []) m ≡ m
+unfolding performsMarks performedMarks
+tick-marks [] m = refl
+tick-marks (x ∷ l) m = tick-marks l m
+
+module _ (b m : List ℕ) (A : Accepted b m) where
+  few-tasks : entry Layout.system b 1 ≤ 32
+  unfolding bodyShown
+  few-tasks = omega (arith, sizes b m A .tasks .1, length-ids (taskShown b) (entry Layout.system b 1))
+
+  -- on an accepted memory the first pass performs the rules' releases
+  pub expired-performs : expired (atMost (entry Layout.system b 1) 32) 1 b ≡ performs (map timeout (endings (bodyShown b m))) b
+  expired-performs =
+      ap (λ (x : Bool). expired (cond x (entry Layout.system b 1) 0) 1 b) (le-leb (entry Layout.system b 1) 32 few-tasks)
+      ∙ pass (endsAt b) (entry Layout.system b 1) 1 b (A .whole .size) (λ j k. refl)
+      ∙ ap (λ (l : List ℕ). performs (map timeout l) b) (sym (endings-shown b m))
+
+  tick-performs : elapsed (expired (atMost (entry Layout.system b 1) 32) 1 b) ≡ performs (map timeout (endings (bodyShown b m)) ++ elapse ∷ []) b
+  unfolding performs performed
+  tick-performs = ap elapsed expired-performs ∙ sym (performs-append (map timeout (endings (bodyShown b m))) (elapse ∷ []) b)
+
+pub tick-does : (b : List ℕ) {s n : ℕ} {b₁ b₂ : List ℕ} → s ≡ entry Layout.system b 1 → n ≡ atMost s 32 → b₁ ≡ expired n 1 b → b₂ ≡ elapsed b₁ → DoesOnWords (λ v. ticked v) (pos 0) 0 0 b b₂
+unfolding ticked viewShown number
+tick-does b e f g h m A = record {
+  says = refl;
+  first = refl;
+  second = refl;
+  words = h ∙ ap elapsed (g ∙ ap (λ (n : ℕ). expired n 1 b) (f ∙ ap (λ (s : ℕ). atMost s 32) e)) ∙ tick-performs b m A;
+  marks = sym (tick-marks (endings (bodyShown b m)) m);
+}
+
+-- ---- the steps of the code
+
+module _ (i : ℕ) (b : List ℕ) {s k t : ℕ} {y : Bool} (e : s ≡ entry Layout.status b i) (f : k ≡ entry Layout.kind b i) (g : t ≡ entry Layout.ticks b i) (h : y ≡ lastTick s k t) where
+  ends-read : y ≡ endsAt b i
+  unfolding endsAt
+  ends-read = h ∙ rw (e, f, g)
+
+  pub expire-yes : y ≡ true → {b₁ : List ℕ} → b₁ ≡ released i 1 0 b → b₁ ≡ expiredAt i b
+  unfolding expiredAt
+  expire-yes z q = q ∙ rw (sym ends-read ∙ z)
+
+  pub expire-no : y ≡ false → b ≡ expiredAt i b
+  unfolding expiredAt
+  expire-no z = rw (sym ends-read ∙ z)
+
+pub expire-none : (n i : ℕ) (b : List ℕ) → n ≤ 0 → b ≡ expired n i b
+unfolding expired
+expire-none zero i b h = refl
+expire-none (suc n) i b h = absurd (omega arith)
+
+pub expire-step : (n i : ℕ) (b : List ℕ) {b₁ : List ℕ} → 0 < n → b₁ ≡ expiredAt i b → expired (n - 1) (i + 1) b₁ ≡ expired n i b
+unfolding expired
+expire-step zero i b h e = absurd (omega arith)
+expire-step (suc n) i b h e = rw (sub-one, add-one, e)

@@ -1,0 +1,16 @@
+-- `calls::judging::misplaced` meets its contract. By its tests. Assumes nothing.
+use borrow.Author.Needs.{needs}
+use Rattle.calls.proofs.judging.misplaced.Statement.{statement}
+use Rattle.calls.proofs.judging.misplaced.Tie as tie
+
+returns : tie.Need-returns
+returns c = rw (c .if1 .taken)
+
+returns-2 : tie.Need-returns-2
+returns-2 c = search needs
+
+returns-3 : tie.Need-returns-3
+returns-3 c = rw (c .before .if1 .left, c .if2 .left)
+
+pub misplaced-spec : {M : Type 1} → statement M
+misplaced-spec = tie.close (tie.spec returns returns-2 returns-3)

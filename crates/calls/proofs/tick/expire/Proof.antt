@@ -1,0 +1,38 @@
+-- `calls::tick::expire` meets its contract. By its test. Assumes nothing.
+use borrow.Author.Needs.{needs}
+use Rattle.calls.proofs.Ticks.{expire-yes, expire-no}
+use Rattle.calls.proofs.tick.expire.Statement.{statement}
+use Rattle.calls.proofs.tick.expire.Tie as tie
+
+status-requires : tie.Need-status-requires
+status-requires c κs = search needs
+
+kind-requires : tie.Need-kind-requires
+kind-requires c κs = search needs
+
+ticks-requires : tie.Need-ticks-requires
+ticks-requires c κs = search needs
+
+last-tick-requires : tie.Need-last-tick-requires
+last-tick-requires c κs = search needs
+
+release-requires : tie.Need-release-requires
+release-requires c κs = search needs
+
+returns : tie.Need-returns
+returns c =
+    let i = c .before .before in
+    let l = i .before in
+    let t = l .before in
+    let k = t .before .before in
+    expire-yes _ _ (k .before .before .status .ensures) (k .kind .ensures) (t .ticks .ensures) (l .last-tick .ensures) (i .if1 .taken) (c .release .ensures)
+
+returns-2 : tie.Need-returns-2
+returns-2 c =
+    let l = c .before in
+    let t = l .before in
+    let k = t .before .before in
+    expire-no _ _ (k .before .before .status .ensures) (k .kind .ensures) (t .ticks .ensures) (l .last-tick .ensures) (c .if1 .left)
+
+pub expire-spec : {M : Type 1} → statement M
+expire-spec = tie.close (tie.spec status-requires kind-requires ticks-requires last-tick-requires release-requires returns returns-2)

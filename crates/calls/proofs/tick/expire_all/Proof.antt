@@ -1,0 +1,41 @@
+-- `calls::tick::expire_all` meets its contract. What is left of the pass is the same at each turn. Assumes nothing.
+use Prim.Native.Nat.{_+_}
+use mathlib.Core.Path.{_≡_, refl, _∙_}
+use native.Mathlib.Omega.{arith}
+use borrow.Author.Needs.{needs}
+use Rattle.calls.specs.Ticking.{expired}
+use Rattle.calls.proofs.Ticks.{expire-none, expire-step}
+use Rattle.calls.proofs.tick.expire_all.Statement.{statement}
+use Rattle.calls.proofs.tick.expire_all.Tie as tie
+
+abbrev Inv-loop : tie.InvT-loop
+Inv-loop words₀ n i₀ left₀ words i left = (expired left i words ≡ expired n 1 words₀) × (i + left ≡ n + 1)
+
+abbrev μ-loop : tie.MeasureT-loop
+μ-loop words₀ n i₀ left₀ words i left = left
+
+loop-holds : tie.Need-loop-holds Inv-loop μ-loop
+loop-holds c = (refl, omega arith)
+
+expire-requires : tie.Need-expire-requires Inv-loop μ-loop
+expire-requires c κs = search needs
+
+add-i : tie.Need-add-i Inv-loop μ-loop
+add-i c = search needs
+
+sub-left : tie.Need-sub-left Inv-loop μ-loop
+sub-left c = search needs
+
+loop-less : tie.Need-loop-less Inv-loop μ-loop
+loop-less c = search needs
+
+loop-again : tie.Need-loop-again Inv-loop μ-loop
+loop-again c =
+    let i = c .before .before in
+    (expire-step _ _ _ (i .loop-test .taken) (c .expire .ensures) ∙ i .before .loop .inv .0, omega arith)
+
+returns : tie.Need-returns Inv-loop μ-loop
+returns c = expire-none _ _ _ (c .loop-test .left) ∙ c .before .loop .inv .0
+
+pub expire-all-spec : {M : Type 1} → statement M
+expire-all-spec = tie.close (tie.spec Inv-loop μ-loop loop-holds expire-requires add-i sub-left loop-less loop-again returns)

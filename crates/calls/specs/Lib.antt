@@ -1,0 +1,7 @@
+-- What the calls do.
+pub mod Doing
+pub mod Judging
+pub mod Reading
+pub mod Rows
+pub mod Ticking
+pub mod Releases
