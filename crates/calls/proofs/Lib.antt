@@ -8,8 +8,15 @@ pub mod TaskCalls
 pub mod WakeCalls
 pub mod Heads
 pub mod AskCalls
-pub mod Objects
 pub mod Ticks
 pub mod Done
 pub mod Entries
 pub mod Releases
+pub mod Objected
+pub mod SemaphoreCalls
+pub mod Blocks
+pub mod PoolCalls
+pub mod FlagCalls
+pub mod FlagBits
+pub mod MessageCalls
+pub mod SendCalls

@@ -49,11 +49,3 @@ commonCode c t handler me i b = firstCode (common c t handler me i (eqb (entry L
 
 unfoldable pub taskRefused : Context → Target → Bool → ℕ → ℕ → List ℕ → ℤ
 taskRefused c t handler me i b = orElse (noTask i b) (commonCode c t handler me i b)
-
--- ---- a call that names object i of those whose number stands at n, and judges no other word
-
-abbrev pub noObject : ℕ → ℕ → List ℕ → ℤ
-noObject n i b = cond (outside (pos i) (entry Layout.system b n)) (number E-NOEXS) (pos 0)
-
-unfoldable pub objectRefused : Context → ℕ → Bool → ℕ → ℕ → List ℕ → ℤ
-objectRefused c n handler me i b = orElse (noObject n i b) (commonCode c anyone handler me i b)

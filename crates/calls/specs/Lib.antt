@@ -5,3 +5,7 @@ pub mod Reading
 pub mod Rows
 pub mod Ticking
 pub mod Releases
+pub mod Objects
+pub mod Blocks
+pub mod Flags
+pub mod Messages

@@ -11,7 +11,7 @@ ghost use Rattle.rules.specs.Events.{nat, outside, above};
 ghost use Rattle.rules.specs.Table as Table;
 ghost use Rattle.state.specs.Layout as Layout;
 ghost use Rattle.state.specs.Moves.{entry};
-ghost use Rattle.calls.specs.Judging.{firstCode, orElse, contextOf, targetOf, common, taskRefused, objectRefused};
+ghost use Rattle.calls.specs.Judging.{firstCode, orElse, contextOf, targetOf, common, taskRefused};
 
 // What a call answers.
 pub struct Said {
@@ -144,19 +144,4 @@ pub fn refused_task(
 {
     let said = unless_within(i, system(words, 1), -2100);
     refused(words, said, strict, target, handler, me, i)
-}
-
-// The refusals of a call that names an object and judges no other word; `count` is where the number of such objects stands.
-pub fn refused_object(
-    words: &[u32; STATE_WORDS],
-    count: u32,
-    strict: bool,
-    handler: bool,
-    me: u32,
-    i: u32,
-) -> i32
-    ensures { λ r. ⌜ r ≡ objectRefused (contextOf strict) count handler me i (now (words .entry)) ⌝ }
-{
-    let said = unless_within(i, system(words, count), -2100);
-    refused(words, said, strict, 0, handler, me, i)
 }

@@ -1,10 +1,10 @@
--- `calls::judging::refused_object` meets its contract. Step by step. Assumes nothing.
+-- `calls::objects::refused_object` meets its contract. Step by step. Assumes nothing.
 use Rattle.rules.specs.Codes.{number}
-use Rattle.calls.specs.Judging.{objectRefused}
+use Rattle.calls.specs.Objects.{objectRefused}
 use Rattle.calls.proofs.Judged.{signed}
 use borrow.Author.Needs.{needs}
-use Rattle.calls.proofs.judging.refused_object.Statement.{statement}
-use Rattle.calls.proofs.judging.refused_object.Tie as tie
+use Rattle.calls.proofs.objects.refused_object.Statement.{statement}
+use Rattle.calls.proofs.objects.refused_object.Tie as tie
 
 system-requires : tie.Need-system-requires
 system-requires c κs = search needs
