@@ -1,4 +1,4 @@
--- The first of a queue, as the code reads it from the links, is the head of the line that the view shows. Assumes nothing.
+-- The first of a ready queue, as the code reads it from the links, is the head of the line that the view shows. Assumes nothing.
 use mathlib.Core.Bool.{false, cond}
 use mathlib.Core.List.{List, [], _∷_, map}
 use mathlib.Core.Path.{_≡_, refl, sym, subst}
@@ -9,25 +9,19 @@ use lib.Dec.{eqb}
 use lib.IntN.{ℤ, pos, negsuc}
 use Rattle.rules.specs.Ids.{from, ids, first, In}
 use Rattle.rules.specs.Events.{nat, above}
-use Rattle.rules.specs.State.{Kind}
-use Rattle.rules.specs.Places.{Place, readyAt, waiters, mail, Exists, tabulate}
+use Rattle.rules.specs.Places.{Place, readyAt, Exists, tabulate}
 use Rattle.rules.specs.View.{line, nonempty, best, running}
 use Rattle.rules.proofs.Lines.{line-tabulate}
-use Rattle.rings.specs.Links.{firstOf}
-use Rattle.rings.specs.Rings.{IsId, All, headOf}
+use Rattle.rings.specs.Rings.{IsId, All}
 use Rattle.rings.proofs.Laws.{first-law}
 use Rattle.state.specs.Layout as Layout
-use Rattle.state.specs.Layout.{words}
 use Rattle.state.specs.Moves.{entry}
-use Rattle.state.specs.Picture.{tasksShown, messagesShown, storeShown, bodyShown, anchor, lineShown, viewShown, ready-queue, wait-queue, mailbox-queue, Accepted}
+use Rattle.state.specs.Picture.{tasksShown, storeShown, bodyShown, anchor, lineShown, viewShown, ready-queue, Accepted}
 use Rattle.kernel.specs.Running.{headAt, runningOf}
 use Rattle.kernel.proofs.Lowest.{HeadOf}
 use Rattle.kernel.proofs.Accepts.{running-law}
 use Rattle.calls.specs.Reading.{turnAt}
-
-head-of : (n v : ℕ) (l : List ℕ) → v ≡ headOf l 0 → All (IsId n) l → HeadOf v l
-head-of n v [] e h = e
-head-of n v (x ∷ l) e h = (e, h .0 .0)
+use Rattle.calls.proofs.Objected.{head-of}
 
 -- of the first nonempty line
 nonempty-head : (n : ℕ) (L : ℕ → List ℕ) (k c : ℕ) → ((q : ℕ) → k ≤ q → q < k + c → All (IsId n) (L q)) → HeadOf (first (nonempty (map L (from k c)))) (nonempty (map L (from k c)))
@@ -43,14 +37,6 @@ module _ (b m : List ℕ) (A : Accepted b m) where
   line-is : (q : Place) → Exists (storeShown b m) q → line (viewShown b m) q ≡ lineShown b q
   unfolding viewShown
   line-is q h = line-tabulate (storeShown b m) (lineShown b) q h
-
-  pub waiters-head : (k : Kind) (o : ℕ) → Exists (storeShown b m) (waiters k o) → HeadOf (firstOf (words Layout.next b) (anchor (waiters k o))) (line (viewShown b m) (waiters k o))
-  unfolding lineShown
-  waiters-head k o h = rw (line-is (waiters k o) h) (head-of (tasksShown b) _ (lineShown b (waiters k o)) (first-law (A .whole .tasks) _ (wait-queue k o h)) (A .whole .tasks .ring _ (wait-queue k o h) .ids))
-
-  pub mail-head : (j : ℕ) → Exists (storeShown b m) (mail j) → HeadOf (firstOf (words Layout.mailNext b) (anchor (mail j))) (line (viewShown b m) (mail j))
-  unfolding lineShown
-  mail-head j h = rw (line-is (mail j) h) (head-of (messagesShown b) _ (lineShown b (mail j)) (first-law (A .whole .mails) _ (mailbox-queue j h)) (A .whole .mails .ring _ (mailbox-queue j h) .ids))
 
   few : entry Layout.system b 0 ≤ 16
   unfolding viewShown bodyShown storeShown

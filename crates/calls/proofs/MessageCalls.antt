@@ -27,9 +27,9 @@ use Rattle.calls.specs.Objects.{columnOf, noObject, objectRefused}
 use Rattle.calls.specs.Flags.{firstMessage}
 use Rattle.calls.specs.Messages.{DoesOnBoth, RcvMsg, PrcvMsg}
 use Rattle.calls.proofs.Judged.{Negative, Silent, silent-first, silent-then, passes, common-refuse}
-use Rattle.calls.proofs.Objected.{refuse, object-word, object-in, object-refused, on-none, on-some}
+use Rattle.calls.proofs.Objected.{refuse, object-word, object-in, object-refused}
 use Rattle.calls.proofs.FlagCalls.{message-law}
-use Rattle.calls.proofs.Verdicts.{refuses-with, waits-one}
+use Rattle.calls.proofs.Verdicts.{refuses-with, waits-one, first-none, first-some}
 
 -- a call on an object, of which nothing is said, where the marks change too
 both-passed : (k : Kind) (c : Context) (R : View → Verdict) (h : Bool) (me : ℕ) (a : ℤ) (b m : List ℕ) {i : ℕ} {e : ℤ} → i ≡ nat a → e ≡ objectRefused (columnOf k) c h me i b → Silent e
@@ -56,11 +56,11 @@ module _ (a : ℤ) (b m : List ℕ) (A : Accepted b m) (h : In (nat a) (entry La
 
   taken : (j ≡ 0 → ⊥) → (r : Verdict) {b′ m′ : List ℕ} → (b′ ≡ unmailed j b) × (m′ ≡ put m j 0) → Does (take-msg (viewShown b m) a r) (pos 0) j 0 b m b′ m′
   unfolding take-msg performs performsMarks performed performedMarks number
-  taken z r g = on-some j (line (viewShown b m) (mail (nat a))) r _ head z (record { says = refl; first = refl; second = refl; words = g .0; marks = g .1 })
+  taken z r g = first-some (line (viewShown b m) (mail (nat a))) r _ z head (record { says = refl; first = refl; second = refl; words = g .0; marks = g .1 })
 
   none-taken : j ≡ 0 → (r : Verdict) {code : ℤ} {b′ : List ℕ} → Does r code 0 0 b m b′ m → Does (take-msg (viewShown b m) a r) code 0 0 b m b′ m
   unfolding take-msg
-  none-taken z r d = on-none j (line (viewShown b m) (mail (nat a))) r _ head z d
+  none-taken z r d = first-none (line (viewShown b m) (mail (nat a))) r _ z head d
 
 module _ (h : Bool) (me : ℕ) (a : ℤ) (b m : List ℕ) {i : ℕ} {e : ℤ} (ei : i ≡ nat a) where
   module _ (es : e ≡ objectRefused 4 T h me i b) where

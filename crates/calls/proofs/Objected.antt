@@ -13,7 +13,7 @@ use Rattle.rules.specs.State.{Kind, semaphore, flag, mailbox, pool, objects}
 use Rattle.rules.specs.Places.{waiters}
 use Rattle.rules.specs.Events.{nat, outside}
 use Rattle.rules.specs.View.{View, line}
-use Rattle.rules.specs.Verdicts.{Verdict, onFirst}
+use Rattle.rules.specs.Verdicts.{Verdict}
 use Rattle.rules.specs.Objects.{to-first, obj-sts}
 use Rattle.rules.specs.Table.{Context, anyone, row, judged, object-id}
 use Rattle.rules.proofs.Ids.{length-ids}
@@ -32,7 +32,7 @@ use Rattle.calls.specs.Doing.{Does, DoesOnWords}
 use Rattle.calls.specs.Judging.{firstCode}
 use Rattle.calls.specs.Objects.{columnOf, noObject, objectRefused, firstWaiter}
 use Rattle.calls.proofs.Judged.{Negative, Silent, AllRefuse, refused-does, passed-does}
-use Rattle.calls.proofs.Verdicts.{gives-none, gives-one}
+use Rattle.calls.proofs.Verdicts.{gives-none, gives-one, first-none, first-some}
 
 -- ---- the id
 
@@ -118,27 +118,17 @@ module _ (k : Kind) (o : ℕ) (b m : List ℕ) (A : Accepted b m) (h : In o (ent
 
 -- ---- by the first waiter x, as the code has read it
 
-pub on-none : {b m b′ m′ : List ℕ} {code : ℤ} {w1 w2 : ℕ} (v : ℕ) (l : List ℕ) (r : Verdict) (f : ℕ → Verdict) → HeadOf v l → v ≡ 0 → Does r code w1 w2 b m b′ m′ → Does (onFirst l r f) code w1 w2 b m b′ m′
-unfolding onFirst
-on-none v [] r f h z d = d
-on-none v (x ∷ l) r f h z d = absurd (omega (arith, h .0, h .1))
-
-pub on-some : {b m b′ m′ : List ℕ} {code : ℤ} {w1 w2 : ℕ} (v : ℕ) (l : List ℕ) (r : Verdict) (f : ℕ → Verdict) → HeadOf v l → (v ≡ 0 → ⊥) → Does (f v) code w1 w2 b m b′ m′ → Does (onFirst l r f) code w1 w2 b m b′ m′
-unfolding onFirst
-on-some v [] r f h ne d = absurd (ne h)
-on-some v (x ∷ l) r f h ne d = rw (h .0) at d
-
 module _ (k : Kind) (a : ℤ) (b m : List ℕ) (A : Accepted b m) (h : In (nat a) (entry Layout.system b (columnOf k))) {x : ℕ} (ex : x ≡ firstWaiter (kindNumber k) (nat a) b) where
   head : HeadOf x (line (viewShown b m) (waiters k (nat a)))
   head = rw ex (waiter-law k (nat a) b m A h)
 
   pub to-nobody : x ≡ 0 → {b′ m′ : List ℕ} {code : ℤ} {w1 w2 : ℕ} (w : ℕ) (r : Verdict) → Does r code w1 w2 b m b′ m′ → Does (to-first (viewShown b m) k a w r) code w1 w2 b m b′ m′
   unfolding to-first
-  to-nobody z w r d = on-none x (line (viewShown b m) (waiters k (nat a))) r _ head z d
+  to-nobody z w r d = first-none (line (viewShown b m) (waiters k (nat a))) r _ z head d
 
   pub to-waiter : (x ≡ 0 → ⊥) → {b′ : List ℕ} (w : ℕ) (r : Verdict) → b′ ≡ released x 0 w b → Does (to-first (viewShown b m) k a w r) (pos 0) 0 0 b m b′ m
   unfolding to-first performed performedMarks
-  to-waiter ne w r g = on-some x (line (viewShown b m) (waiters k (nat a))) r _ head ne (gives-one (release x OK w) refl refl refl g)
+  to-waiter ne w r g = first-some (line (viewShown b m) (waiters k (nat a))) r _ ne head (gives-one (release x OK w) refl refl refl g)
 
   pub status-is : {y z : ℕ} → y ≡ z → Does (obj-sts (viewShown b m) k a z) (pos 0) x y b m b m
   unfolding obj-sts
