@@ -16,8 +16,8 @@ use Rattle.state.specs.Layout as Layout
 use Rattle.state.specs.Moves.{entry, rotated}
 use Rattle.state.specs.Perform.{performed, performedMarks}
 use Rattle.state.specs.Picture.{storeShown, bodyShown, viewShown, Accepted}
-use Rattle.kernel.specs.Running.{runningOf}
-use Rattle.kernel.proofs.Accepts.{running-law}
+use Rattle.guard.specs.Running.{runningOf}
+use Rattle.guard.proofs.Accepts.{running-law}
 use Rattle.calls.specs.Doing.{DoesOnWords}
 use Rattle.calls.specs.Judging.{firstCode, orElse, common, commonCode, taskRefused}
 use Rattle.calls.specs.Reading.{numberAt, turnAt}

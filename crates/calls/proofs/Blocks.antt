@@ -18,7 +18,7 @@ use Rattle.rules.proofs.Waits.{in-by}
 use Rattle.state.specs.Layout as Layout
 use Rattle.state.specs.Moves.{entry}
 use Rattle.state.specs.Picture.{bitsOf, poolShown, storeShown, bodyShown, viewShown, Accepted}
-use Rattle.kernel.specs.Running.{lowestMark}
+use Rattle.guard.specs.Running.{lowestMark}
 use Rattle.calls.specs.Blocks.{bitCount, notOut}
 
 -- ---- bits

@@ -27,7 +27,7 @@ use Rattle.state.specs.Layout.{words}
 use Rattle.state.specs.Moves.{entry, waited, mailAnchor}
 use Rattle.state.specs.Perform.{put-to-wait, performed, performedMarks}
 use Rattle.state.specs.Picture.{storeShown, bodyShown, viewShown, anchor, messagesShown, lineShown, mailbox-queue, Accepted}
-use Rattle.kernel.proofs.Lowest.{HeadOf}
+use Rattle.guard.proofs.Lowest.{HeadOf}
 use Rattle.calls.specs.Doing.{Does, DoesOnWords}
 use Rattle.calls.specs.Judging.{firstCode, orElse, commonCode}
 use Rattle.calls.specs.Objects.{noObject, objectRefused, firstWaiter}

@@ -17,9 +17,9 @@ use Rattle.rings.proofs.Laws.{first-law}
 use Rattle.state.specs.Layout as Layout
 use Rattle.state.specs.Moves.{entry}
 use Rattle.state.specs.Picture.{tasksShown, storeShown, bodyShown, anchor, lineShown, viewShown, ready-queue, Accepted}
-use Rattle.kernel.specs.Running.{headAt, runningOf}
-use Rattle.kernel.proofs.Lowest.{HeadOf}
-use Rattle.kernel.proofs.Accepts.{running-law}
+use Rattle.guard.specs.Running.{headAt, runningOf}
+use Rattle.guard.proofs.Lowest.{HeadOf}
+use Rattle.guard.proofs.Accepts.{running-law}
 use Rattle.calls.specs.Reading.{turnAt}
 use Rattle.calls.proofs.Objected.{head-of}
 

@@ -20,7 +20,7 @@ use Rattle.state.specs.Layout.{words}
 use Rattle.state.specs.Moves.{entry, mailAnchor, unmailed, waited}
 use Rattle.state.specs.Perform.{put-to-wait, performed, performedMarks}
 use Rattle.state.specs.Picture.{viewShown, Accepted}
-use Rattle.kernel.proofs.Lowest.{HeadOf}
+use Rattle.guard.proofs.Lowest.{HeadOf}
 use Rattle.calls.specs.Doing.{performs, performsMarks, Does}
 use Rattle.calls.specs.Judging.{common, commonCode}
 use Rattle.calls.specs.Objects.{columnOf, noObject, objectRefused}

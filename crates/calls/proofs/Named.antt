@@ -16,7 +16,7 @@ use Rattle.rules.specs.Table.{Context, Target, row, names-dormant, judged, task
 use Rattle.state.specs.Layout as Layout
 use Rattle.state.specs.Moves.{entry}
 use Rattle.state.specs.Picture.{tasksShown, viewShown, Accepted}
-use Rattle.kernel.proofs.Signed.{task-in}
+use Rattle.guard.proofs.Signed.{task-in}
 use Rattle.calls.specs.Doing.{Does, DoesOnWords}
 use Rattle.calls.specs.Judging.{firstCode, noTask, taskRefused}
 use Rattle.calls.proofs.Judged.{Negative, Silent, AllRefuse, refused-does, passed-does}

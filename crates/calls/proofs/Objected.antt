@@ -27,7 +27,7 @@ use Rattle.state.specs.Layout.{words}
 use Rattle.state.specs.Moves.{entry, waitAnchor, released}
 use Rattle.state.specs.Picture.{kindNumber, tasksShown, storeShown, bodyShown, anchor, lineShown, viewShown, wait-queue, Accepted}
 use Rattle.state.specs.Perform.{performed, performedMarks}
-use Rattle.kernel.proofs.Lowest.{HeadOf}
+use Rattle.guard.proofs.Lowest.{HeadOf}
 use Rattle.calls.specs.Doing.{Does, DoesOnWords}
 use Rattle.calls.specs.Judging.{firstCode}
 use Rattle.calls.specs.Objects.{columnOf, noObject, objectRefused, firstWaiter}

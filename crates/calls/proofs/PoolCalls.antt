@@ -16,7 +16,7 @@ use Rattle.state.specs.Layout as Layout
 use Rattle.state.specs.Moves.{entry, released, waited, marked}
 use Rattle.state.specs.Perform.{put-to-wait, performed, performedMarks}
 use Rattle.state.specs.Picture.{viewShown, Accepted}
-use Rattle.kernel.specs.Running.{lowestMark}
+use Rattle.guard.specs.Running.{lowestMark}
 use Rattle.calls.specs.Doing.{Does, DoesOnWords}
 use Rattle.calls.specs.Objects.{objectRefused, firstWaiter, GetBlk, PgetBlk, RelBlk, MplSts}
 use Rattle.calls.specs.Blocks.{bitCount, notOut}

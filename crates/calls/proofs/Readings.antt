@@ -13,9 +13,9 @@ use Rattle.rules.specs.Ids.{In}
 use Rattle.rules.specs.State.{Kind, semaphore, flag, mailbox, pool, Wait, Store, dormant, ready, suspended, waiting, waiting-suspended, task, nobody, waitOf, isDormant, isSuspended, isWaiting, sleeps}
 use Rattle.rules.specs.Tasks.{stateNumber}
 use Rattle.rules.specs.View.{running}
-use Rattle.kernel.proofs.Accepts.{running-law}
+use Rattle.guard.proofs.Accepts.{running-law}
 use Rattle.rules.specs.Sound.{WaitNumbers}
-use Rattle.kernel.proofs.Cases.{kind-cases, status-cases}
+use Rattle.guard.proofs.Cases.{kind-cases, status-cases}
 use Rattle.calls.specs.Reading.{waitsAt, haltedAt, sleepsAt, wakeupsAt, numberAt}
 use Rattle.rules.proofs.Ids.{of-ids, length-ids}
 use Rattle.state.specs.Layout as Layout

@@ -18,8 +18,8 @@ use Rattle.state.specs.Layout as Layout
 use Rattle.state.specs.Moves.{entry}
 use Rattle.state.specs.Picture.{stateShown, taskShown, tasksShown, bodyShown, viewShown, Accepted}
 use Rattle.state.proofs.Steps.{one-bit}
-use Rattle.kernel.specs.Running.{atMost}
-use Rattle.kernel.proofs.Cases.{status-cases}
+use Rattle.guard.specs.Running.{atMost}
+use Rattle.guard.proofs.Cases.{status-cases}
 use Rattle.calls.specs.Reading.{waitsAt}
 use Rattle.calls.specs.Releases.{freedAt, looked, waitsOf, freedNow, freedOf, waitingMarks, releasedBy}
 use Rattle.calls.proofs.Readings.{tasks-count, task-shown, waiting-read}

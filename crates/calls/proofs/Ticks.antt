@@ -25,7 +25,7 @@ use Rattle.state.proofs.Tiling.{queued-law}
 use Rattle.state.proofs.Lines.{out}
 use Rattle.state.proofs.Touched.{Touched, untouched, touched-put, touched-left, relinked-shown}
 use Rattle.state.proofs.OneTask.{sizes}
-use Rattle.kernel.specs.Running.{atMost}
+use Rattle.guard.specs.Running.{atMost}
 use Rattle.calls.specs.Doing.{performs, performsMarks, DoesOnWords}
 use Rattle.calls.specs.Ticking.{lastTick, endsAt, expiredAt, expired}
 

@@ -11,7 +11,7 @@ use Rattle.rules.specs.State.{Wait}
 use Rattle.rules.specs.Codes.{Code, number}
 use Rattle.rules.specs.Verdicts.{Verdict, refuse, gives, check, choose, onFirst, onCount, waits}
 use Rattle.state.specs.Perform.{performed, performedMarks}
-use Rattle.kernel.proofs.Lowest.{HeadOf}
+use Rattle.guard.proofs.Lowest.{HeadOf}
 use Rattle.calls.specs.Doing.{performs, performsMarks, Does}
 
 module _ {b m : List ℕ} where

@@ -5,7 +5,7 @@ use Prim.Native.Nat.{ℕ}
 use lib.Dec.{eqb, leb}
 use Rattle.state.specs.Layout as Layout
 use Rattle.state.specs.Moves.{entry}
-use Rattle.kernel.specs.Running.{headAt, runningOf}
+use Rattle.guard.specs.Running.{headAt, runningOf}
 
 -- WAIT or WAIT-SUSPEND
 abbrev pub waitsAt : List ℕ → ℕ → Bool

@@ -7,7 +7,7 @@ use lib.Dec.{eqb}
 use Rattle.rules.specs.Ids.{once}
 use Rattle.state.specs.Layout as Layout
 use Rattle.state.specs.Moves.{entry}
-use Rattle.kernel.specs.Running.{atMost}
+use Rattle.guard.specs.Running.{atMost}
 use Rattle.calls.specs.Reading.{waitsAt}
 
 -- READY, RUN or SUSPEND

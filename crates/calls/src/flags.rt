@@ -6,7 +6,7 @@ use crate::judging::unless_upto;
 use crate::judging::unless_within;
 use crate::objects::first_waiter;
 use crate::objects::refused_object;
-use kernel::check::meets;
+use guard::check::meets;
 use state::STATE_WORDS;
 use state::columns::flag;
 use state::columns::set_flag;

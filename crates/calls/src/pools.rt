@@ -10,7 +10,7 @@ use state::objects::mark_block;
 use state::tasks::release;
 use state::tasks::wait;
 ghost use mathlib.Core.Path.{_≡_};
-ghost use Rattle.kernel.specs.Running.{lowestMark};
+ghost use Rattle.guard.specs.Running.{lowestMark};
 ghost use Rattle.calls.specs.Doing.{DoesOnWords, Kept};
 ghost use Rattle.calls.specs.Objects.{GetBlk, PgetBlk, RelBlk, MplSts};
 ghost use Rattle.calls.specs.Blocks.{bitCount, notOut};

@@ -1,5 +1,5 @@
 // What is asked of a task's state.
-use kernel::running::running_task;
+use guard::running::running_task;
 use state::STATE_WORDS;
 use state::columns::kind;
 use state::columns::status;

@@ -1,7 +1,7 @@
 // The number released: the tasks that waited before an event and are READY, RUN or SUSPEND after it.
 // The memory is changed in place, so one word of marks keeps who waited.
 use crate::reading::is_waiting;
-use kernel::running::at_most;
+use guard::running::at_most;
 use state::STATE_WORDS;
 use state::columns::status;
 use state::columns::system;

@@ -13,7 +13,7 @@ use crate::reading::is_waiting;
 use crate::reading::ready_head;
 use crate::reading::state_number;
 use crate::reading::stored;
-use kernel::running::running_task;
+use guard::running::running_task;
 use state::STATE_WORDS;
 use state::columns::priority;
 use state::columns::set_wakeups;

@@ -1,6 +1,6 @@
 // The tick: the waits that it ends are released, then the other timed waits lose one and the clock rises.
 use crate::judging::Said;
-use kernel::running::at_most;
+use guard::running::at_most;
 use state::STATE_WORDS;
 use state::columns::kind;
 use state::columns::status;

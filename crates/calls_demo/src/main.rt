@@ -70,7 +70,7 @@ fn caller(words: &[u32; STATE_WORDS], handler: bool) -> u32 {
     if handler {
         0
     } else {
-        kernel::running::running_task(words)
+        guard::running::running_task(words)
     }
 }
 
@@ -335,7 +335,7 @@ fn main() {
     let all = &bytes[..];
     let mut words = [0u32; STATE_WORDS];
     let mut messages = [0u32; 256];
-    kernel::start::start(all, &mut words, &mut messages);
+    boot::start(all, &mut words, &mut messages);
     starting(&mut words, &messages);
     waking(&mut words, &messages);
     ticks(&mut words, &messages);

@@ -15,10 +15,11 @@ use Rattle.rules.proofs.Ids.{of-ids, length-ids}
 use Rattle.state.specs.Layout as Layout
 use Rattle.state.specs.Moves.{entry}
 use Rattle.state.specs.Picture.{taskShown, tasksShown, bodyShown, viewShown, Accepted}
-use Rattle.kernel.specs.Running.{runningOf}
-use Rattle.kernel.specs.Promises.{kept, isTask, Reads, Runs}
-use Rattle.kernel.proofs.Accepts.{running-law}
-use Rattle.kernel.proofs.Signed.{task-in}
+use Rattle.guard.specs.Running.{runningOf}
+use Rattle.guard.specs.Tests.{isTask}
+use Rattle.kernel.specs.Promises.{kept, Reads, Runs}
+use Rattle.guard.proofs.Accepts.{running-law}
+use Rattle.guard.proofs.Signed.{task-in}
 
 module _ {b msgs : List ℕ} {r : Bool} (law : (r ≡ true) ↔ Accepted b msgs) where
   refuted : r ≡ false → Accepted b msgs → ⊥

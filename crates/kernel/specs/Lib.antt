@@ -1,5 +1,4 @@
--- The kernel: what its functions do and promise.
-pub mod Running
-pub mod Tests
+-- The kernel: what its functions promise, and what is demanded of runs.
 pub mod Promises
-pub mod Starting
+pub mod Steps
+pub mod Demands

@@ -1,12 +1,9 @@
 -- What is promised of reading a cell and of naming the running task, on any memory.
-use mathlib.Core.Bool.{Bool, true, false, cond, not}
 use mathlib.Core.List.{List}
 use mathlib.Core.Path.{_≡_}
 use Prim.Native.Nat.{ℕ}
-use lib.Dec.{eqb}
-use lib.IntN.{ℤ, pos}
+use lib.IntN.{ℤ}
 use Rattle.rules.specs.Codes.{H-STATE, number}
-use Rattle.rules.specs.Events.{outside}
 use Rattle.rules.specs.Answers.{readCell}
 use Rattle.rules.specs.View.{running}
 use Rattle.state.specs.Picture.{codeOf, viewShown, Accepted}
@@ -14,9 +11,6 @@ use Rattle.state.specs.Picture.{codeOf, viewShown, Accepted}
 -- the number of the code that a cell keeps by a small number
 abbrev pub kept : ℕ → ℤ
 kept c = number (codeOf c)
-
-abbrev pub isTask : ℤ → ℕ → Bool
-isTask a n = not (outside a n)
 
 -- A cell is read by task id: H_STATE, then E_NOEXS for a bad id, each with word 0.
 pub record Reads (b msgs : List ℕ) (a : ℤ) (code : ℤ) (word : ℕ) : Type 0 where

@@ -1,11 +1,12 @@
 // Reading a task's answer cell, and naming the running task, of a memory that may be damaged.
-use crate::check::accepts;
-use crate::running::running_task;
+use guard::check::accepts;
+use guard::running::running_task;
 use state::STATE_WORDS;
 use state::columns::code;
 use state::columns::system;
 use state::columns::word;
 ghost use mathlib.Core.Path.{_≡_};
+ghost use Rattle.guard.specs.Tests as Tests;
 ghost use Rattle.kernel.specs.Promises as Promises;
 ghost use Rattle.kernel.specs.Promises.{Reads, Runs};
 
@@ -28,7 +29,7 @@ fn code_of(kept: u32) -> i32
 }
 
 fn is_task(task: i32, n: u32) -> bool
-    ensures { λ r. ⌜ r ≡ Promises.isTask task n ⌝ }
+    ensures { λ r. ⌜ r ≡ Tests.isTask task n ⌝ }
 {
     if task < 1 {
         return false;

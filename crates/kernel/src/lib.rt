@@ -1,6 +1,3 @@
-// The kernel over its memory. So far: what a state is. `start` makes the fresh state of a setup, `accepts` tells whether a memory is a
-// sound state, `cell` reads an answer cell, `running` names the running task. None asks anything of its caller.
+// The kernel over its memory, for a caller that need check nothing: every function is defined on every memory and every word.
+// `cell` reads an answer cell, `running` names the running task.
 pub mod cell;
-pub mod check;
-pub mod running;
-pub mod start;

@@ -1,5 +1,5 @@
 // Starts setups, good and bad, damages single words of a fresh state, and prints what each function answers.
-use kernel::start::Started;
+use boot::Started;
 use libc::STDOUT_FILENO;
 use state::STATE_WORDS;
 ghost use Prim.Native.Nat.{_≤_};
@@ -34,7 +34,7 @@ fn cell(name: &[u8], words: &[u32; STATE_WORDS], messages: &[u32; 256], task: i3
 
 // What the functions say of a state: whether it is sound, who runs, and the cells of task 1 and of no task.
 fn look(words: &[u32; STATE_WORDS], messages: &[u32; 256]) {
-    if kernel::check::accepts(words, messages) {
+    if guard::check::accepts(words, messages) {
         say(b"sound, runs ");
     } else {
         say(b"damaged, runs ");
@@ -70,7 +70,7 @@ fn try_start(name: &[u8], bytes: &[u8]) {
     let mut words = [1u32; STATE_WORDS];
     let mut messages = [1u32; 256];
     say(name);
-    match kernel::start::start(bytes, &mut words, &mut messages) {
+    match boot::start(bytes, &mut words, &mut messages) {
         Started::Fresh => say(b": fresh, "),
         Started::Refused(digit, place) => {
             say(b": refused S");
@@ -110,7 +110,7 @@ fn hurts(words: &mut [u32; STATE_WORDS], messages: &[u32; 256], at: usize, word:
     }
     let kept = words[at];
     words[at] = word;
-    let sound = kernel::check::accepts(words, messages);
+    let sound = guard::check::accepts(words, messages);
     words[at] = kept;
     if sound { 0 } else { 1 }
 }
@@ -156,7 +156,7 @@ fn main() {
     let mut messages = [0u32; 256];
     say(b"a memory of zeros: ");
     look(&words, &messages);
-    kernel::start::start(all, &mut words, &mut messages);
+    boot::start(all, &mut words, &mut messages);
     damage(b"task 1 in state 2", &mut words, &messages, 1, 2);
     damage(b"task 1 dormant in a queue", &mut words, &messages, 1, 0);
     damage(b"task 1 at priority 5", &mut words, &messages, 34, 5);

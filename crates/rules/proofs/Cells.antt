@@ -98,19 +98,19 @@ released-mild c w t = go (t .state) refl
     go (waiting x) e = gone (rw e) (rw e)
     go (waiting-suspended x) e = gone (rw e) (rw e)
 
+pub older-same : (s : State) → (isWaiting (older s) ≡ isWaiting s) × (isFreed (older s) ≡ isFreed s)
+older-same dormant = (refl, refl)
+older-same ready = (refl, refl)
+older-same suspended = (refl, refl)
+older-same (waiting asleep) = (refl, refl)
+older-same (waiting (timed n)) = (refl, refl)
+older-same (waiting (on k o p m)) = (refl, refl)
+older-same (waiting-suspended asleep) = (refl, refl)
+older-same (waiting-suspended (timed n)) = (refl, refl)
+older-same (waiting-suspended (on k o p m)) = (refl, refl)
+
 older-mild : (t : Task) → Mild t (with-state (older (t .state)) t)
-older-mild t = untouched refl (go (t .state) .0) (go (t .state) .1)
-  where
-    go : (s : State) → (isWaiting (older s) ≡ isWaiting s) × (isFreed (older s) ≡ isFreed s)
-    go dormant = (refl, refl)
-    go ready = (refl, refl)
-    go suspended = (refl, refl)
-    go (waiting asleep) = (refl, refl)
-    go (waiting (timed n)) = (refl, refl)
-    go (waiting (on k o p m)) = (refl, refl)
-    go (waiting-suspended asleep) = (refl, refl)
-    go (waiting-suspended (timed n)) = (refl, refl)
-    go (waiting-suspended (on k o p m)) = (refl, refl)
+older-mild t = untouched refl (older-same (t .state) .0) (older-same (t .state) .1)
 
 -- the acts of which a list may be made
 pub data Gentle : Act → Type 0 where

@@ -17,6 +17,7 @@ pub mod Broken
 pub mod Agree
 pub mod Rising
 pub mod Blocks
+pub mod Released
 pub mod Demand3
 pub mod Runs
 pub mod BenchSheet

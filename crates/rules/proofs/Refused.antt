@@ -20,14 +20,14 @@ use Rattle.rules.proofs.Clean.{Clean, refused, given, waited, judge-cle
 
 -- ---- what a clean verdict says
 
-released-none : (s : State) → isReleased s s ≡ false
+pub released-none : (s : State) → isReleased s s ≡ false
 released-none dormant = refl
 released-none ready = refl
 released-none suspended = refl
 released-none (waiting w) = refl
 released-none (waiting-suspended w) = refl
 
-none-released : (l : List Task) → releasedCount l l ≡ 0
+pub none-released : (l : List Task) → releasedCount l l ≡ 0
 unfolding releasedCount
 none-released [] = refl
 none-released (t ∷ l) = rw (released-none (t .state), none-released l)

@@ -20,6 +20,7 @@ pub mod Plain
 pub mod Runs
 pub mod Order
 pub mod Blocks
+pub mod Releases
 pub mod Demand3
 pub mod Broken
 pub mod BenchSheet

@@ -1,5 +1,5 @@
 -- `calls::judging::named` meets its contract. By its test. Assumes nothing.
-use Rattle.kernel.proofs.Signed.{below, at-least, casts, cast-is}
+use Rattle.guard.proofs.Signed.{below, at-least, casts, cast-is}
 use Rattle.calls.proofs.judging.named.Statement.{statement}
 use Rattle.calls.proofs.judging.named.Tie as tie
 

@@ -2,8 +2,8 @@
 use mathlib.Core.Path.{_≡_, refl, _∙_}
 use Prim.Native.Nat.{_+_}
 use native.Mathlib.Omega.{arith}
-use Rattle.kernel.specs.Running.{lowestMark}
-use Rattle.kernel.proofs.Loops.{lowest-none, lowest-here, lowest-on}
+use Rattle.guard.specs.Running.{lowestMark}
+use Rattle.guard.proofs.Loops.{lowest-none, lowest-here, lowest-on}
 use borrow.Author.Needs.{needs}
 use Rattle.calls.proofs.pools.lowest_block.Statement.{statement}
 use Rattle.calls.proofs.pools.lowest_block.Tie as tie

@@ -5,10 +5,10 @@ use mir.Syntax.{w32}
 use mir.Facts.{toZ-ofZ}
 use borrow.Author.Tests.{not-true, not-false}
 use Rattle.rules.specs.Codes.{number}
-use Rattle.kernel.proofs.Steps.{failed, passed}
-use Rattle.kernel.specs.Promises.{isTask}
+use Rattle.guard.proofs.Steps.{failed, passed}
+use Rattle.guard.specs.Tests.{isTask}
 use Rattle.kernel.proofs.Promised.{unreadable, foreign, readable}
-use Rattle.kernel.proofs.Signed.{task-id, casts, cast-is}
+use Rattle.guard.proofs.Signed.{task-id, casts, cast-is}
 use borrow.Author.Needs.{needs}
 use Rattle.kernel.proofs.cell.cell.Statement.{statement}
 use Rattle.kernel.proofs.cell.cell.Tie as tie

@@ -1,5 +1,5 @@
 -- `kernel::cell::is_task` meets its contract. By its two tests. Assumes nothing.
-use Rattle.kernel.proofs.Signed.{below, at-least, casts, cast-is, is-task}
+use Rattle.guard.proofs.Signed.{below, at-least, casts, cast-is, is-task}
 use Rattle.kernel.proofs.cell.is_task.Statement.{statement}
 use Rattle.kernel.proofs.cell.is_task.Tie as tie
 

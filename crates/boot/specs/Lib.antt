@@ -1,0 +1,2 @@
+-- The start: what a setup's bytes make of the lent memory.
+pub mod Starting

@@ -1,0 +1,89 @@
+-- The start: what the bytes of a setup make of the lent memory, and the words that each function of src/lib.rt writes.
+use mathlib.Core.Bool.{cond}
+use mathlib.Core.List.{List, [], _∷_}
+use mathlib.Core.Path.{_≡_}
+use Prim.Native.Nat.{ℕ, zero, suc, _+_, _-_, _*_, _^_}
+use lib.Dec.{eqb, ltb}
+use lib.ListN.{replicate}
+use Rattle.rules.specs.Setup.{digit, Read, got, refused, wordAt, Setup, setup}
+use Rattle.rules.specs.Kernel.{fresh}
+use Rattle.setup.specs.declared.Plan.{Plan}
+use Rattle.setup.specs.Layout.{planOf}
+use Rattle.state.specs.Layout as Layout
+use Rattle.state.specs.Layout.{stateWords, put}
+use Rattle.state.specs.Moves.{clearedQueue, clearedMail, started}
+use Rattle.state.specs.Picture.{viewShown, Accepted}
+use Rattle.boot.specs.declared.Started.{Started}
+use Rattle.boot.specs.declared.Started.the-variants.{Fresh, Refused}
+
+-- ---- the contract
+
+-- A setup that is refused: its fault and place, and the memory as it was. One that is read: the memory shows the fresh state and is whole.
+abbrev pub StartsAs : Read Setup → Started → List ℕ → List ℕ → List ℕ → List ℕ → Type 0
+StartsAs (refused f place) r words marks words′ marks′ = (r ≡ Refused (digit f) place) × (words′ ≡ words) × (marks′ ≡ marks)
+StartsAs (got u end) r words marks words′ marks′ = (r ≡ Fresh) × Accepted words′ marks′ × (viewShown words′ marks′ ≡ fresh u)
+
+-- the bytes, the answer, and the memory before and after
+unfoldable pub Starts : List ℕ → Started → List ℕ → List ℕ → List ℕ → List ℕ → Type 0
+Starts s r words marks words′ marks′ = StartsAs (setup s) r words marks words′ marks′
+
+-- ---- what the functions write
+
+-- f for n ids from i on
+unfoldable pub inTurn : (ℕ → List ℕ → List ℕ) → ℕ → ℕ → List ℕ → List ℕ
+inTurn f zero i b = b
+inTurn f (suc n) i b = inTurn f n (suc i) (f i b)
+
+unfoldable pub counted : Plan → List ℕ → List ℕ
+counted p b =
+    put Layout.system 6 (p .pools)
+    (put Layout.system 5 (p .messages)
+    (put Layout.system 4 (p .mailboxes)
+    (put Layout.system 3 (p .flags) (put Layout.system 2 (p .semaphores) (put Layout.system 1 (p .tasks) (put Layout.system 0 (p .priorities) b))))))
+
+-- the word of id i, where each has so many bytes
+abbrev pub wordOfId : List ℕ → ℕ → ℕ → ℕ → ℕ
+wordOfId s at size i = wordAt s (at + size * (i - 1))
+
+unfoldable pub laidTask : List ℕ → ℕ → ℕ → List ℕ → List ℕ
+laidTask s at i b = put Layout.start i (wordOfId s at 8 i) (put Layout.priority i (wordOfId s at 8 i) b)
+
+unfoldable pub laidSemaphore : List ℕ → ℕ → ℕ → List ℕ → List ℕ
+laidSemaphore s at i b = put Layout.semaphore i (wordOfId s at 4 i) b
+
+unfoldable pub laidFlag : List ℕ → ℕ → ℕ → List ℕ → List ℕ
+laidFlag s at i b = put Layout.flag i (wordOfId s at 4 i) b
+
+-- a bit for each of k blocks; a word has 32
+unfoldable pub allFree : ℕ → ℕ
+allFree k = cond (ltb k 32) (2 ^ k - 1) 4294967295
+
+unfoldable pub laidPool : List ℕ → ℕ → ℕ → List ℕ → List ℕ
+laidPool s at i b = put Layout.free i (allFree (wordOfId s at 4 i)) (put Layout.size i (wordOfId s at 4 i) b)
+
+unfoldable pub entered : List ℕ → Plan → List ℕ → List ℕ
+entered s p b =
+    inTurn (laidPool s (p .at .pools)) (p .pools) 1
+    (inTurn (laidFlag s (p .at .flags)) (p .flags) 1
+    (inTurn (laidSemaphore s (p .at .semaphores)) (p .semaphores) 1 (inTurn (laidTask s (p .at .tasks)) (p .tasks) 1 b)))
+
+-- the anchors of tasks' queues that are in use, each time the first and how many: ready queues, then the waiters on each kind of object
+abbrev pub anchorsOf : Plan → List (ℕ × ℕ)
+anchorsOf p = (33, p .priorities) ∷ (49, p .semaphores) ∷ (65, p .flags) ∷ (81, p .mailboxes) ∷ (97, p .pools) ∷ []
+
+unfoldable pub emptiedQueues : List (ℕ × ℕ) → List ℕ → List ℕ
+emptiedQueues [] b = b
+emptiedQueues ((a, n) ∷ l) b = emptiedQueues l (inTurn clearedQueue n a b)
+
+unfoldable pub emptied : Plan → List ℕ → List ℕ
+emptied p b = inTurn clearedMail (p .mailboxes) 257 (emptiedQueues (anchorsOf p) b)
+
+-- no task is started yet
+unfoldable pub laid : List ℕ → Plan → List ℕ
+laid s p = emptied p (entered s p (counted p (replicate stateWords 0)))
+
+unfoldable pub begun : List ℕ → ℕ → ℕ → List ℕ → List ℕ
+begun s at i b = cond (eqb (wordAt s (at + (8 * (i - 1) + 4))) 1) (started i b) b
+
+unfoldable pub freshWords : List ℕ → List ℕ
+freshWords s = inTurn (begun s (planOf s 0 .at .tasks)) (planOf s 0 .tasks) 1 (laid s (planOf s 0))

@@ -1,0 +1,106 @@
+-- The loops, over ids, priorities and bits: what the rest gives from here is what the whole gives. Assumes nothing.
+use Prim.Native.Nat.{ℕ, zero, suc, _+_, _-_, _*_, _/_, _%_, _^_, _≤_, _<_}
+use mathlib.Core.Path.{_≡_, refl, sym, ap, _∙_}
+use mathlib.Core.Bool.{Bool, true, false, not, true≢false}
+use mathlib.Core.List.{List}
+use native.Mathlib.Numerals.{add-one, sub-one}
+use native.Mathlib.Omega.{arith}
+use borrow.Author.Tests.{le-leb, lt-leb, ne-eqb, not-true}
+use native.Mathlib.Decide.{decLe}
+use lib.Bits.{bitOr}
+use Rattle.rings.specs.Links.{firstOf}
+use Rattle.state.specs.Layout as Layout
+use Rattle.state.specs.Layout.{words}
+use Rattle.state.specs.Moves.{entry, readyAnchor}
+use Rattle.state.proofs.Steps.{one-bit}
+use Rattle.guard.proofs.Steps.{failed}
+use Rattle.guard.specs.Running.{atMost, headAt, marksOf, lowestMark, runningOf}
+use Rattle.guard.specs.Tests.{every}
+
+-- the ids from i on, `left` of them, decide as all n do
+abbrev pub Going : (ℕ → Bool) → ℕ → ℕ → ℕ → Type 0
+Going f n i left = (every left i f ≡ every n 1 f) × (i + left ≡ n + 1)
+
+module _ (f : ℕ → Bool) (n i left : ℕ) (g : Going f n i left) where
+  pub going-done : left ≤ 0 → true ≡ every n 1 f
+  unfolding every
+  going-done h = let z : left ≡ 0 = omega arith in rw z at (g .0)
+
+  module _ (h : 0 < left) where
+    one : every left i f ≡ every (suc (left - 1)) i f
+    one = ap (λ (k : ℕ). every k i f) (omega arith)
+
+    pub going-fail : f i ≡ false → false ≡ every n 1 f
+    unfolding every
+    going-fail e = (rw e at (sym one)) ∙ g .0
+
+    pub going-on : f i ≡ true → Going f n (i + 1) (left - 1)
+    unfolding every
+    going-on e = (rw add-one ((rw e at (sym one)) ∙ g .0), omega arith)
+
+-- a count that is one is itself; one that is not gives a loop that fails nowhere
+module _ (f : ℕ → Bool) {most s k n : ℕ} {r : Bool} (es : s ≡ k) (en : (n ≡ atMost s most) × (n ≤ most)) (er : r ≡ every n 1 f) where
+  count : n ≡ atMost k most
+  count = rw (← es) (en .0)
+
+  pub loop-is : k ≤ most → r ≡ every k 1 f
+  loop-is h = let z : n ≡ k = rw (le-leb k most h) at count in rw z at er
+
+  pub loop-fails : not r ≡ true → every k 1 f ≡ false
+  unfolding every
+  loop-fails t = elim (decLe k most) [
+    | yes h ↦ failed (loop-is h) t
+    | no h ↦
+        let z : n ≡ 0 = rw (lt-leb k most (omega arith)) at count in
+        absurd (true≢false (sym (rw z at er) ∙ not-true r t))
+  ]
+
+-- ---- one-bit marks
+
+module _ (p w : ℕ) where
+  pub lowest-none : (left : ℕ) → left ≤ 0 → 0 ≡ lowestMark left p w
+  unfolding lowestMark
+  lowest-none zero h = refl
+  lowest-none (suc left) h = absurd (omega arith)
+
+  pub lowest-here : (left : ℕ) → 0 < left → w % 2 ≡ 1 → p ≡ lowestMark left p w
+  unfolding lowestMark
+  lowest-here zero h e = absurd (omega arith)
+  lowest-here (suc left) h e = rw e
+
+  pub lowest-on : (left : ℕ) → 0 < left → (w % 2 ≡ 1 → ⊥) → lowestMark (left - 1) (p + 1) (w / 2) ≡ lowestMark left p w
+  unfolding lowestMark
+  lowest-on zero h e = absurd (omega arith)
+  lowest-on (suc left) h e = rw (sub-one, add-one, ne-eqb (w % 2) 1 e)
+
+module _ (p w : ℕ) (b : List ℕ) where
+  pub marks-none : (left : ℕ) → left ≤ 0 → w ≡ marksOf left p w b
+  unfolding marksOf
+  marks-none zero h = refl
+  marks-none (suc left) h = absurd (omega arith)
+
+  module _ {a r : ℕ} (ea : a ≡ readyAnchor p) (er : r ≡ firstOf (words Layout.next b) a) where
+    head : r ≡ headAt b p
+    head = er ∙ rw ea
+
+    pub marks-skip : (left : ℕ) {m : ℕ} → 0 < left → r ≡ 0 → m ≡ w → marksOf (left - 1) (p + 1) m b ≡ marksOf left p w b
+    unfolding marksOf
+    marks-skip zero h z e = absurd (omega arith)
+    marks-skip (suc left) h z e = rw (sub-one, add-one, e, ← head, z)
+
+    pub marks-set : (left : ℕ) {m : ℕ} → 0 < left → (r ≡ 0 → ⊥) → p - 1 < 32 → m ≡ bitOr w ((1 * 2 ^ (p - 1)) % 2 ^ 32) → marksOf (left - 1) (p + 1) m b ≡ marksOf left p w b
+    unfolding marksOf
+    marks-set zero h z k e = absurd (omega arith)
+    marks-set (suc left) h z k e = rw (e, one-bit (p - 1) k, sub-one p, sub-one, add-one, ← head, ne-eqb r 0 z)
+
+module _ (b : List ℕ) {s n m p : ℕ} (es : s ≡ entry Layout.system b 0) (en : n ≡ atMost s 16) (em : m ≡ marksOf n 1 0 b) (ep : p ≡ lowestMark 32 1 m) where
+  found : p ≡ lowestMark 32 1 (marksOf (atMost (entry Layout.system b 0) 16) 1 0 b)
+  found = ep ∙ rw (em, en, es)
+
+  pub runs-none : p ≡ 0 → 0 ≡ runningOf b
+  unfolding runningOf
+  runs-none h = rw (← found, h)
+
+  pub runs-first : {a r : ℕ} → (p ≡ 0 → ⊥) → a ≡ readyAnchor p → r ≡ firstOf (words Layout.next b) a → r ≡ runningOf b
+  unfolding runningOf
+  runs-first h ea er = er ∙ rw (ea, ← found, ne-eqb p 0 h)

@@ -1,0 +1,13 @@
+-- `kernel::check::meets` meets its contract. By the mode. Assumes nothing.
+use borrow.Author.Tests.{eq-eqb, ne-eqb}
+use Rattle.guard.proofs.check.meets.Statement.{statement}
+use Rattle.guard.proofs.check.meets.Tie as tie
+
+returns : tie.Need-returns
+returns c = simp (eq-eqb _ _ (c .if1 .taken))
+
+returns-2 : tie.Need-returns-2
+returns-2 c = simp (ne-eqb _ _ (c .if1 .left))
+
+pub meets-spec : {M : Type 1} → statement M
+meets-spec = tie.close (tie.spec returns returns-2)

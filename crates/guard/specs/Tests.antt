@@ -1,0 +1,157 @@
+-- The check of a memory, as the rules tried in order, for any words: ranges, then queues, then nobody beside what would serve him.
+use mathlib.Core.Bool.{Bool, true, false, cond, not, _&&_, _||_}
+use mathlib.Core.List.{List, [], _∷_}
+use Prim.Native.Nat.{ℕ, zero, suc, _/_, _^_}
+use lib.Dec.{eqb, leb, ltb}
+use lib.IntN.{ℤ}
+use lib.ListN.{getD, replicate}
+use Rattle.rules.specs.Ids.{of}
+use Rattle.rules.specs.Events.{outside}
+use Rattle.rules.specs.Objects.{met}
+use Rattle.rings.specs.Links.{firstOf, nexts}
+use Rattle.rings.specs.Survey.{Survey, passed, ranged, loose}
+use Rattle.state.specs.Layout as Layout
+use Rattle.state.specs.Layout.{words}
+use Rattle.state.specs.Moves.{entry, readyAnchor, waitAnchor, mailAnchor}
+
+-- the ids i, i + 1, … , n of them, all pass
+unfoldable pub every : ℕ → ℕ → (ℕ → Bool) → Bool
+every zero i f = true
+every (suc n) i f = f i && every n (suc i) f
+
+-- one of 1 to n
+abbrev pub within : ℕ → ℕ → Bool
+within i n = leb 1 i && leb i n
+
+-- the same of a call's word
+abbrev pub isTask : ℤ → ℕ → Bool
+isTask a n = not (outside a n)
+
+-- how many: 0 priorities, 1 tasks, 2 semaphores, 3 flags, 4 mailboxes, 5 messages, 6 pools
+abbrev pub many : List ℕ → ℕ → ℕ
+many b k = entry Layout.system b k
+
+-- ---- Numbers lie in their ranges.
+
+unfoldable pub sizesOk : List ℕ → Bool
+sizesOk b =
+    within (many b 0) 16 && (within (many b 1) 32 && (leb (many b 2) 16 && (leb (many b 3) 16 && (leb (many b 4) 16 && (leb (many b 5) 256
+    && (leb (many b 6) 8 && (ltb (many b 7) (2 ^ 32) && ltb (many b 8) (2 ^ 16))))))))
+
+-- a cell: code 0 with any word of 32 bits, E_TMOUT or E_RLWAI with 0
+unfoldable pub cellOk : ℕ → ℕ → Bool
+cellOk c w = cond (eqb c 0) (leb w 4294967295) (cond (eqb c 1) (eqb w 0) (cond (eqb c 2) (eqb w 0) false))
+
+unfoldable pub wishOk : ℕ → ℕ → Bool
+wishOk p m = not (eqb p 0) && (leb p 4294967295 && leb m 3)
+
+unfoldable pub ticksOk : ℕ → ℕ → Bool
+ticksOk n t = eqb n 0 && within t 2147483647
+
+unfoldable pub flagWaitOk : ℕ → ℕ → ℕ → ℕ → Bool
+flagWaitOk o n p m = within o n && wishOk p m
+
+-- a wait of kind k: n wake-ups, object o, pattern p, mode m, ticks t
+unfoldable pub waitOk : List ℕ → ℕ → ℕ → ℕ → ℕ → ℕ → ℕ → Bool
+waitOk b n k o p m t =
+    cond (eqb k 0) (eqb n 0) (cond (eqb k 1) (ticksOk n t)
+    (cond (eqb k 2) (within o (many b 2)) (cond (eqb k 3) (flagWaitOk o (many b 3) p m)
+    (cond (eqb k 4) (within o (many b 4)) (cond (eqb k 5) (within o (many b 6)) false)))))
+
+abbrev pub waitAt : List ℕ → ℕ → Bool
+waitAt b i = waitOk b (entry Layout.wakeups b i) (entry Layout.kind b i) (entry Layout.object b i) (entry Layout.wish b i) (entry Layout.mode b i) (entry Layout.ticks b i)
+
+abbrev pub restOk : List ℕ → ℕ → Bool
+restOk b i = eqb (entry Layout.wakeups b i) 0 && eqb (entry Layout.priority b i) (entry Layout.start b i)
+
+unfoldable pub stateOk : List ℕ → ℕ → Bool
+stateOk b i =
+    cond (eqb (entry Layout.status b i) 0) (restOk b i) (cond (eqb (entry Layout.status b i) 1) true (cond (eqb (entry Layout.status b i) 3) (waitAt b i)
+    (cond (eqb (entry Layout.status b i) 4) true (cond (eqb (entry Layout.status b i) 5) (waitAt b i) false))))
+
+unfoldable pub taskOk : List ℕ → ℕ → Bool
+taskOk b i =
+    within (entry Layout.priority b i) (many b 0) && (within (entry Layout.start b i) (many b 0) && (leb (entry Layout.wakeups b i) 15
+    && (cellOk (entry Layout.code b i) (entry Layout.word b i) && stateOk b i)))
+
+abbrev pub semaphoreOk : List ℕ → ℕ → Bool
+semaphoreOk b i = leb (entry Layout.semaphore b i) 65535
+
+abbrev pub flagOk : List ℕ → ℕ → Bool
+flagOk b i = leb (entry Layout.flag b i) 4294967295
+
+unfoldable pub poolOk : List ℕ → ℕ → Bool
+poolOk b i = within (entry Layout.size b i) 32 && eqb (entry Layout.free b i / 2 ^ entry Layout.size b i) 0
+
+abbrev pub messageOk : List ℕ → List ℕ → ℕ → Bool
+messageOk b msgs j = leb (of msgs j 0) (many b 4)
+
+unfoldable pub rangesOk : List ℕ → List ℕ → Bool
+rangesOk b msgs =
+    sizesOk b && (every (many b 1) 1 (taskOk b) && (every (many b 2) 1 (semaphoreOk b) && (every (many b 3) 1 (flagOk b) && (every (many b 6) 1 (poolOk b) && every (many b 5) 1 (messageOk b msgs)))))
+
+-- ---- Queues: each task and message stands where it belongs, once, and nowhere else.
+
+-- the anchor of the queue to which task i belongs, 0 if to none; numbers out of range have been refused
+unfoldable pub waitHome : ℕ → ℕ → ℕ
+waitHome k o = cond (leb 2 k) (waitAnchor k o) 0
+
+unfoldable pub home : List ℕ → ℕ → ℕ
+home b i =
+    cond (eqb (entry Layout.status b i) 1) (readyAnchor (entry Layout.priority b i))
+    (cond (eqb (entry Layout.status b i) 3 || eqb (entry Layout.status b i) 5) (waitHome (entry Layout.kind b i) (entry Layout.object b i)) 0)
+
+-- the ranges of anchors (the first, and how many) surveyed one after the other
+unfoldable pub ranges : ℕ → List ℕ → List (ℕ × ℕ) → List ℕ → Survey
+ranges n l [] m = passed m
+ranges n l (r ∷ rs) m = cond (ranged n l (r .0) (r .1) m .ok) (ranges n l rs (ranged n l (r .0) (r .1) m .marks)) (ranged n l (r .0) (r .1) m)
+
+-- ready queues, and wait queues by kind
+abbrev pub taskRanges : List ℕ → List (ℕ × ℕ)
+taskRanges b = (33, many b 0) ∷ (49, many b 2) ∷ (65, many b 3) ∷ (81, many b 4) ∷ (97, many b 6) ∷ []
+
+abbrev pub mailRanges : List ℕ → List (ℕ × ℕ)
+mailRanges b = (257, many b 4) ∷ []
+
+abbrev pub taskSurvey : List ℕ → Survey
+taskSurvey b = ranges (many b 1) (words Layout.links b) (taskRanges b) (replicate 33 0)
+
+abbrev pub mailSurvey : List ℕ → Survey
+mailSurvey b = ranges (many b 5) (words Layout.mailLinks b) (mailRanges b) (replicate 257 0)
+
+-- id i is marked with the anchor of the queue to which it belongs
+unfoldable pub taskHome : List ℕ → List ℕ → ℕ → Bool
+taskHome b m i = eqb (getD m i 0) (home b i)
+
+-- the anchor of the mailbox that a message's mark names, 0 for no mailbox
+abbrev pub markAnchor : ℕ → ℕ
+markAnchor m = cond (eqb m 0) 0 (mailAnchor m)
+
+unfoldable pub mailHome : List ℕ → List ℕ → ℕ → Bool
+mailHome msgs m j = eqb (getD m j 0) (markAnchor (of msgs j 0))
+
+unfoldable pub tasksQueued : List ℕ → Bool
+tasksQueued b = taskSurvey b .ok && (loose (many b 1) (nexts (words Layout.links b)) (taskSurvey b .marks) && every (many b 1) 1 (taskHome b (taskSurvey b .marks)))
+
+unfoldable pub mailQueued : List ℕ → List ℕ → Bool
+mailQueued b msgs = mailSurvey b .ok && (loose (many b 5) (nexts (words Layout.mailLinks b)) (mailSurvey b .marks) && every (many b 5) 1 (mailHome msgs (mailSurvey b .marks)))
+
+-- ---- No waiter beside what would serve it.
+
+unfoldable pub waitFree : List ℕ → ℕ → ℕ → ℕ → ℕ → Bool
+waitFree b k o p m =
+    cond (eqb k 2) (eqb (entry Layout.semaphore b o) 0) (cond (eqb k 3) (not (met (entry Layout.flag b o) p m))
+    (cond (eqb k 4) (eqb (firstOf (words Layout.mailNext b) (mailAnchor o)) 0) (cond (eqb k 5) (eqb (entry Layout.free b o) 0) true)))
+
+abbrev pub waitFreeAt : List ℕ → ℕ → Bool
+waitFreeAt b i = waitFree b (entry Layout.kind b i) (entry Layout.object b i) (entry Layout.wish b i) (entry Layout.mode b i)
+
+unfoldable pub unservedOk : List ℕ → ℕ → Bool
+unservedOk b i =
+    cond (eqb (entry Layout.status b i) 3 || eqb (entry Layout.status b i) 5)
+    (waitFreeAt b i) true
+
+-- ---- the check
+
+unfoldable pub accepts : List ℕ → List ℕ → Bool
+accepts b msgs = rangesOk b msgs && (tasksQueued b && (mailQueued b msgs && every (many b 1) 1 (unservedOk b)))
