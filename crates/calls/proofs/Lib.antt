@@ -11,7 +11,6 @@ pub mod AskCalls
 pub mod Ticks
 pub mod Done
 pub mod Entries
-pub mod Releases
 pub mod Objected
 pub mod SemaphoreCalls
 pub mod Blocks

@@ -1,4 +1,4 @@
--- The tick: the releases of its first pass are those of the rules. A release changes no other task, so that who is released along the way is who was to be at the start. Assumes nothing.
+-- The tick: the releases of its first pass are those of the rules, and as many. A release changes no other task, so that who is released along the way is who was to be at the start. Assumes nothing.
 use mathlib.Core.Bool.{Bool, true, false, cond, _&&_, _||_}
 use mathlib.Core.List.{List, [], _∷_, _++_, map}
 use mathlib.Core.Logic.{_≢_}
@@ -10,10 +10,11 @@ use lib.Dec.{eqb}
 use lib.IntN.{pos}
 use lib.ListN.{length}
 use borrow.Author.Tests.{eqb-true, le-leb}
-use Rattle.rules.specs.Ids.{from, ids, keep}
+use Rattle.rules.specs.Ids.{from, ids, keep, once}
 use Rattle.rules.specs.Codes.{number}
 use Rattle.rules.specs.State.{semaphore, flag, mailbox, pool, Wait, asleep, timed, on, State, dormant, ready, suspended, waiting, waiting-suspended, task, nobody, waitOf}
 use Rattle.rules.specs.Acts.{Act, elapse}
+use Rattle.rules.specs.Releases.{releases}
 use Rattle.rules.specs.Time.{ending, endings, timeout, ticked}
 use Rattle.rules.proofs.Ids.{of-ids, length-ids}
 use Rattle.state.specs.Layout as Layout
@@ -26,8 +27,8 @@ use Rattle.state.proofs.Lines.{out}
 use Rattle.state.proofs.Touched.{Touched, untouched, touched-put, touched-left, relinked-shown}
 use Rattle.state.proofs.OneTask.{sizes}
 use Rattle.guard.specs.Running.{atMost}
-use Rattle.calls.specs.Doing.{performs, performsMarks, DoesOnWords}
-use Rattle.calls.specs.Ticking.{lastTick, endsAt, expiredAt, expired}
+use Rattle.calls.specs.Doing.{performs, performsMarks, DoesOnWords, FreesOnWords}
+use Rattle.calls.specs.Ticking.{lastTick, endsAt, expiredAt, expired, expiries}
 
 -- ---- a wait that ends, as shown
 
@@ -99,18 +100,26 @@ still-ends {t} {b} {c} S j ne = sym (ends-shown c j) ∙ ap (λ x. ending (waitO
 
 -- ---- the first pass
 
+-- the words w and the number k, where those of the list l are released
+abbrev Passed : List ℕ → ℕ → List ℕ → List ℕ → Type 0
+Passed w k l b = (w ≡ performs (map timeout l) b) × (k ≡ length l)
+
 module _ (p : ℕ → Bool) where
-  pass : (n t : ℕ) (b : List ℕ) → length b ≡ stateWords → ((j : ℕ) → t ≤ j → endsAt b j ≡ p j) → expired n t b ≡ performs (map timeout (keep p (from t n))) b
-  unfolding expired expiredAt keep performs performed
-  pass zero t b e h = refl
+  pass : (n t : ℕ) (b : List ℕ) → length b ≡ stateWords → ((j : ℕ) → t ≤ j → endsAt b j ≡ p j) → Passed (expired n t b) (expiries n t b) (keep p (from t n)) b
+  unfolding expired expiries expiredAt keep performs performed
+  pass zero t b e h = (refl, refl)
   pass (suc n) t b e h = go (p t) (h t (omega arith)) (pass n (suc t))
     where
-      go : (x : Bool) → endsAt b t ≡ x → ((c : List ℕ) → length c ≡ stateWords → ((j : ℕ) → suc t ≤ j → endsAt c j ≡ p j) → expired n (suc t) c ≡ performs (map timeout (keep p (from (suc t) n))) c)
-          → expired n (suc t) (expiredAt t b) ≡ performs (map timeout (cond x (t ∷ keep p (from (suc t) n)) (keep p (from (suc t) n)))) b
+      rest : List ℕ
+      rest = keep p (from (suc t) n)
+
+      go : (x : Bool) → endsAt b t ≡ x → ((c : List ℕ) → length c ≡ stateWords → ((j : ℕ) → suc t ≤ j → endsAt c j ≡ p j) → Passed (expired n (suc t) c) (expiries n (suc t) c) rest c)
+          → Passed (expired n (suc t) (expiredAt t b)) (once (endsAt b t) + expiries n (suc t) (expiredAt t b)) (cond x (t ∷ rest) rest) b
       go true f ih =
           let S = released-spares t 1 0 b e in
-          rw f (ih (released t 1 0 b) (S .size) (λ j k. still-ends S j (λ q. omega arith) ∙ h j (omega arith)))
-      go false f ih = rw f (ih b e (λ j k. h j (omega arith)))
+          let r = ih (released t 1 0 b) (S .size) (λ j k. still-ends S j (λ q. omega arith) ∙ h j (omega arith)) in
+          rw f (r .0, omega (arith, r .1))
+      go false f ih = let r = ih b e (λ j k. h j (omega arith)) in rw f (r .0, omega (arith, r .1))
 
 keep-from : (p q : ℕ → Bool) (k n : ℕ) → ((i : ℕ) → k ≤ i → i < k + n → p i ≡ q i) → keep p (from k n) ≡ keep q (from k n)
 unfolding keep
@@ -137,31 +146,34 @@ unfolding performsMarks performedMarks
 tick-marks [] m = refl
 tick-marks (x ∷ l) m = tick-marks l m
 
-module _ (b m : List ℕ) (A : Accepted b m) where
-  few-tasks : entry Layout.system b 1 ≤ 32
-  unfolding bodyShown
-  few-tasks = omega (arith, sizes b m A .tasks .1, length-ids (taskShown b) (entry Layout.system b 1))
+tick-releases : (l : List ℕ) → releases (map timeout l ++ elapse ∷ []) ≡ length l
+tick-releases [] = refl
+tick-releases (x ∷ l) = rw (tick-releases l) (omega arith)
 
+few-tasks : (b m : List ℕ) → Accepted b m → entry Layout.system b 1 ≤ 32
+unfolding bodyShown
+few-tasks b m A = omega (arith, sizes b m A .tasks .1, length-ids (taskShown b) (entry Layout.system b 1))
+
+module _ (b : List ℕ) {s n k : ℕ} {b₁ : List ℕ} (es : s ≡ entry Layout.system b 1) (en : n ≡ atMost s 32) (eb : b₁ ≡ expired n 1 b) (ek : k ≡ expiries n 1 b) where
   -- on an accepted memory the first pass performs the rules' releases
-  pub expired-performs : expired (atMost (entry Layout.system b 1) 32) 1 b ≡ performs (map timeout (endings (bodyShown b m))) b
-  expired-performs =
-      ap (λ (x : Bool). expired (cond x (entry Layout.system b 1) 0) 1 b) (le-leb (entry Layout.system b 1) 32 few-tasks)
-      ∙ pass (endsAt b) (entry Layout.system b 1) 1 b (A .whole .size) (λ j k. refl)
-      ∙ ap (λ (l : List ℕ). performs (map timeout l) b) (sym (endings-shown b m))
+  passed : (m : List ℕ) → Accepted b m → Passed b₁ k (endings (bodyShown b m)) b
+  passed m A =
+      rw (eb, ek, en, es, le-leb (entry Layout.system b 1) 32 (few-tasks b m A), endings-shown b m)
+      (pass (endsAt b) (entry Layout.system b 1) 1 b (A .whole .size) (λ j l. refl))
 
-  tick-performs : elapsed (expired (atMost (entry Layout.system b 1) 32) 1 b) ≡ performs (map timeout (endings (bodyShown b m)) ++ elapse ∷ []) b
-  unfolding performs performed
-  tick-performs = ap elapsed expired-performs ∙ sym (performs-append (map timeout (endings (bodyShown b m))) (elapse ∷ []) b)
+  pub tick-does : {b₂ : List ℕ} → b₂ ≡ elapsed b₁ → DoesOnWords (λ v. ticked v) (pos 0) 0 0 b b₂
+  unfolding ticked viewShown number performs performed
+  tick-does h m A = record {
+    says = refl;
+    first = refl;
+    second = refl;
+    words = h ∙ ap elapsed (passed m A .0) ∙ sym (performs-append (map timeout (endings (bodyShown b m))) (elapse ∷ []) b);
+    marks = sym (tick-marks (endings (bodyShown b m)) m);
+  }
 
-pub tick-does : (b : List ℕ) {s n : ℕ} {b₁ b₂ : List ℕ} → s ≡ entry Layout.system b 1 → n ≡ atMost s 32 → b₁ ≡ expired n 1 b → b₂ ≡ elapsed b₁ → DoesOnWords (λ v. ticked v) (pos 0) 0 0 b b₂
-unfolding ticked viewShown number
-tick-does b e f g h m A = record {
-  says = refl;
-  first = refl;
-  second = refl;
-  words = h ∙ ap elapsed (g ∙ ap (λ (n : ℕ). expired n 1 b) (f ∙ ap (λ (s : ℕ). atMost s 32) e)) ∙ tick-performs b m A;
-  marks = sym (tick-marks (endings (bodyShown b m)) m);
-}
+  pub tick-frees : FreesOnWords (λ v. ticked v) k b
+  unfolding ticked viewShown
+  tick-frees m A = passed m A .1 ∙ sym (tick-releases (endings (bodyShown b m)))
 
 -- ---- the steps of the code
 
@@ -170,20 +182,25 @@ module _ (i : ℕ) (b : List ℕ) {s k t : ℕ} {y : Bool} (e : s ≡ entry Layo
   unfolding endsAt
   ends-read = h ∙ rw (e, f, g)
 
-  pub expire-yes : y ≡ true → {b₁ : List ℕ} → b₁ ≡ released i 1 0 b → b₁ ≡ expiredAt i b
+  pub expire-yes : y ≡ true → {b₁ : List ℕ} → b₁ ≡ released i 1 0 b → (b₁ ≡ expiredAt i b) × (1 ≡ once (endsAt b i))
   unfolding expiredAt
-  expire-yes z q = q ∙ rw (sym ends-read ∙ z)
+  expire-yes z q = rw (sym ends-read ∙ z) (q, refl)
 
-  pub expire-no : y ≡ false → b ≡ expiredAt i b
+  pub expire-no : y ≡ false → (b ≡ expiredAt i b) × (0 ≡ once (endsAt b i))
   unfolding expiredAt
-  expire-no z = rw (sym ends-read ∙ z)
+  expire-no z = rw (sym ends-read ∙ z) (refl, refl)
 
-pub expire-none : (n i : ℕ) (b : List ℕ) → n ≤ 0 → b ≡ expired n i b
-unfolding expired
-expire-none zero i b h = refl
-expire-none (suc n) i b h = absurd (omega arith)
+-- where k were released before, the words c and the count t are those of the n tasks from i on
+abbrev pub Along : ℕ → ℕ → ℕ → List ℕ → List ℕ → ℕ → Type 0
+Along k n i b c t = (expired n i b ≡ c) × (k + expiries n i b ≡ t)
 
-pub expire-step : (n i : ℕ) (b : List ℕ) {b₁ : List ℕ} → 0 < n → b₁ ≡ expiredAt i b → expired (n - 1) (i + 1) b₁ ≡ expired n i b
-unfolding expired
-expire-step zero i b h e = absurd (omega arith)
-expire-step (suc n) i b h e = rw (sub-one, add-one, e)
+module _ (k i : ℕ) (b : List ℕ) {c : List ℕ} {t : ℕ} where
+  pub expire-none : (n : ℕ) → n ≤ 0 → Along k n i b c t → (b ≡ c) × (k ≡ t)
+  unfolding expired expiries
+  expire-none zero h a = (a .0, omega (arith, a .1))
+  expire-none (suc n) h a = absurd (omega arith)
+
+  pub expire-step : (n : ℕ) {b₁ : List ℕ} {r : ℕ} → 0 < n → b₁ ≡ expiredAt i b → r ≡ once (endsAt b i) → Along k n i b c t → Along (k + r) (n - 1) (i + 1) b₁ c t
+  unfolding expired expiries
+  expire-step zero h e f a = absurd (omega arith)
+  expire-step (suc n) h e f a = rw (sub-one, add-one, e, f) (a .0, omega (arith, a .1))

@@ -6,6 +6,7 @@ use Prim.Native.Nat.{ℕ}
 use lib.IntN.{ℤ}
 use Rattle.rules.specs.Codes.{number, negative}
 use Rattle.rules.specs.Acts.{Act}
+use Rattle.rules.specs.Releases.{releases}
 use Rattle.rules.specs.View.{View}
 use Rattle.rules.specs.Verdicts.{Verdict}
 use Rattle.state.specs.Perform.{performed, performedMarks}
@@ -32,6 +33,10 @@ pub record Does (r : Verdict) (code : ℤ) (w1 w2 : ℕ) (b m b′ m′ : List �
 -- The same of a call that touches no message, on any accepted memory: the verdict is judged on the view that the memory shows.
 abbrev pub DoesOnWords : (View → Verdict) → ℤ → ℕ → ℕ → List ℕ → List ℕ → Type 0
 DoesOnWords rule code w1 w2 b b′ = (m : List ℕ) → Accepted b m → Does (rule (viewShown b m)) code w1 w2 b m b′ m
+
+-- the number of tasks that the verdict's acts release, on any accepted memory
+abbrev pub FreesOnWords : (View → Verdict) → ℕ → List ℕ → Type 0
+FreesOnWords rule n b = (m : List ℕ) → Accepted b m → n ≡ releases (rule (viewShown b m) .acts)
 
 -- A refusal leaves the memory as it was, whatever it holds.
 abbrev pub Kept : ℤ → List ℕ → List ℕ → Type 0

@@ -4,7 +4,6 @@ pub mod Judging
 pub mod Reading
 pub mod Rows
 pub mod Ticking
-pub mod Releases
 pub mod Objects
 pub mod Blocks
 pub mod Flags

@@ -1,8 +1,9 @@
--- What the first pass of a tick writes, for any words: the tasks whose wait it ends are released, in id order.
+-- What the first pass of a tick writes, for any words: the tasks whose wait it ends are released, in id order. And how many they are.
 use mathlib.Core.Bool.{Bool, cond, _&&_}
 use mathlib.Core.List.{List}
-use Prim.Native.Nat.{ℕ, zero, suc}
+use Prim.Native.Nat.{ℕ, zero, suc, _+_}
 use lib.Dec.{eqb}
+use Rattle.rules.specs.Ids.{once}
 use Rattle.state.specs.Layout as Layout
 use Rattle.state.specs.Moves.{entry, isTimed, released}
 
@@ -21,3 +22,8 @@ expiredAt i b = cond (endsAt b i) (released i 1 0 b) b
 unfoldable pub expired : ℕ → ℕ → List ℕ → List ℕ
 expired zero i b = b
 expired (suc n) i b = expired n (suc i) (expiredAt i b)
+
+-- how many of them are released
+unfoldable pub expiries : ℕ → ℕ → List ℕ → ℕ
+expiries zero i b = 0
+expiries (suc n) i b = once (endsAt b i) + expiries n (suc i) (expiredAt i b)

@@ -6,7 +6,6 @@ pub mod messages;
 pub mod objects;
 pub mod pools;
 pub mod reading;
-pub mod released;
 pub mod semaphores;
 pub mod tasks;
 pub mod tick;

@@ -15,7 +15,7 @@ use state::queues::mail_anchor;
 use state::queues::mail_first;
 use state::tasks::release;
 use state::tasks::wait;
-ghost use Rattle.calls.specs.Messages.{DoesOnBoth, RcvMsg, PrcvMsg, SndMsg};
+ghost use Rattle.calls.specs.Messages.{DoesOnBoth, KeptBoth, RcvMsg, PrcvMsg, SndMsg};
 
 // 20: the message goes to the first waiter, else last in the mailbox.
 pub fn snd_msg(
@@ -27,6 +27,7 @@ pub fn snd_msg(
     b: i32,
 ) -> Said
     ensures { λ r. ⌜ DoesOnBoth (SndMsg handler me a b) (r .code) (r .w1) (r .w2) (now (words .entry)) (now (messages .entry)) (now (words .exit)) (now (messages .exit)) ⌝ }
+    ensures { λ r. ⌜ KeptBoth (r .code) (now (words .entry)) (now (messages .entry)) (now (words .exit)) (now (messages .exit)) ⌝ }
 {
     let i = named(a);
     let j = named(b);
@@ -73,6 +74,7 @@ pub fn rcv_msg(
     a: i32,
 ) -> Said
     ensures { λ r. ⌜ DoesOnBoth (RcvMsg handler me a) (r .code) (r .w1) (r .w2) (now (words .entry)) (now (messages .entry)) (now (words .exit)) (now (messages .exit)) ⌝ }
+    ensures { λ r. ⌜ KeptBoth (r .code) (now (words .entry)) (now (messages .entry)) (now (words .exit)) (now (messages .exit)) ⌝ }
 {
     let i = named(a);
     let e = refused_object(words, 4, true, handler, me, i);
@@ -109,6 +111,7 @@ pub fn prcv_msg(
     a: i32,
 ) -> Said
     ensures { λ r. ⌜ DoesOnBoth (PrcvMsg handler me a) (r .code) (r .w1) (r .w2) (now (words .entry)) (now (messages .entry)) (now (words .exit)) (now (messages .exit)) ⌝ }
+    ensures { λ r. ⌜ KeptBoth (r .code) (now (words .entry)) (now (messages .entry)) (now (words .exit)) (now (messages .exit)) ⌝ }
 {
     let i = named(a);
     let e = refused_object(words, 4, false, handler, me, i);

@@ -1,2 +1,4 @@
 -- Laws of the kernel.
 pub mod Promised
+pub mod Served
+pub mod Dispatched

@@ -1,5 +1,6 @@
 -- `calls::messages::rcv_msg` meets its contract. It is its row of the table. Assumes nothing.
-use mathlib.Core.Path.{_≡_, _∙_}
+use mathlib.Core.Bool.{false≢true}
+use mathlib.Core.Path.{_≡_, refl, _∙_}
 use mir.Facts.{toZ-ofZ}
 use Rattle.rules.specs.Events.{nat}
 use Rattle.calls.proofs.Judged.{signed}
@@ -18,7 +19,7 @@ refused-object-requires : tie.Need-refused-object-requires
 refused-object-requires c κs = search needs
 
 returns : tie.Need-returns
-returns c = let r = c .before in rcv-refused _ _ _ _ _ (id-is (r .before .before)) (signed _ (r .refused-object .ok) ∙ r .refused-object .ensures) (c .if1 .taken)
+returns c = let r = c .before in (rcv-refused _ _ _ _ _ (id-is (r .before .before)) (signed _ (r .refused-object .ok) ∙ r .refused-object .ensures) (c .if1 .taken), λ _. (refl, refl))
 
 mail-anchor-requires : tie.Need-mail-anchor-requires
 mail-anchor-requires c κs = search needs
@@ -30,13 +31,13 @@ wait-requires : tie.Need-wait-requires
 wait-requires c κs = search needs
 
 returns-2 : tie.Need-returns-2
-returns-2 c = let j = c .before .before in let f = j .before in let y = f .before in let i = y .before .before in let r = i .before in rcv-waits _ _ _ _ _ (id-is (r .before .before)) (signed _ (r .refused-object .ok) ∙ r .refused-object .ensures) (i .if1 .left) (y .mail-anchor .ensures) (f .mail-first .ensures) (j .if2 .taken) (c .wait .ensures)
+returns-2 c = let j = c .before .before in let f = j .before in let y = f .before in let i = y .before .before in let r = i .before in (rcv-waits _ _ _ _ _ (id-is (r .before .before)) (signed _ (r .refused-object .ok) ∙ r .refused-object .ensures) (i .if1 .left) (y .mail-anchor .ensures) (f .mail-first .ensures) (j .if2 .taken) (c .wait .ensures), λ e. absurd (false≢true e))
 
 receive-requires : tie.Need-receive-requires
 receive-requires c κs = search needs
 
 returns-3 : tie.Need-returns-3
-returns-3 c = let j = c .before .before .before in let f = j .before in let y = f .before in let i = y .before .before in let r = i .before in rcv-takes _ _ _ _ _ (id-is (r .before .before)) (signed _ (r .refused-object .ok) ∙ r .refused-object .ensures) (i .if1 .left) (y .mail-anchor .ensures) (f .mail-first .ensures) (j .if2 .left) (c .receive .ensures)
+returns-3 c = let j = c .before .before .before in let f = j .before in let y = f .before in let i = y .before .before in let r = i .before in (rcv-takes _ _ _ _ _ (id-is (r .before .before)) (signed _ (r .refused-object .ok) ∙ r .refused-object .ensures) (i .if1 .left) (y .mail-anchor .ensures) (f .mail-first .ensures) (j .if2 .left) (c .receive .ensures), λ e. absurd (false≢true e))
 
 pub rcv-msg-spec : {M : Type 1} → statement M
 rcv-msg-spec =

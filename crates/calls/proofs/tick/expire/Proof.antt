@@ -1,4 +1,5 @@
 -- `calls::tick::expire` meets its contract. By its test. Assumes nothing.
+use native.Mathlib.Omega.{arith}
 use borrow.Author.Needs.{needs}
 use Rattle.calls.proofs.Ticks.{expire-yes, expire-no}
 use Rattle.calls.proofs.tick.expire.Statement.{statement}
@@ -25,14 +26,16 @@ returns c =
     let l = i .before in
     let t = l .before in
     let k = t .before .before in
-    expire-yes _ _ (k .before .before .status .ensures) (k .kind .ensures) (t .ticks .ensures) (l .last-tick .ensures) (i .if1 .taken) (c .release .ensures)
+    let r = expire-yes _ _ (k .before .before .status .ensures) (k .kind .ensures) (t .ticks .ensures) (l .last-tick .ensures) (i .if1 .taken) (c .release .ensures) in
+    (r .0, (r .1, omega arith))
 
 returns-2 : tie.Need-returns-2
 returns-2 c =
     let l = c .before in
     let t = l .before in
     let k = t .before .before in
-    expire-no _ _ (k .before .before .status .ensures) (k .kind .ensures) (t .ticks .ensures) (l .last-tick .ensures) (c .if1 .left)
+    let r = expire-no _ _ (k .before .before .status .ensures) (k .kind .ensures) (t .ticks .ensures) (l .last-tick .ensures) (c .if1 .left) in
+    (r .0, (r .1, omega arith))
 
 pub expire-spec : {M : Type 1} → statement M
 expire-spec = tie.close (tie.spec status-requires kind-requires ticks-requires last-tick-requires release-requires returns returns-2)

@@ -1,6 +1,6 @@
 -- `calls::tick::tick` meets its contract. The first pass performs the releases, `elapse` the rest. Assumes nothing.
 use borrow.Author.Needs.{needs}
-use Rattle.calls.proofs.Ticks.{tick-does}
+use Rattle.calls.proofs.Ticks.{tick-does, tick-frees}
 use Rattle.calls.proofs.tick.tick.Statement.{statement}
 use Rattle.calls.proofs.tick.tick.Tie as tie
 
@@ -20,7 +20,10 @@ returns : tie.Need-returns
 returns c =
     let x = c .before .before in
     let n = x .before .before in
-    tick-does _ (n .before .system .ensures) (n .at-most .ensures .0) (x .expire-all .ensures) (c .elapse .ensures)
+    let s = n .before .system .ensures in
+    let l = n .at-most .ensures .0 in
+    let r = x .expire-all .ensures in
+    (tick-does _ s l (r .0) (r .1) (c .elapse .ensures), tick-frees _ s l (r .0) (r .1))
 
 pub tick-spec : {M : Type 1} → statement M
 tick-spec = tie.close (tie.spec system-requires at-most-requires expire-all-requires elapse-requires returns)
