@@ -97,10 +97,10 @@ act-body a v = refl
 
 -- one act
 module _ (a : Act) (b m : List ℕ) (A : Accepted b m) (p : Pre (bodyShown b m) a) (n : Names (bodyShown b m) a) where
-  shows : Shows (performed a b) (performedMarks a m) (act a (viewShown b m))
+  pub shows : Shows (performed a b) (performedMarks a m) (act a (viewShown b m))
   shows = perform-law a b m A (pre-fits (bodyShown b m) a p n)
 
-  accepts : Accepted (performed a b) (performedMarks a m)
+  pub accepts : Accepted (performed a b) (performedMarks a m)
   accepts = record {
     whole = shows .whole;
     sound = subst Sound (sym (shows .view)) (sound-act a (viewShown b m) (A .sound) (subst (λ (c : Body). Pre c a) (sym (shown-body b m)) p));

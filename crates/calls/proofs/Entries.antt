@@ -9,7 +9,7 @@ use Rattle.rules.specs.Verdicts.{Verdict}
 use Rattle.rules.specs.Table.{judge, judged, called, looked-up, table, caller, refusals}
 use Rattle.calls.specs.Rows.{StaTsk, ExtTsk, TerTsk, ChgPri, RotRdq, RelWai, SusTsk, RsmTsk, SlpTsk, WaiTsk, WupTsk, CanWup, GetTid, TskSts, GetTim}
 use Rattle.calls.specs.Objects.{SigSem, WaiSem, PreqSem, SemSts, GetBlk, PgetBlk, RelBlk, MplSts}
-use Rattle.calls.specs.Flags.{ClrFlg, WaiFlg, PolFlg, FlgSts, MbxSts}
+use Rattle.calls.specs.Flags.{SetFlg, ClrFlg, WaiFlg, PolFlg, FlgSts, MbxSts}
 use Rattle.calls.specs.Messages.{SndMsg, RcvMsg, PrcvMsg}
 
 -- the number by which a context is named in an event
@@ -32,14 +32,14 @@ unfolding judge called looked-up table judged refusals StaTsk ExtTsk TerTsk ChgP
 entries true v a b c = (refl, refl, refl, refl, refl, refl, refl, refl, refl, refl, refl, refl, refl, refl, refl)
 entries false v a b c = (refl, refl, refl, refl, refl, refl, refl, refl, refl, refl, refl, refl, refl, refl, refl)
 
--- all calls of objects but set_flg
+-- all calls of objects: with those above, the calls 1 to 32
 pub object-entries : (h : Bool) (v : View) (a b c : ℤ)
     → Is h 13 v a b c (λ me. SigSem h me a v) × Is h 14 v a b c (λ me. WaiSem h me a v) × Is h 15 v a b c (λ me. PreqSem h me a v)
-    × Is h 17 v a b c (λ me. ClrFlg h me a b v) × Is h 18 v a b c (λ me. WaiFlg h me a b c v) × Is h 19 v a b c (λ me. PolFlg h me a b c v)
+    × Is h 16 v a b c (λ me. SetFlg h me a b v) × Is h 17 v a b c (λ me. ClrFlg h me a b v) × Is h 18 v a b c (λ me. WaiFlg h me a b c v) × Is h 19 v a b c (λ me. PolFlg h me a b c v)
     × Is h 20 v a b c (λ me. SndMsg h me a b v) × Is h 21 v a b c (λ me. RcvMsg h me a v) × Is h 22 v a b c (λ me. PrcvMsg h me a v)
     × Is h 23 v a b c (λ me. GetBlk h me a v) × Is h 24 v a b c (λ me. PgetBlk h me a v) × Is h 25 v a b c (λ me. RelBlk h me a b v)
     × Is h 28 v a b c (λ me. SemSts h me a v) × Is h 29 v a b c (λ me. FlgSts h me a v) × Is h 30 v a b c (λ me. MbxSts h me a v)
     × Is h 31 v a b c (λ me. MplSts h me a v)
-unfolding judge called looked-up table judged refusals SigSem WaiSem PreqSem ClrFlg WaiFlg PolFlg SndMsg RcvMsg PrcvMsg GetBlk PgetBlk RelBlk SemSts FlgSts MbxSts MplSts
-object-entries true v a b c = (refl, refl, refl, refl, refl, refl, refl, refl, refl, refl, refl, refl, refl, refl, refl, refl)
-object-entries false v a b c = (refl, refl, refl, refl, refl, refl, refl, refl, refl, refl, refl, refl, refl, refl, refl, refl)
+unfolding judge called looked-up table judged refusals SigSem WaiSem PreqSem SetFlg ClrFlg WaiFlg PolFlg SndMsg RcvMsg PrcvMsg GetBlk PgetBlk RelBlk SemSts FlgSts MbxSts MplSts
+object-entries true v a b c = (refl, refl, refl, refl, refl, refl, refl, refl, refl, refl, refl, refl, refl, refl, refl, refl, refl)
+object-entries false v a b c = (refl, refl, refl, refl, refl, refl, refl, refl, refl, refl, refl, refl, refl, refl, refl, refl, refl)

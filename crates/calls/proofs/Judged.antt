@@ -9,18 +9,19 @@ use mir.Facts.{toZ-ofZ}
 use lib.Dec.{eqb}
 use lib.IntN.{ℤ, pos}
 use lib.Signed.{mag, ltZ}
-use Rattle.rules.specs.Codes.{number}
+use Rattle.rules.specs.Codes.{Code, number}
 use Rattle.rules.specs.Events.{nat}
 use Rattle.rules.specs.State.{isDormant}
 use Rattle.rules.specs.Tasks.{stateOf}
 use Rattle.rules.specs.View.{View}
-use Rattle.rules.specs.Verdicts.{Verdict, check}
+use Rattle.rules.specs.Verdicts.{Verdict, refuse, check}
 use Rattle.rules.specs.Table.{Refusal, refusals, Context, T, Target, row, names-dormant, judged}
 use Rattle.state.specs.Layout as Layout
 use Rattle.state.specs.Moves.{entry}
 use Rattle.state.specs.Picture.{viewShown, Accepted}
-use Rattle.calls.specs.Doing.{performs, performsMarks, Does, DoesOnWords}
+use Rattle.calls.specs.Doing.{Does, DoesOnWords}
 use Rattle.calls.specs.Judging.{firstCode, orElse, common, commonCode}
+use Rattle.calls.proofs.Verdicts.{refuses-with}
 
 abbrev pub Negative : ℤ → Type 0
 Negative z = ltZ z (pos 0) ≡ true
@@ -32,14 +33,18 @@ abbrev pub AllRefuse : List Refusal → Type 0
 AllRefuse [] = Unit {0}
 AllRefuse (x ∷ l) = Negative (number (x .code)) × AllRefuse l
 
-pub stops : (l : List Refusal) (r : Verdict) (b m : List ℕ) → Negative (firstCode l) → Does (refusals l r) (firstCode l) 0 0 b m b m
-unfolding firstCode refusals check performs performsMarks
-stops [] r b m e = absurd (true≢false (sym e))
-stops (x ∷ l) r b m e = go (x .applies) (stops l r b m) e
+-- the verdict is a refusal, with a code whose number is e
+abbrev pub Refuses : ℤ → Verdict → Type 0
+Refuses e r = (c : Code) × (e ≡ number c) × (r ≡ refuse c)
+
+pub stops : (l : List Refusal) (r : Verdict) → Negative (firstCode l) → Refuses (firstCode l) (refusals l r)
+unfolding firstCode refusals check
+stops [] r e = absurd (true≢false (sym e))
+stops (x ∷ l) r e = go (x .applies) (stops l r) e
   where
-    go : (t : Bool) → (Negative (firstCode l) → Does (refusals l r) (firstCode l) 0 0 b m b m) → Negative (cond t (number (x .code)) (firstCode l))
-        → Does (check t (x .code) (refusals l r)) (cond t (number (x .code)) (firstCode l)) 0 0 b m b m
-    go true h e = record { says = refl; first = refl; second = refl; words = refl; marks = refl }
+    go : (t : Bool) → (Negative (firstCode l) → Refuses (firstCode l) (refusals l r)) → Negative (cond t (number (x .code)) (firstCode l))
+        → Refuses (cond t (number (x .code)) (firstCode l)) (check t (x .code) (refusals l r))
+    go true h e = (x .code, refl, refl)
     go false h e = h e
 
 pub passes : (l : List Refusal) (r : Verdict) → AllRefuse l → Silent (firstCode l) → refusals l r ≡ r
@@ -111,41 +116,43 @@ module _ (W : View → List Refusal) (refuse : (v : View) → AllRefuse (W v)) (
   unfolding common firstCode commons
   same m A q = rw (reads m A q)
 
-  pub refused-does : Negative e → DoesOnWords Judged e 0 0 b b
-  unfolding judged commons common
-  refused-does n m A = go (ltZ said (pos 0)) refl
-    where
-      v : View
-      v = viewShown b m
+  module _ (m : List ℕ) (A : Accepted b m) where
+    abbrev v : View
+    v = viewShown b m
 
-      go : (s : Bool) → ltZ said (pos 0) ≡ s → Does (refusals (W v) (refusals (commons v) (R v))) e 0 0 b m b m
-      go true q =
-          let z : e ≡ firstCode (W v) = es ∙ ap (λ (x : Bool). cond x said (commonCode c t h me (nat a) b)) q ∙ judges m A in
-          subst (λ (x : ℤ). Does (refusals (W v) (refusals (commons v) (R v))) x 0 0 b m b m) (sym z) (stops (W v) _ b m (subst Negative z n))
-      go false q =
-          let z : e ≡ firstCode (commons v) = es ∙ ap (λ (x : Bool). cond x said (commonCode c t h me (nat a) b)) q ∙ same m A q in
-          let y : refusals (W v) (refusals (commons v) (R v)) ≡ refusals (commons v) (R v) = passes (W v) _ (refuse v) (subst Silent (judges m A) q) in
-          subst (λ (x : ℤ). Does (refusals (W v) (refusals (commons v) (R v))) x 0 0 b m b m) (sym z)
-          (subst (λ (x : Verdict). Does x (firstCode (commons v)) 0 0 b m b m) (sym y) (stops (commons v) _ b m (subst Negative z n)))
+    pub refused-is : Negative e → Refuses e (Judged v)
+    unfolding judged commons common
+    refused-is n = go (ltZ said (pos 0)) refl
+      where
+        go : (s : Bool) → ltZ said (pos 0) ≡ s → Refuses e (refusals (W v) (refusals (commons v) (R v)))
+        go true q =
+            let z : e ≡ firstCode (W v) = es ∙ ap (λ (x : Bool). cond x said (commonCode c t h me (nat a) b)) q ∙ judges m A in
+            let r = stops (W v) (refusals (commons v) (R v)) (subst Negative z n) in (r .0, z ∙ r .1, r .2)
+        go false q =
+            let z : e ≡ firstCode (commons v) = es ∙ ap (λ (x : Bool). cond x said (commonCode c t h me (nat a) b)) q ∙ same m A q in
+            let y : refusals (W v) (refusals (commons v) (R v)) ≡ refusals (commons v) (R v) = passes (W v) _ (refuse v) (subst Silent (judges m A) q) in
+            let r = stops (commons v) (R v) (subst Negative z n) in (r .0, z ∙ r .1, y ∙ r .2)
+
+    -- the row's own rule is left
+    pub passed-is : Silent e → Silent said × (Judged v ≡ R v)
+    unfolding judged commons common
+    passed-is n = go (ltZ said (pos 0)) refl
+      where
+        go : (s : Bool) → ltZ said (pos 0) ≡ s → Silent said × (refusals (W v) (refusals (commons v) (R v)) ≡ R v)
+        go true q =
+            let z : e ≡ said = es ∙ ap (λ (x : Bool). cond x said (commonCode c t h me (nat a) b)) q in
+            absurd (true≢false (sym q ∙ subst Silent z n))
+        go false q =
+            let z : e ≡ firstCode (commons v) = es ∙ ap (λ (x : Bool). cond x said (commonCode c t h me (nat a) b)) q ∙ same m A q in
+            (q, passes (W v) _ (refuse v) (subst Silent (judges m A) q) ∙ passes (commons v) _ (common-refuse c t h me (nat a) (isDormant (stateOf v a))) (subst Silent z n))
+
+  pub refused-does : Negative e → DoesOnWords Judged e 0 0 b b
+  refused-does n m A = let r = refused-is m A n in rw (r .1, r .2) (refuses-with (r .0))
 
   -- also where the marks of the messages change
   pub passed-at : Silent e → (m : List ℕ) → Accepted b m → {code : ℤ} {w1 w2 : ℕ} {b′ m′ : List ℕ} → (Silent said → Does (R (viewShown b m)) code w1 w2 b m b′ m′)
       → Does (Judged (viewShown b m)) code w1 w2 b m b′ m′
-  unfolding judged commons common
-  passed-at n m A {code} {w1} {w2} {b′} {m′} f = go (ltZ said (pos 0)) refl
-    where
-      v : View
-      v = viewShown b m
-
-      go : (s : Bool) → ltZ said (pos 0) ≡ s → Does (refusals (W v) (refusals (commons v) (R v))) code w1 w2 b m b′ m′
-      go true q =
-          let z : e ≡ said = es ∙ ap (λ (x : Bool). cond x said (commonCode c t h me (nat a) b)) q in
-          absurd (true≢false (sym q ∙ subst Silent z n))
-      go false q =
-          let z : e ≡ firstCode (commons v) = es ∙ ap (λ (x : Bool). cond x said (commonCode c t h me (nat a) b)) q ∙ same m A q in
-          let y : refusals (W v) (refusals (commons v) (R v)) ≡ refusals (commons v) (R v) = passes (W v) _ (refuse v) (subst Silent (judges m A) q) in
-          let x : refusals (commons v) (R v) ≡ R v = passes (commons v) _ (common-refuse c t h me (nat a) (isDormant (stateOf v a))) (subst Silent z n) in
-          subst (λ (x : Verdict). Does x code w1 w2 b m b′ m′) (sym (y ∙ x)) (f q)
+  passed-at n m A f = let r = passed-is m A n in rw (r .1) (f (r .0))
 
   pub passed-does : Silent e → {code : ℤ} {w1 w2 : ℕ} {b′ : List ℕ} → ((m : List ℕ) → Accepted b m → Silent said → Does (R (viewShown b m)) code w1 w2 b m b′ m) → DoesOnWords Judged code w1 w2 b b′
   passed-does n f m A = passed-at n m A (f m A)

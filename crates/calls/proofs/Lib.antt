@@ -17,5 +17,7 @@ pub mod Blocks
 pub mod PoolCalls
 pub mod FlagCalls
 pub mod FlagBits
+pub mod FlagSteps
+pub mod FlagWalk
 pub mod MessageCalls
 pub mod SendCalls

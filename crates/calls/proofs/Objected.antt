@@ -31,7 +31,7 @@ use Rattle.guard.proofs.Lowest.{HeadOf}
 use Rattle.calls.specs.Doing.{Does, DoesOnWords}
 use Rattle.calls.specs.Judging.{firstCode}
 use Rattle.calls.specs.Objects.{columnOf, noObject, objectRefused, firstWaiter}
-use Rattle.calls.proofs.Judged.{Negative, Silent, AllRefuse, refused-does, passed-does}
+use Rattle.calls.proofs.Judged.{Negative, Silent, AllRefuse, refused-is, passed-is, refused-does, passed-does}
 use Rattle.calls.proofs.Verdicts.{gives-none, gives-one, first-none, first-some}
 
 -- ---- the id
@@ -71,6 +71,19 @@ module _ (k : Kind) (c : Context) (R : View → Verdict) (h : Bool) (me : ℕ) (
   object-passed n f = passed-does (λ v. object-id v k a ∷ []) (refuse k a) c anyone R h me a (λ m A. object-word k a b m) (λ m A s. refl) (rw ei at es) n
       (λ m A s. f (object-in (columnOf k) (nat a) b s) m A)
 
+  module _ (m : List ℕ) (A : Accepted b m) where
+    pub object-unacted : Negative e → judged (viewShown b m) h me a (row (object-id (viewShown b m) k a ∷ []) c anyone (R (viewShown b m))) .acts ≡ []
+    unfolding objectRefused
+    object-unacted n =
+        ap (λ (r : Verdict). r .acts) (refused-is (λ v. object-id v k a ∷ []) (refuse k a) c anyone R h me a (λ m A. object-word k a b m) (λ m A s. refl) (rw ei at es) m A n .2)
+
+    pub object-rule : Silent e → In (nat a) (entry Layout.system b (columnOf k))
+        × (judged (viewShown b m) h me a (row (object-id (viewShown b m) k a ∷ []) c anyone (R (viewShown b m))) ≡ R (viewShown b m))
+    unfolding objectRefused
+    object-rule n =
+        let r = passed-is (λ v. object-id v k a ∷ []) (refuse k a) c anyone R h me a (λ m A. object-word k a b m) (λ m A s. refl) (rw ei at es) m A n in
+        (object-in (columnOf k) (nat a) b (r .0), r .1)
+
 -- ---- the first waiter
 
 pub head-of : (n v : ℕ) (l : List ℕ) → v ≡ headOf l 0 → All (IsId n) l → HeadOf v l
@@ -94,15 +107,15 @@ module _ (k : Kind) (o : ℕ) (b m : List ℕ) (A : Accepted b m) (h : In o (ent
   few mailbox = A .sound .body .sizes .mailboxes
   few pool = let e = A .sound .body .sizes .pools in omega (arith, e)
 
-  there : In o (objects (storeShown b m) k)
+  pub there : In o (objects (storeShown b m) k)
   unfolding viewShown bodyShown
   there = subst (In o) (sym (objects-count k b m)) h
 
-  anchor-is : waitAnchor (kindNumber k) o ≡ anchor (waiters k o)
+  pub anchor-is : waitAnchor (kindNumber k) o ≡ anchor (waiters k o)
   unfolding waitAnchor anchor
   anchor-is = rw (le-leb (kindNumber k) 5 (kind-small k), le-leb o 16 (omega (arith, h .1, objects-count k b m, few k)))
 
-  line-is : line (viewShown b m) (waiters k o) ≡ lineShown b (waiters k o)
+  pub line-is : line (viewShown b m) (waiters k o) ≡ lineShown b (waiters k o)
   unfolding viewShown
   line-is = line-tabulate (storeShown b m) (lineShown b) (waiters k o) there
 

@@ -26,7 +26,7 @@ pub tasks-count : (b m : List ℕ) → length (viewShown b m .body .tasks) ≡ t
 unfolding viewShown bodyShown
 tasks-count b m = length-ids (taskShown b) (tasksShown b)
 
-task-shown : (b m : List ℕ) (i : ℕ) → In i (tasksShown b) → task (viewShown b m .body) i ≡ taskShown b i
+pub task-shown : (b m : List ℕ) (i : ℕ) → In i (tasksShown b) → task (viewShown b m .body) i ≡ taskShown b i
 unfolding viewShown bodyShown
 task-shown b m i h = of-ids (taskShown b) (tasksShown b) i nobody h
 

@@ -150,7 +150,7 @@ tick-releases : (l : List ℕ) → releases (map timeout l ++ elapse ∷ []) ≡
 tick-releases [] = refl
 tick-releases (x ∷ l) = rw (tick-releases l) (omega arith)
 
-few-tasks : (b m : List ℕ) → Accepted b m → entry Layout.system b 1 ≤ 32
+pub few-tasks : (b m : List ℕ) → Accepted b m → entry Layout.system b 1 ≤ 32
 unfolding bodyShown
 few-tasks b m A = omega (arith, sizes b m A .tasks .1, length-ids (taskShown b) (entry Layout.system b 1))
 

@@ -23,15 +23,18 @@ module _ {b m : List ℕ} where
   unfolding check
   check-stops c r e = rw e (refuses-with c)
 
-  -- nothing done
-  pub gives-none : {x y z w : ℕ} → x ≡ z → y ≡ w → Does (gives z w []) (pos 0) x y b m b m
-  unfolding performs performsMarks number
-  gives-none e f = record { says = refl; first = e; second = f; words = refl; marks = refl }
+  -- acts that touch no message, done
+  pub gives-acts : (l : List Act) {x y z w : ℕ} {b′ : List ℕ} → performsMarks l m ≡ m → x ≡ z → y ≡ w → b′ ≡ performs l b → Does (gives z w l) (pos 0) x y b m b′ m
+  unfolding number
+  gives-acts l k e f g = record { says = refl; first = e; second = f; words = g; marks = sym k }
 
-  -- one act done
+  pub gives-none : {x y z w : ℕ} → x ≡ z → y ≡ w → Does (gives z w []) (pos 0) x y b m b m
+  unfolding performs performsMarks
+  gives-none e f = gives-acts [] refl e f refl
+
   pub gives-one : (a : Act) {x y z w : ℕ} {b′ : List ℕ} → performedMarks a m ≡ m → x ≡ z → y ≡ w → b′ ≡ performed a b → Does (gives z w (a ∷ [])) (pos 0) x y b m b′ m
-  unfolding performs performsMarks number
-  gives-one a k e f g = record { says = refl; first = e; second = f; words = g; marks = sym k }
+  unfolding performs performsMarks
+  gives-one a k e f g = gives-acts (a ∷ []) k e f g
 
   -- the caller waits
   pub waits-one : (i : ℕ) (w : Wait) {b′ : List ℕ} → b′ ≡ performed (wait i w) b → Does (waits i w) (pos 1) 0 0 b m b′ m

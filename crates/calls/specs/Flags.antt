@@ -11,7 +11,7 @@ use Rattle.rules.specs.Places.{mail}
 use Rattle.rules.specs.Events.{nat, bits, above}
 use Rattle.rules.specs.View.{View, line}
 use Rattle.rules.specs.Verdicts.{Verdict, waits}
-use Rattle.rules.specs.Objects.{polls, obj-sts, patternOf, clr-flg, take-flg}
+use Rattle.rules.specs.Objects.{polls, obj-sts, patternOf, set-flg, clr-flg, take-flg}
 use Rattle.rules.specs.Table.{Context, T, both, anyone, row, judged, object-id, asked, mode}
 use Rattle.rings.specs.Links.{firstOf}
 use Rattle.state.specs.Layout as Layout
@@ -34,6 +34,9 @@ firstMessage o b = firstOf (words Layout.mailNext b) (mailAnchor o)
 -- ---- the rows
 
 module _ (handler : Bool) (me : ℕ) where
+  unfoldable pub SetFlg : ℤ → ℤ → View → Verdict
+  SetFlg a b v = judged v handler me a (row (object-id v flag a ∷ []) both anyone (set-flg v a b))
+
   unfoldable pub ClrFlg : ℤ → ℤ → View → Verdict
   ClrFlg a b v = judged v handler me a (row (object-id v flag a ∷ []) both anyone (clr-flg v a b))
 

@@ -7,4 +7,5 @@ pub mod Ticking
 pub mod Objects
 pub mod Blocks
 pub mod Flags
+pub mod Serving
 pub mod Messages

@@ -61,7 +61,7 @@ fn refused_flag(
 }
 
 // What is left of a pattern that has met a wish.
-fn left_of(have: u32, mode: u32) -> u32
+pub fn left_of(have: u32, mode: u32) -> u32
     ensures { λ r. ⌜ r ≡ left have mode ⌝ }
 {
     if 2 <= mode { 0 } else { have }

@@ -7,5 +7,6 @@ pub mod objects;
 pub mod pools;
 pub mod reading;
 pub mod semaphores;
+pub mod serving;
 pub mod tasks;
 pub mod tick;

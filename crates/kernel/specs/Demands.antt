@@ -1,19 +1,27 @@
 -- What the customer demands of runs, said of the code: of every chain of steps.
+use mathlib.Core.Bool.{false}
 use mathlib.Core.List.{List, [], _∷_, map}
 use mathlib.Core.Logic.{_≢_}
 use mathlib.Core.Path.{_≡_}
-use Prim.Native.Nat.{ℕ}
+use Prim.Native.Nat.{ℕ, _/_, _%_, _^_}
 use lib.IntN.{ℤ, pos}
-use Rattle.rules.specs.Codes.{number, H-STATE, E-RLWAI}
+use lib.ListN.{length}
+use Rattle.rules.specs.Ids.{of, In}
+use Rattle.rules.specs.Codes.{number, H-STATE}
 use Rattle.rules.specs.State.{State, Cell, task}
-use Rattle.rules.specs.Events.{Event, nat}
+use Rattle.rules.specs.Events.{nat}
 use Rattle.rules.specs.Answers.{Answer, readCell}
 use Rattle.rules.specs.Plain.{Plain, plainNext, plainAnswer}
-use Rattle.rules.specs.Blocks.{Happened, AllAccounted}
+use Rattle.rules.specs.Blocks.{isFree, Happened, granted, gaveBack, AllAccounted}
 use Rattle.rules.specs.Demand3.{Agree}
 use Rattle.rules.specs.Broken.{broken, isFresh, Unless}
-use Rattle.rules.specs.BenchSheet.{Case}
+use Rattle.rules.specs.BenchSheet.{Case, Sheet}
+use Rattle.state.specs.Layout as Layout
+use Rattle.state.specs.Layout.{put}
 use Rattle.state.specs.Picture.{viewShown, Accepted}
+use Rattle.boot.specs.Starting.{Starts}
+use Rattle.boot.specs.declared.Started.{Started}
+use Rattle.boot.specs.declared.Started.the-variants.{Fresh}
 use Rattle.kernel.specs.Promises.{Reads, Runs}
 use Rattle.kernel.specs.Steps.{Reply, told, Link, Chain, lastWords, lastMarks}
 
@@ -42,6 +50,19 @@ Demand3OnCode past b m s (k ∷ l) =
     Same past b m s × (k .reply ≡ told (plainAnswer s (k .event))) × (k .reply .code ≢ number H-STATE)
     × Demand3OnCode (seen b m k (plainAnswer s (k .event)) ∷ past) (k .words) (k .marks) (plainNext s (k .event)) l
 
+-- ---- a block is given to one at a time
+
+-- a block that the memory shows as out is not granted at this link, unless the same event returns it
+abbrev pub OutNotGranted : List ℕ → List ℕ → Link → Type 0
+OutNotGranted b m k =
+    (a : Answer) → k .reply ≡ told a → (p : ℕ) → In p (length (viewShown b m .body .store .pools)) → (j : ℕ) → In j (length (of (viewShown b m .body .store .pools) p []))
+    → isFree (viewShown b m .body) p j ≡ false → gaveBack (seen b m k a) p j ≡ 0 → granted (seen b m k a) p j ≡ 0
+
+-- along a chain
+abbrev pub BlocksOnce : List ℕ → List ℕ → List Link → Type 0
+BlocksOnce b m [] = Unit {0}
+BlocksOnce b m (k ∷ l) = OutNotGranted b m k × BlocksOnce (k .words) (k .marks) l
+
 -- ---- a broken wait
 
 -- the state of the task that a word names, as the memory shows it
@@ -60,6 +81,10 @@ StaysBrokenOnCode a b m (k ∷ l) =
 abbrev pub figures : Reply → List ℤ
 figures r = r .code ∷ pos (r .w1) ∷ pos (r .w2) ∷ pos (r .runs) ∷ pos (r .released) ∷ []
 
+-- the memory with another clock: the halves are written
+abbrev pub clockSet : ℕ → List ℕ → List ℕ
+clockSet t b = put Layout.system 8 (t / 2 ^ 32) (put Layout.system 7 (t % 2 ^ 32) b)
+
 -- from this memory: `running` names the case's task; every chain over the case's events has the case's answers, and at its end `cell` reads the
 -- case's cell
 pub record CaseHolds (b m : List ℕ) (c : Case) : Type 0 where
@@ -67,3 +92,12 @@ pub record CaseHolds (b m : List ℕ) (c : Case) : Type 0 where
   pub says : (l : List Link) → Chain b m l → map (λ k. k .event) l ≡ map (λ s. s .event) (c .steps) → map (λ k. figures (k .reply)) l ≡ map (λ s. s .says) (c .steps)
   pub cell : (l : List Link) → Chain b m l → map (λ k. k .event) l ≡ map (λ s. s .event) (c .steps)
       → (code : ℤ) (word : ℕ) → Reads (lastWords b l) (lastMarks m l) (pos (c .who)) code word → (code ≡ c .code) × (word ≡ c .word)
+
+-- each of a list of cases
+abbrev pub Every : (Case → Type 0) → List Case → Type 0
+Every P [] = Unit {0}
+Every P (c ∷ l) = P c × Every P l
+
+-- the start takes a sheet's bytes, and each case holds of the memory that it leaves, once the case's clock is written
+abbrev pub SheetOnCode : Sheet → Type 0
+SheetOnCode s = (r : Started) (words marks b m : List ℕ) → Starts (s .bytes) r words marks b m → (r ≡ Fresh) × Every (λ c. CaseHolds (clockSet (c .clock) b) m c) (s .cases)

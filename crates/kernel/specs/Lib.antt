@@ -2,4 +2,5 @@
 pub mod Promises
 pub mod Steps
 pub mod Serving
+pub mod Batches
 pub mod Demands

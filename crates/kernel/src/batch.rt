@@ -6,8 +6,8 @@ use guard::check::accepts;
 use guard::running::running_task;
 use state::STATE_WORDS;
 ghost use mathlib.Core.Path.{_≡_};
-ghost use Prim.Native.Nat.{_+_, _*_, _≤_};
-ghost use lib.ListN.{length};
+ghost use Prim.Native.Nat.{suc, _+_, _*_, _≤_};
+ghost use lib.ListN.{length, set};
 ghost use Rattle.kernel.specs.Batches.{fitOf, lent, answered, RanThrough, Batched, RunsFrom};
 ghost use Rattle.kernel.specs.declared.batch.Batch.the-variants as Batch;
 
@@ -56,6 +56,14 @@ fn write_words(answers: &mut [u32], i: usize, r: Answer)
     answers[at + 3] = r.released;
 }
 
+// The code of the answer to event i.
+fn write_code(codes: &mut [i32], i: usize, code: i32)
+    requires { ⌜ suc i ≤ length (now codes) ⌝ }
+    ensures { λ _. ⌜ now (codes .exit) ≡ set (now (codes .entry)) i code ⌝ }
+{
+    codes[i] = code;
+}
+
 // All events, where there is place for their answers.
 fn serve_all(
     words: &mut [u32; STATE_WORDS],
@@ -74,7 +82,7 @@ fn serve_all(
     while i < n {
         let at = 5 * i;
         let r = serve(words, messages, sound, me, events[at], events[at + 1], events[at + 2], events[at + 3], events[at + 4]);
-        codes[i] = r.code;
+        write_code(codes, i, r.code);
         write_words(answers, i, r);
         me = r.running;
         i += 1;

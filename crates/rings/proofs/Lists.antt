@@ -103,6 +103,11 @@ pub out-mid : (xs : List ℕ) (y : ℕ) (ys : List ℕ) → Distinct (xs ++ y �
 out-mid [] y ys d = tt
 out-mid (x ∷ xs) y ys d = (λ e. all-right _ xs (y ∷ ys) (d .0) .0 (sym e), out-mid xs y ys (d .1))
 
+-- nor of those behind it
+pub out-rest : (xs : List ℕ) (y : ℕ) (ys : List ℕ) → Distinct (xs ++ y ∷ ys) → Out y ys
+out-rest [] y ys d = d .0
+out-rest (x ∷ xs) y ys d = out-rest xs y ys (d .1)
+
 -- ---- ends of a list, turned round
 
 head-snoc : (xs : List ℕ) (x a : ℕ) → headOf (xs ++ x ∷ []) a ≡ headOf xs x

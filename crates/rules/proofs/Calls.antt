@@ -189,7 +189,7 @@ left-unmet h p m k z e = go (leb 2 k)
     go true = met-zero p m z
     go false = e
 
-left-small : (h k : ℕ) → h < 2 ^ 32 → left h k < 2 ^ 32
+pub left-small : (h k : ℕ) → h < 2 ^ 32 → left h k < 2 ^ 32
 left-small h k r = go (leb 2 k)
   where
     go : (t : Bool) → cond t 0 h < 2 ^ 32
@@ -213,7 +213,7 @@ released-waits c w t = ap (λ (s : State). waitOf s) (go (isWaiting (t .state)))
     go false = refl
 
 module _ (x : ℕ) (cd : Code) (w : ℕ) (c : Body) where
-  released-self : waitOf (task (after (release x cd w) c) x .state) ≡ none
+  pub released-self : waitOf (task (after (release x cd w) c) x .state) ≡ none
   unfolding after
   released-self = elim (put-either (c .tasks) x (releasedTask cd w (task c x)) nobody)
       [ inl k ↦ ap (λ (t : Task). waitOf (t .state)) k ∙ released-waits cd w (task c x) | inr k ↦ ap (λ (t : Task). waitOf (t .state)) k ]

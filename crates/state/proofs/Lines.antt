@@ -167,7 +167,7 @@ stepAt (mail m) s r = r
 abbrev pub Follows : Store → Body → Move → Step → Step → Type 0
 Follows u c m s r = (q : Place) → Exists u q → (l : List ℕ) → moved c m q l ≡ lineAfter (stepAt q s r) (anchor q) l
 
-keep-without : (t : ℕ) (l : List ℕ) → keep (λ j. not (eqb t j)) l ≡ without t l
+pub keep-without : (t : ℕ) (l : List ℕ) → keep (λ j. not (eqb t j)) l ≡ without t l
 unfolding keep without
 keep-without t [] = refl
 keep-without t (x ∷ l) = go (ℕ-discrete x t) (keep-without t l)
