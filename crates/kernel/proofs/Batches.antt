@@ -1,15 +1,42 @@
 -- A batch, event by event: what has run so far, and one event more. Assumes nothing.
-use mathlib.Core.Bool.{Bool, true, false}
+use mathlib.Core.Bool.{Bool, true, false, cond, false≢true}
 use mathlib.Core.List.{List, [], _∷_, _++_, map, append-nil, append-assoc}
+use mathlib.Core.Logic.{_↔_}
 use mathlib.Core.Path.{_≡_, refl, sym, ap, _∙_, subst}
 use Prim.Native.Nat.{ℕ, zero, suc, _+_, _*_, _/_, _%_, _≤_, _<_}
 use native.Mathlib.Omega.{arith}
+use lib.Dec.{eqb, leb}
 use lib.IntN.{ℤ, pos}
-use lib.ListN.{length, drop, getD, set, length-append, length-map, drop-of-length-le}
-use Rattle.rules.specs.Events.{Event, eventOf, eventsOf}
-use Rattle.state.specs.Picture.{viewShown, Accepted}
-use Rattle.kernel.specs.Steps.{Reply, reply, Step, Link, Chain, lastWords, lastMarks}
-use Rattle.kernel.specs.Batches.{Lent, lent, over, codesOf, wordsOf, answered, RanThrough}
+use borrow.Author.Tests.{eqb-true, leb-true}
+use lib.ListN.{length, drop, getD, set, length-set, length-append, length-map, drop-of-length-le}
+use Rattle.rules.specs.Events.{Event, eventsOf}
+use Rattle.state.specs.Picture.{Accepted}
+use Rattle.guard.specs.Running.{runningOf}
+use Rattle.kernel.specs.declared.batch.Batch.{Batch}
+use Rattle.kernel.specs.declared.batch.Batch.the-variants.{Done, Ragged, FewCodes, FewWords}
+use Rattle.kernel.specs.Serving.{Known}
+use Rattle.kernel.specs.Steps.{Reply, Step, Link, Chain, lastWords, lastMarks}
+use Rattle.kernel.specs.Batches.{fitOf, fitted, Lent, over, codesOf, wordsOf, answered, eventAt, EventRan, RanThrough}
+use Rattle.kernel.proofs.Served.{known-on, known-first}
+
+-- ---- sizes
+
+unfoldable isDone : Batch → Bool
+isDone Done = true
+isDone Ragged = false
+isDone FewCodes = false
+isDone FewWords = false
+
+-- what fits: whole events, and place for each
+fit-sizes : (e c a : ℕ) → fitOf e c a ≡ Done → (e % 5 ≡ 0) × (e / 5 ≤ c) × (4 * (e / 5) ≤ a)
+unfolding fitOf isDone
+fit-sizes e c a = go (eqb (e % 5) 0) (leb (e / 5) c) (leb (4 * (e / 5)) a) refl refl refl
+  where
+    go : (r s t : Bool) → eqb (e % 5) 0 ≡ r → leb (e / 5) c ≡ s → leb (4 * (e / 5)) a ≡ t → cond r (cond s (cond t Done FewWords) FewCodes) Ragged ≡ Done → (e % 5 ≡ 0) × (e / 5 ≤ c) × (4 * (e / 5) ≤ a)
+    go true true true p q u z = (eqb-true _ _ p, leb-true _ _ q, leb-true _ _ u)
+    go true true false p q u z = absurd (false≢true (ap isDone z))
+    go true false t p q u z = absurd (false≢true (ap isDone z))
+    go false s t p q u z = absurd (false≢true (ap isDone z))
 
 -- ---- lists
 
@@ -68,7 +95,7 @@ length-answers (k ∷ l) = let h = length-answers l in omega (arith, h)
 
 -- five words are an event
 five : (i : ℕ) (g : List ℤ) → 5 * i + 5 ≤ length g
-    → eventsOf (drop (5 * i) g) ≡ eventOf (getD g (5 * i) (pos 0)) (getD g (5 * i + 1) (pos 0)) (getD g (5 * i + 2) (pos 0)) (getD g (5 * i + 3) (pos 0)) (getD g (5 * i + 4) (pos 0)) ∷ eventsOf (drop (5 * suc i) g)
+    → eventsOf (drop (5 * i) g) ≡ eventAt g i ∷ eventsOf (drop (5 * suc i) g)
 five i g h =
     let x0 : ℤ = getD g (5 * i) (pos 0) in
     let x1 : ℤ = getD g (5 * i + 1) (pos 0) in
@@ -137,20 +164,50 @@ answers-more l k old {i} e h =
 
 -- one event more
 module _ (given : List ℤ) (i : ℕ) (old new : Lent) (S : SoFar given i old new) (e5 : 5 * i + 5 ≤ length given) (c1 : i < length (old .codes)) (a4 : 4 * i + 4 ≤ length (old .answers)) where
-  pub one-more : (r : Reply) (b′ m′ : List ℕ)
-      → Step (eventOf (getD given (5 * i) (pos 0)) (getD given (5 * i + 1) (pos 0)) (getD given (5 * i + 2) (pos 0)) (getD given (5 * i + 3) (pos 0)) (getD given (5 * i + 4) (pos 0))) (new .words) (new .marks) r b′ m′
-      → SoFar given (suc i) old (lent b′ m′ (set (new .codes) i (r .code)) (answered i (r .w1) (r .w2) (r .runs) (r .released) (new .answers)))
-  one-more r b′ m′ T =
-      let e : Event = eventOf (getD given (5 * i) (pos 0)) (getD given (5 * i + 1) (pos 0)) (getD given (5 * i + 2) (pos 0)) (getD given (5 * i + 3) (pos 0)) (getD given (5 * i + 4) (pos 0)) in
-      let k : Link = record { event = e; reply = r; words = b′; marks = m′ } in
+  pub one-more : (later : Lent) {now : ℕ} → EventRan given i new later now → SoFar given (suc i) old later
+  one-more later R =
+      let k : Link = record { event = eventAt given i; reply = R .reply; words = later .words; marks = later .marks } in
       let l : List Link = S .links in
+      let r : Reply = R .reply in
       record {
         links = l ++ (k ∷ []);
-        chain = more-chain k (old .words) (old .marks) l (S .chain) (subst (λ (x : List ℕ). Step e x (lastMarks (old .marks) l) r b′ m′) (S .words) (subst (λ (x : List ℕ). Step e (new .words) x r b′ m′) (S .marks) T));
+        chain = more-chain k (old .words) (old .marks) l (S .chain) (subst (λ (x : List ℕ). Step (eventAt given i) x (lastMarks (old .marks) l) r (later .words) (later .marks)) (S .words) (subst (λ (x : List ℕ). Step (eventAt given i) (new .words) x r (later .words) (later .marks)) (S .marks) (R .step)));
         count = length-append l (k ∷ []) ∙ omega (arith, S .count);
-        events = ap (λ (x : List Event). x ++ eventsOf (drop (5 * suc i) given)) (more-mapped k (λ j. j .event) l) ∙ append-assoc (map (λ j. j .event) l) (e ∷ []) _ ∙ ap (λ (x : List Event). map (λ j. j .event) l ++ x) (sym (five i given e5)) ∙ S .events;
+        events = ap (λ (x : List Event). x ++ eventsOf (drop (5 * suc i) given)) (more-mapped k (λ j. j .event) l) ∙ append-assoc (map (λ j. j .event) l) (eventAt given i ∷ []) _ ∙ ap (λ (x : List Event). map (λ j. j .event) l ++ x) (sym (five i given e5)) ∙ S .events;
         words = sym (more-words k (old .words) l);
         marks = sym (more-marks k (old .marks) l);
-        codes = ap (λ (x : List ℤ). set x i (r .code)) (S .codes) ∙ over-more (codesOf l) (old .codes) (r .code) (length-map l (λ j. j .reply .code) ∙ S .count) c1 ∙ ap (λ (x : List ℤ). over x (old .codes)) (sym (more-mapped k (λ j. j .reply .code) l));
-        answers = ap (answered i (r .w1) (r .w2) (r .runs) (r .released)) (S .answers) ∙ answers-more l k (old .answers) (S .count) a4;
+        codes = R .codes ∙ ap (λ (x : List ℤ). set x i (r .code)) (S .codes) ∙ over-more (codesOf l) (old .codes) (r .code) (length-map l (λ j. j .reply .code) ∙ S .count) c1 ∙ ap (λ (x : List ℤ). over x (old .codes)) (sym (more-mapped k (λ j. j .reply .code) l));
+        answers = R .answers ∙ ap (answered i (r .w1) (r .w2) (r .runs) (r .released)) (S .answers) ∙ answers-more l k (old .answers) (S .count) a4;
       }
+
+-- ---- the loop
+
+-- what holds where i events have run: so much is done, the lent places keep their lengths, and it is known whether the state is sound and who runs
+pub record Running (given : List ℤ) (sound : Bool) (me i : ℕ) (old new : Lent) : Type 0 where
+  pub so-far : SoFar given i old new
+  pub known : Known sound me (new .words) (new .marks)
+  pub codes : length (new .codes) ≡ length (old .codes)
+  pub answers : length (new .answers) ≡ length (old .answers)
+
+pub begins : (given : List ℤ) (old : Lent) {sound : Bool} {me : ℕ} → (sound ≡ true) ↔ Accepted (old .words) (old .marks) → me ≡ runningOf (old .words) → Running given sound me 0 old old
+begins given old s e = record { so-far = none-yet given old; known = known-first (old .words) (old .marks) s e; codes = refl; answers = refl }
+
+-- there is place for event i
+pub record Place (given : List ℤ) (i : ℕ) (old : Lent) : Type 0 where
+  pub event : 5 * i + 5 ≤ length given
+  pub code : i < length (old .codes)
+  pub answer : 4 * i + 4 ≤ length (old .answers)
+
+pub place : (given : List ℤ) (i : ℕ) (old : Lent) → fitted given old ≡ Done → i < length given / 5 → Place given i old
+place given i old f h = let q = fit-sizes (length given) (length (old .codes)) (length (old .answers)) f in record { event = omega (arith, h); code = omega (arith, h, q .1); answer = omega (arith, h, q .2) }
+
+pub goes-on : {given : List ℤ} {sound : Bool} {me i now : ℕ} {old new later : Lent} → Place given i old → (R : Running given sound me i old new) → EventRan given i new later now → Running given sound now (i + 1) old later
+goes-on {given} {sound} {me} {i} {now} {old} {new} {later} P R E = let e : suc i ≡ i + 1 = omega arith in subst (λ (k : ℕ). Running given sound now k old later) e (record {
+  so-far = one-more given i old new (R .so-far) (P .event) (P .code) (P .answer) later E;
+  known = subst (λ (x : ℕ). Known sound x (later .words) (later .marks)) (sym (E .runs)) (known-on (R .known) (E .step));
+  codes = rw (E .codes) (simp length-set (R .codes));
+  answers = rw (E .answers) (simp length-set (R .answers));
+})
+
+pub ends : {given : List ℤ} {sound : Bool} {me i : ℕ} {old new : Lent} → fitted given old ≡ Done → length given / 5 ≤ i → Running given sound me i old new → RanThrough given old new
+ends {given} {i = i} {old = old} {new = new} f h R = let q = fit-sizes (length given) (length (old .codes)) (length (old .answers)) f in all-run given i old new (omega (arith, h, q .0)) (R .so-far)

@@ -7,10 +7,13 @@ use Prim.Native.Nat.{ℕ, zero, suc, _<_, _^_}
 use native.Mathlib.Omega.{arith}
 use lib.Dec.{eqb}
 use lib.IntN.{ℤ, pos, negsuc}
-use lib.Signed.{mag}
+use lib.Signed.{mag, ltZ}
 use borrow.Author.Tests.{le-leb}
+use mir.Syntax.{w32}
+use mir.Val.{SFits, toZ, ofZ}
+use mir.Facts.{toZ-ofZ}
 use Rattle.rules.specs.Codes.{Code, number, negative, H-CALL}
-use Rattle.rules.specs.Events.{Event, tick, call, Word, Words, nat, above}
+use Rattle.rules.specs.Events.{Event, tick, call, eventOf, Word, Words, nat, above}
 use Rattle.rules.specs.Acts.{Act}
 use Rattle.rules.specs.View.{View, running}
 use Rattle.rules.specs.Verdicts.{Verdict, refuse}
@@ -23,17 +26,22 @@ use Rattle.rules.proofs.Released.{released-by-acts}
 use Rattle.state.specs.Picture.{viewShown, Accepted}
 use Rattle.guard.specs.Running.{runningOf}
 use Rattle.guard.proofs.Accepts.{running-law}
-use Rattle.calls.specs.Doing.{Does}
+use Rattle.rules.specs.Time.{ticked}
+use Rattle.calls.specs.Doing.{Does, DoesOnWords, FreesOnWords}
 use Rattle.calls.proofs.Done.{does-law}
+use Rattle.calls.proofs.Judged.{Negative, Silent}
 use Rattle.calls.proofs.Verdicts.{refuses-with}
 use Rattle.kernel.specs.Steps.{Reply, reply, told, unsound, Step}
 use Rattle.kernel.specs.Serving.{context, Known, Serves, JudgesAll}
 
 -- ---- words
 
-pub word-of : (z : ℤ) → mag z < 2 ^ 31 → Word z
+word-of : (z : ℤ) → mag z < 2 ^ 31 → Word z
 word-of (pos n) h = h
 word-of (negsuc n) h = h
+
+pub call-words : (x n a b c : ℤ) → SFits w32 x → SFits w32 n → SFits w32 a → SFits w32 b → SFits w32 c → Words (call x n a b c)
+call-words x n a b c p q r s t = (word-of x (p .sfits), word-of n (q .sfits), word-of a (r .sfits), word-of b (s .sfits), word-of c (t .sfits))
 
 -- ---- steps
 
@@ -95,16 +103,16 @@ module _ {sound : Bool} {me : ℕ} {b m : List ℕ} (K : Known sound me b m) (s 
   here : Accepted b m
   here = K .0 .0 s
 
-  pub call-misnamed : {e : ℤ} → e ≡ cond (above x 1) (number H-CALL) (pos 0) → negative e ≡ true → Step (call x n a c d) b m (reply e 0 0 me 0) b m
+  pub call-misnamed : {e : ℤ} → e ≡ cond (above x 1) (number H-CALL) (pos 0) → Negative e → Step (call x n a c d) b m (reply e 0 0 me 0) b m
   call-misnamed {e} g z = go (above x 1) refl g
     where
       go : (t : Bool) → above x 1 ≡ t → e ≡ cond t (number H-CALL) (pos 0) → Step (call x n a c d) b m (reply e 0 0 me 0) b m
       go true q h =
           let j = misnamed (viewShown b m) x n a c d q in
           done-step (call x n a c d) b m b m here w (rw (j, h) (refuses-with H-CALL)) (rw j (releases-none H-CALL)) (K .1)
-      go false q h = absurd (true≢false (sym z ∙ ap negative h))
+      go false q h = absurd (true≢false (sym z ∙ ap (λ (y : ℤ). ltZ y (pos 0)) h))
 
-  pub call-done : {e : ℤ} → e ≡ cond (above x 1) (number H-CALL) (pos 0) → negative e ≡ false → {h : Bool} {i j k w1 w2 r : ℕ} {code : ℤ} {b′ m′ : List ℕ} → h ≡ eqb (nat x) 1 → j ≡ nat n → i ≡ cond h 0 me
+  pub call-done : {e : ℤ} → e ≡ cond (above x 1) (number H-CALL) (pos 0) → Silent e → {h : Bool} {i j k w1 w2 r : ℕ} {code : ℤ} {b′ m′ : List ℕ} → h ≡ eqb (nat x) 1 → j ≡ nat n → i ≡ cond h 0 me
       → JudgesAll h i j a c d code w1 w2 k b m b′ m′ → r ≡ runningOf b′ → Step (call x n a c d) b m (reply code w1 w2 r k) b′ m′
   unfolding number
   call-done {e} g z {h} {i} {j} {k} {w1} {w2} {r} {code} {b′} {m′} eh ej ei D er = go (above x 1) refl g
@@ -113,12 +121,30 @@ module _ {sound : Bool} {me : ℕ} {b m : List ℕ} (K : Known sound me b m) (s 
       v = viewShown b m
 
       go : (t : Bool) → above x 1 ≡ t → e ≡ cond t (number H-CALL) (pos 0) → Step (call x n a c d) b m (reply code w1 w2 r k) b′ m′
-      go true q l = absurd (true≢false (sym (ap negative l) ∙ z))
+      go true q l = absurd (true≢false (sym (ap (λ (y : ℤ). ltZ y (pos 0)) l) ∙ z))
       go false q l =
           let u : x ≡ context h = named-context x q ∙ ap context (sym eh) in
           let y : judge v (call (context h) (pos j) a c d) ≡ judge v (call x n a c d) = ap (λ (p : ℕ). judge v (call (context h) (pos p) a c d)) ej ∙ sym (numbered v h n a c d) ∙ ap (λ (p : ℤ). judge v (call p n a c d)) (sym u) in
           let R = D here (ei ∙ ap (cond h 0) (K .1 here)) in
           done-step (call x n a c d) b m b′ m′ here w (subst (λ (q : Verdict). Does q code w1 w2 b m b′ m′) y (R .0)) (R .1 ∙ ap (λ (q : Verdict). releases (q .acts)) y) (λ A. er ∙ running-law b′ m′ A)
+
+-- ---- events of five words, by the bits of the kind
+
+pub kind-tick : (k n a b c : ℤ) → SFits w32 k → ofZ w32 k ≡ 2 → eventOf k n a b c ≡ tick
+kind-tick k n a b c f e = rw (sym (toZ-ofZ f) ∙ ap (toZ w32) e)
+
+pub kind-call : (k n a b c : ℤ) → (ofZ w32 k ≡ 2 → ⊥) → eventOf k n a b c ≡ call k n a b c
+kind-call (pos zero) n a b c h = refl
+kind-call (pos (suc zero)) n a b c h = refl
+kind-call (pos (suc (suc zero))) n a b c h = absurd (h refl)
+kind-call (pos (suc (suc (suc k)))) n a b c h = refl
+kind-call (negsuc k) n a b c h = refl
+
+-- ---- the tick
+
+pub tick-done : {sound : Bool} {me : ℕ} {b m b′ : List ℕ} → Known sound me b m → sound ≡ true → {k r : ℕ} → DoesOnWords ticked (pos 0) 0 0 b b′ → FreesOnWords ticked k b → r ≡ runningOf b′ → Step tick b m (reply (pos 0) 0 0 r k) b′ m
+unfolding judge
+tick-done {b = b} {m = m} {b′ = b′} K s D F e = let A = K .0 .0 s in done-step tick b m b′ m A tt (D m A) (F m A) (λ A′. e ∙ running-law b′ m A′)
 
 -- ---- what is known
 

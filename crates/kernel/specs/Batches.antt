@@ -1,20 +1,21 @@
 -- Many events at once: `events` and `run`, on any memory and any lent outputs.
-use mathlib.Core.Bool.{cond}
+use mathlib.Core.Bool.{Bool, cond}
 use mathlib.Core.List.{List, [], _∷_, _++_, map}
 use mathlib.Core.Path.{_≡_}
 use Prim.Native.Nat.{ℕ, _+_, _*_, _/_, _%_}
 use lib.Dec.{eqb, leb}
-use lib.IntN.{ℤ}
-use lib.ListN.{length, drop, set}
+use lib.IntN.{ℤ, pos}
+use lib.ListN.{length, drop, getD, set}
 use Rattle.rules.specs.Setup.{Read, got, refused, digit, Setup, setup}
-use Rattle.rules.specs.Events.{eventsOf}
+use Rattle.rules.specs.Events.{Event, eventOf, eventsOf}
 use Rattle.boot.specs.declared.Started.the-variants.{Fresh}
 use Rattle.boot.specs.Starting.{Starts}
 use Rattle.kernel.specs.declared.batch.Batch.{Batch}
 use Rattle.kernel.specs.declared.batch.Batch.the-variants as Batch
 use Rattle.kernel.specs.declared.batch.Ran.{Ran}
 use Rattle.kernel.specs.declared.batch.Ran.the-variants as Ran
-use Rattle.kernel.specs.Steps.{Reply, Link, Chain, lastWords, lastMarks}
+use Rattle.kernel.specs.Serving.{Known}
+use Rattle.kernel.specs.Steps.{Reply, Step, Link, Chain, lastWords, lastMarks}
 
 -- ---- whether it runs
 
@@ -58,6 +59,22 @@ wordsOf (k ∷ l) = k .reply .w1 ∷ k .reply .w2 ∷ k .reply .runs ∷ k .repl
 -- the four words of answer i in their place
 abbrev pub answered : ℕ → ℕ → ℕ → ℕ → ℕ → List ℕ → List ℕ
 answered i w1 w2 runs released a = set (set (set (set a (4 * i) w1) (4 * i + 1) w2) (4 * i + 2) runs) (4 * i + 3) released
+
+-- event i of the given words
+abbrev pub eventAt : List ℤ → ℕ → Event
+eventAt given i = eventOf (getD given (5 * i) (pos 0)) (getD given (5 * i + 1) (pos 0)) (getD given (5 * i + 2) (pos 0)) (getD given (5 * i + 3) (pos 0)) (getD given (5 * i + 4) (pos 0))
+
+-- event i ran: a step, whose answer was written in its place; and this task runs now
+pub record EventRan (given : List ℤ) (i : ℕ) (old new : Lent) (now : ℕ) : Type 0 where
+  pub reply : Reply
+  pub step : Step (eventAt given i) (old .words) (old .marks) reply (new .words) (new .marks)
+  pub codes : new .codes ≡ set (old .codes) i (reply .code)
+  pub answers : new .answers ≡ answered i (reply .w1) (reply .w2) (reply .runs) (reply .released) (old .answers)
+  pub runs : now ≡ reply .runs
+
+-- for who knows whether the state is sound and who runs
+abbrev pub ServesAt : List ℤ → ℕ → Bool → ℕ → Lent → Lent → ℕ → Type 0
+ServesAt given i sound me old new now = Known sound me (old .words) (old .marks) → EventRan given i old new now
 
 -- The events ran one after the other: there is a chain of just these events, from the memory before to the memory after, and its codes and words
 -- are what was written.

@@ -40,8 +40,9 @@ module _ (handler : Bool) (me n : ℕ) (a b c : ℤ) where
   JudgesAll code w1 w2 k ws m ws′ m′ =
       Accepted ws m → me ≡ caller (viewShown ws m) handler → Does (verdict ws m) code w1 w2 ws m ws′ m′ × (k ≡ releases (verdict ws m .acts))
 
-  abbrev pub JudgesFreeing : ℤ → ℕ → ℕ → ℕ → List ℕ → List ℕ → List ℕ → List ℕ → Type 0
-  JudgesFreeing code w1 w2 k ws m ws′ m′ = mayRelease (pos n) ≡ true → JudgesAll code w1 w2 k ws m ws′ m′
+-- whatever its third word
+abbrev pub JudgesFreeing : Bool → ℕ → ℕ → ℤ → ℤ → ℤ → ℕ → ℕ → ℕ → List ℕ → List ℕ → List ℕ → List ℕ → Type 0
+JudgesFreeing handler me n a b code w1 w2 k ws m ws′ m′ = (c : ℤ) → mayRelease (pos n) ≡ true → JudgesAll handler me n a b c code w1 w2 k ws m ws′ m′
 
 -- one, if the call ended normally and there was one to release
 abbrev pub countedIf : ℤ → Bool → ℕ

@@ -8,7 +8,7 @@ use state::STATE_WORDS;
 ghost use mathlib.Core.Path.{_≡_};
 ghost use Prim.Native.Nat.{suc, _+_, _*_, _≤_};
 ghost use lib.ListN.{length, set};
-ghost use Rattle.kernel.specs.Batches.{fitOf, lent, answered, RanThrough, Batched, RunsFrom};
+ghost use Rattle.kernel.specs.Batches.{fitOf, lent, answered, ServesAt, RanThrough, Batched, RunsFrom};
 ghost use Rattle.kernel.specs.declared.batch.Batch.the-variants as Batch;
 
 // Done, or why nothing ran: the event words are no multiple of five; there is no place for each code; or for each event's four words.
@@ -64,6 +64,27 @@ fn write_code(codes: &mut [i32], i: usize, code: i32)
     codes[i] = code;
 }
 
+// Event i is served and its answer written. It is known whether the state is sound and, if so, that `me` runs. Gives who runs after it.
+fn serve_one(
+    words: &mut [u32; STATE_WORDS],
+    messages: &mut [u32; 256],
+    sound: bool,
+    me: u32,
+    events: &[i32],
+    i: usize,
+    codes: &mut [i32],
+    answers: &mut [u32],
+) -> u32
+    requires { ⌜ (5 * i + 5 ≤ length (now events)) × (suc i ≤ length (now codes)) × (4 * i + 4 ≤ length (now answers)) ⌝ }
+    ensures { λ r. ⌜ ServesAt (now (events .entry)) i sound me (lent (now (words .entry)) (now (messages .entry)) (now (codes .entry)) (now (answers .entry))) (lent (now (words .exit)) (now (messages .exit)) (now (codes .exit)) (now (answers .exit))) r ⌝ }
+{
+    let at = 5 * i;
+    let r = serve(words, messages, sound, me, events[at], events[at + 1], events[at + 2], events[at + 3], events[at + 4]);
+    write_code(codes, i, r.code);
+    write_words(answers, i, r);
+    r.running
+}
+
 // All events, where there is place for their answers.
 fn serve_all(
     words: &mut [u32; STATE_WORDS],
@@ -80,11 +101,7 @@ fn serve_all(
     let n = events.len() / 5;
     let mut i: usize = 0;
     while i < n {
-        let at = 5 * i;
-        let r = serve(words, messages, sound, me, events[at], events[at + 1], events[at + 2], events[at + 3], events[at + 4]);
-        write_code(codes, i, r.code);
-        write_words(answers, i, r);
-        me = r.running;
+        me = serve_one(words, messages, sound, me, events, i, codes, answers);
         i += 1;
     }
 }

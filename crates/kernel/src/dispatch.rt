@@ -39,7 +39,7 @@ use state::STATE_WORDS;
 ghost use mathlib.Core.Path.{_≡_};
 ghost use mathlib.Core.Bool.{not};
 ghost use lib.Dec.{eqb};
-ghost use lib.IntN.{ℤ, pos};
+ghost use lib.IntN.{pos};
 ghost use Rattle.rules.specs.Events.{nat};
 ghost use Rattle.rules.specs.Releases.{mayRelease};
 ghost use Rattle.calls.specs.Objects.{firstWaiter};
@@ -150,7 +150,7 @@ fn freeing(
     a: i32,
     b: i32,
 ) -> Done
-    ensures { λ r. ⌜ (c : ℤ) → JudgesFreeing handler me n a b c (r .code) (r .w1) (r .w2) (r .released) (now (words .entry)) (now (messages .entry)) (now (words .exit)) (now (messages .exit)) ⌝ }
+    ensures { λ r. ⌜ JudgesFreeing handler me n a b (r .code) (r .w1) (r .w2) (r .released) (now (words .entry)) (now (messages .entry)) (now (words .exit)) (now (messages .exit)) ⌝ }
 {
     match n {
         6 => counted(rel_wai(words, handler, me, a), true),

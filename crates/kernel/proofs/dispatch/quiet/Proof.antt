@@ -5,8 +5,9 @@ use Rattle.calls.specs.Rows.{StaTsk, ExtTsk, TerTsk, ChgPri, RotRdq, SusTsk, Rs
 use Rattle.calls.specs.Objects.{WaiSem, PreqSem, GetBlk, PgetBlk, SemSts, MplSts}
 use Rattle.calls.specs.Flags.{ClrFlg, WaiFlg, PolFlg, FlgSts, MbxSts}
 use Rattle.calls.specs.Messages.{RcvMsg, PrcvMsg}
+use Rattle.rules.specs.Codes.{number}
 use Rattle.calls.proofs.Entries.{entries, object-entries}
-use Rattle.kernel.proofs.Dispatched.{by-words, by-both}
+use Rattle.kernel.proofs.Dispatched.{by-words, by-both, no-call}
 use borrow.Author.Needs.{needs}
 use Rattle.kernel.proofs.dispatch.quiet.Statement.{statement}
 use Rattle.kernel.proofs.dispatch.quiet.Tie as tie
@@ -168,7 +169,8 @@ returns-26 : tie.Need-returns-26
 returns-26 c = let k = c .before .before in let g = k .before in by-words (g .args .handler) (g .args .a) (g .args .b) (g .args .c) 32 (λ me v. GetTim (g .args .handler) me v) (k .match .keys26) (λ v. entries (g .args .handler) v (g .args .a) (g .args .b) (g .args .c) .14) (c .get-tim .ensures) refl
 
 returns-27 : tie.Need-returns-27
-returns-27 c = ?
+unfolding number
+returns-27 c = no-call (c .before .args .handler) _ (c .before .args .a) (c .before .args .b) (c .before .args .c) (c .match .rest)
 
 pub quiet-spec : {M : Type 1} → statement M
 quiet-spec =
