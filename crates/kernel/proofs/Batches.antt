@@ -9,23 +9,38 @@ use lib.Dec.{eqb, leb}
 use lib.IntN.{ℤ, pos}
 use borrow.Author.Tests.{eqb-true, leb-true}
 use lib.ListN.{length, drop, getD, set, length-set, length-append, length-map, drop-of-length-le}
+use Rattle.rules.specs.Setup.{Read, got, refused, Setup, setup}
 use Rattle.rules.specs.Events.{Event, eventsOf}
 use Rattle.state.specs.Picture.{Accepted}
 use Rattle.guard.specs.Running.{runningOf}
+use Rattle.boot.specs.Starting.{StartsAs, Starts}
+use Rattle.boot.specs.declared.Started.{Started}
+use Rattle.boot.specs.declared.Started.the-variants.{Fresh, Refused}
 use Rattle.kernel.specs.declared.batch.Batch.{Batch}
 use Rattle.kernel.specs.declared.batch.Batch.the-variants.{Done, Ragged, FewCodes, FewWords}
+use Rattle.kernel.specs.declared.batch.Ran.{Ran}
+use Rattle.kernel.specs.declared.batch.Ran.the-variants as Ran
+use Rattle.kernel.specs.declared.batch.Ran.the-variants.{Unfit}
 use Rattle.kernel.specs.Serving.{Known}
 use Rattle.kernel.specs.Steps.{Reply, Step, Link, Chain, lastWords, lastMarks}
-use Rattle.kernel.specs.Batches.{fitOf, fitted, Lent, over, codesOf, wordsOf, answered, eventAt, EventRan, RanThrough}
+use Rattle.kernel.specs.Batches.{fitOf, fitted, Lent, over, codesOf, wordsOf, lent, answered, eventAt, EventRan, RanThrough, BatchedAs, Batched, RunsAs, RunsFrom}
 use Rattle.kernel.proofs.Served.{known-on, known-first}
 
 -- ---- sizes
 
-unfoldable isDone : Batch → Bool
+unfoldable pub isDone : Batch → Bool
 isDone Done = true
 isDone Ragged = false
 isDone FewCodes = false
 isDone FewWords = false
+
+unfoldable isFresh : Started → Bool
+isFresh Fresh = true
+isFresh (Refused d i) = false
+
+unfoldable toRan : Started → Ran
+toRan Fresh = Ran.Done
+toRan (Refused d i) = Ran.Refused d i
 
 -- what fits: whole events, and place for each
 fit-sizes : (e c a : ℕ) → fitOf e c a ≡ Done → (e % 5 ≡ 0) × (e / 5 ≤ c) × (4 * (e / 5) ≤ a)
@@ -211,3 +226,47 @@ goes-on {given} {sound} {me} {i} {now} {old} {new} {later} P R E = let e : suc i
 
 pub ends : {given : List ℤ} {sound : Bool} {me i : ℕ} {old new : Lent} → fitted given old ≡ Done → length given / 5 ≤ i → Running given sound me i old new → RanThrough given old new
 ends {given} {i = i} {old = old} {new = new} f h R = let q = fit-sizes (length given) (length (old .codes)) (length (old .answers)) f in all-run given i old new (omega (arith, h, q .0)) (R .so-far)
+
+-- ---- the contracts
+
+module _ (given : List ℤ) (old : Lent) {r : Batch} (e : r ≡ fitted given old) where
+  pub batch-done : (new : Lent) → r ≡ Done → RanThrough given old new → Batched given Done old new
+  unfolding Batched
+  batch-done new d R = let f : fitted given old ≡ Done = sym e ∙ d in rw f (refl, R)
+
+  pub batch-none : (x : Batch) → isDone x ≡ false → r ≡ x → Batched given x old old
+  unfolding Batched isDone
+  batch-none x z d = let f : fitted given old ≡ x = sym e ∙ d in rw f (refl, go x z)
+    where
+      go : (y : Batch) → isDone y ≡ false → BatchedAs y given old old
+      go Done z = absurd (false≢true (sym z))
+      go Ragged z = refl
+      go FewCodes z = refl
+      go FewWords z = refl
+
+  pub run-none : (s : List ℕ) (x : Batch) → isDone x ≡ false → r ≡ x → RunsFrom s given (Unfit x) old old
+  unfolding RunsFrom isDone
+  run-none s x z d = let f : fitted given old ≡ x = sym e ∙ d in rw f (go x z)
+    where
+      go : (y : Batch) → isDone y ≡ false → RunsAs y (setup s) s given (Unfit y) old old
+      go Done z = absurd (false≢true (sym z))
+      go Ragged z = (refl, refl)
+      go FewCodes z = (refl, refl)
+      go FewWords z = (refl, refl)
+
+  module _ (d : r ≡ Done) (s b m : List ℕ) (t : Started) (S : Starts s t (old .words) (old .marks) b m) where
+    pub run-done : (new : Lent) → t ≡ Fresh → RanThrough given (lent b m (old .codes) (old .answers)) new → RunsFrom s given Ran.Done old new
+    unfolding RunsFrom Starts isFresh
+    run-done new h R = let f : fitted given old ≡ Done = sym e ∙ d in rw f (go (setup s) refl (rw h at S))
+      where
+        go : (u : Read Setup) → setup s ≡ u → StartsAs u Fresh (old .words) (old .marks) b m → RunsAs Done u s given Ran.Done old new
+        go (got u i) q S = (refl, record { words = b; marks = m; starts = rw q S; ran = R })
+        go (refused f place) q S = absurd (false≢true (ap isFresh (sym (S .0))))
+
+    pub run-refused : (n i : ℕ) → t ≡ Refused n i → RunsFrom s given (Ran.Refused n i) old (lent b m (old .codes) (old .answers))
+    unfolding RunsFrom Starts isFresh toRan
+    run-refused n i h = let f : fitted given old ≡ Done = sym e ∙ d in rw f (go (setup s) (rw h at S))
+      where
+        go : (u : Read Setup) → StartsAs u (Refused n i) (old .words) (old .marks) b m → RunsAs Done u s given (Ran.Refused n i) old (lent b m (old .codes) (old .answers))
+        go (got u j) S = absurd (false≢true (ap isFresh (S .0)))
+        go (refused f place) S = (ap toRan (S .0), λ z. lent (S .1 z) (S .2 z) (old .codes) (old .answers))

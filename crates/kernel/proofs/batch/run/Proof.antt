@@ -1,3 +1,9 @@
+-- `kernel::batch::run` meets its contract: by whether the batch fits, and the start. Assumes nothing.
+use mathlib.Core.Path.{refl, sym, _∙_}
+use denote.Ref.{now}
+use Rattle.kernel.specs.declared.batch.Batch.the-variants.{Ragged, FewCodes, FewWords}
+use Rattle.kernel.specs.Batches.{lent}
+use Rattle.kernel.proofs.Batches.{isDone, run-done, run-refused, run-none}
 use borrow.Author.Needs.{needs}
 use Rattle.kernel.proofs.batch.run.Statement.{statement}
 use Rattle.kernel.proofs.batch.run.Tie as tie
@@ -15,7 +21,7 @@ enum-told-2 : tie.Need-enum-told-2
 enum-told-2 c = search needs
 
 serve-all-requires : tie.Need-serve-all-requires
-serve-all-requires c κs = ?
+serve-all-requires c κs = let e = c .before .before .before .before .before .before .before .before .before in sym (e .before .before .fit .ensures) ∙ e .enum-told .given .1
 
 enum-known-d : tie.Need-enum-known-d
 enum-known-d c = search needs
@@ -36,19 +42,43 @@ same-length-2 : tie.Need-same-length-2
 same-length-2 c = search needs
 
 returns : tie.Need-returns
-returns c = ?
+returns c =
+    let s = c .before .before .before in
+    let t = s .before .before .before .before .before in
+    let b = t .before .before in
+    let e = b .before .before .before in
+    let f = e .before .before in
+    let g = f .before .before .before in
+    run-done (now (g .args .events)) (lent (now (g .args .words)) (now (g .args .messages)) (now (g .args .codes)) (now (g .args .answers))) (f .fit .ensures) (e .enum-told .given .1) (now (g .args .setup)) _ _ _ (b .start .ensures) _ (t .enum-told2 .given .1) (s .serve-all .ensures)
 
 returns-2 : tie.Need-returns-2
-returns-2 c = ?
+returns-2 c =
+    let b = c .before .before .before in
+    let e = b .before .before .before in
+    let f = e .before .before in
+    let g = f .before .before .before in
+    run-refused (now (g .args .events)) (lent (now (g .args .words)) (now (g .args .messages)) (now (g .args .codes)) (now (g .args .answers))) (f .fit .ensures) (e .enum-told .given .1) (now (g .args .setup)) _ _ _ (b .start .ensures) _ _ (c .before .d .given .1)
 
 returns-3 : tie.Need-returns-3
-returns-3 c = ?
+unfolding isDone
+returns-3 c =
+    let f = c .before .before in
+    let g = f .before .before .before in
+    run-none (now (g .args .events)) (lent (now (g .args .words)) (now (g .args .messages)) (now (g .args .codes)) (now (g .args .answers))) (f .fit .ensures) (now (g .args .setup)) Ragged refl (c .enum-told3 .given .1)
 
 returns-4 : tie.Need-returns-4
-returns-4 c = ?
+unfolding isDone
+returns-4 c =
+    let f = c .before .before in
+    let g = f .before .before .before in
+    run-none (now (g .args .events)) (lent (now (g .args .words)) (now (g .args .messages)) (now (g .args .codes)) (now (g .args .answers))) (f .fit .ensures) (now (g .args .setup)) FewCodes refl (c .enum-told4 .given .1)
 
 returns-5 : tie.Need-returns-5
-returns-5 c = ?
+unfolding isDone
+returns-5 c =
+    let f = c .before .before in
+    let g = f .before .before .before in
+    run-none (now (g .args .events)) (lent (now (g .args .words)) (now (g .args .messages)) (now (g .args .codes)) (now (g .args .answers))) (f .fit .ensures) (now (g .args .setup)) FewWords refl (c .enum-told5 .given .1)
 
 pub run-spec : {M : Type 1} → statement M
 run-spec =
