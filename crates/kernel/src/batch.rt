@@ -79,7 +79,17 @@ fn serve_one(
     ensures { λ r. ⌜ ServesAt (now (events .entry)) i sound me (lent (now (words .entry)) (now (messages .entry)) (now (codes .entry)) (now (answers .entry))) (lent (now (words .exit)) (now (messages .exit)) (now (codes .exit)) (now (answers .exit))) r ⌝ }
 {
     let at = 5 * i;
-    let r = serve(words, messages, sound, me, events[at], events[at + 1], events[at + 2], events[at + 3], events[at + 4]);
+    let r = serve(
+        words,
+        messages,
+        sound,
+        me,
+        events[at],
+        events[at + 1],
+        events[at + 2],
+        events[at + 3],
+        events[at + 4],
+    );
     write_code(codes, i, r.code);
     write_words(answers, i, r);
     r.running
