@@ -18,10 +18,9 @@ use Rattle.state.specs.Layout as Layout
 use Rattle.state.specs.Moves.{entry}
 use Rattle.state.specs.Picture.{tasksShown, storeShown, bodyShown, anchor, lineShown, viewShown, ready-queue, Accepted}
 use Rattle.guard.specs.Running.{headAt, runningOf}
-use Rattle.guard.proofs.Lowest.{HeadOf}
+use Rattle.guard.proofs.Lowest.{HeadOf, head-of}
 use Rattle.guard.proofs.Accepts.{running-law}
 use Rattle.calls.specs.Reading.{turnAt}
-use Rattle.calls.proofs.Objected.{head-of}
 
 -- of the first nonempty line
 nonempty-head : (n : ℕ) (L : ℕ → List ℕ) (k c : ℕ) → ((q : ℕ) → k ≤ q → q < k + c → All (IsId n) (L q)) → HeadOf (first (nonempty (map L (from k c)))) (nonempty (map L (from k c)))

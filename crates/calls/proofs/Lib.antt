@@ -10,14 +10,3 @@ pub mod Heads
 pub mod AskCalls
 pub mod Ticks
 pub mod Done
-pub mod Entries
-pub mod Objected
-pub mod SemaphoreCalls
-pub mod Blocks
-pub mod PoolCalls
-pub mod FlagCalls
-pub mod FlagBits
-pub mod FlagSteps
-pub mod FlagWalk
-pub mod MessageCalls
-pub mod SendCalls

@@ -4,8 +4,3 @@ pub mod Judging
 pub mod Reading
 pub mod Rows
 pub mod Ticking
-pub mod Objects
-pub mod Blocks
-pub mod Flags
-pub mod Serving
-pub mod Messages

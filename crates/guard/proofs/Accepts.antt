@@ -15,7 +15,7 @@ use Rattle.rules.specs.Sound.{Unserved, SoundTask, SoundBody, Queue}
 use Rattle.rules.proofs.Ids.{length-ids}
 use Rattle.rules.proofs.Lines.{line-tabulate, shape-tabulate}
 use Rattle.rings.specs.Links.{firstOf}
-use Rattle.rings.specs.Rings.{IsId, All, headOf, lineOf}
+use Rattle.rings.specs.Rings.{lineOf}
 use Rattle.rings.proofs.Laws.{first-law}
 use Rattle.state.specs.Layout as Layout
 use Rattle.state.specs.Layout.{stateWords, words}
@@ -29,7 +29,7 @@ use Rattle.guard.proofs.Ranges.{Ranges, sound-task, task-numbers, range
 use Rattle.guard.proofs.Homes.{Keeps}
 use Rattle.guard.proofs.Queued.{task-is, tasks-law, mails-law}
 use Rattle.guard.proofs.Unserved.{unserved-law}
-use Rattle.guard.proofs.Lowest.{HeadOf, lowest-first}
+use Rattle.guard.proofs.Lowest.{HeadOf, head-of, lowest-first}
 
 -- ---- a queue, and a line that holds just those that belong to it
 
@@ -131,12 +131,6 @@ module _ (b msgs : List ℕ) where
   queues-of : Accepted b msgs → (q : Place) → Exists (storeShown b msgs) q → Queue (bodyShown b msgs) q (line (viewShown b msgs) q)
   unfolding viewShown bodyShown
   queues-of A q h = A .sound .queues q h
-
--- ---- the running task
-
-head-of : (n v : ℕ) (l : List ℕ) → v ≡ headOf l 0 → All (IsId n) l → HeadOf v l
-head-of n v [] e h = e
-head-of n v (x ∷ l) e h = (e, h .0 .0)
 
 -- THE THEOREMS
 

@@ -10,6 +10,7 @@ use lib.Dec.{eqb}
 use borrow.Author.Tests.{eq-eqb, ne-eqb}
 use Rattle.rules.specs.Ids.{from, first}
 use Rattle.rules.specs.View.{nonempty}
+use Rattle.rings.specs.Rings.{IsId, All, headOf}
 use Rattle.guard.specs.Running.{headAt, marksOf, lowestMark}
 
 module _ (b : List ℕ) where
@@ -47,6 +48,11 @@ lowest-none (suc k) p = lowest-none k (suc p)
 abbrev pub HeadOf : ℕ → List ℕ → Type 0
 HeadOf v [] = v ≡ 0
 HeadOf v (x ∷ l) = (v ≡ x) × (1 ≤ x)
+
+-- so is the first node of a ring whose ids are in range
+pub head-of : (n v : ℕ) (l : List ℕ) → v ≡ headOf l 0 → All (IsId n) l → HeadOf v l
+head-of n v [] e h = e
+head-of n v (x ∷ l) e h = (e, h .0 .0)
 
 module _ (b : List ℕ) (L : ℕ → List ℕ) where
   -- the head of the queue that the lowest of n marks from p on names; k bits are searched

@@ -1,8 +1,8 @@
 -- Laws of the kernel.
 pub mod Promised
 pub mod Served
-pub mod Dispatched
 pub mod Batches
+pub mod Outcomes
 pub mod Chains
 pub mod Demands
 pub mod Clocks

@@ -32,7 +32,8 @@ use Rattle.calls.proofs.Done.{does-law}
 use Rattle.calls.proofs.Judged.{Negative, Silent}
 use Rattle.calls.proofs.Verdicts.{refuses-with}
 use Rattle.kernel.specs.Steps.{Reply, reply, told, unsound, Step}
-use Rattle.kernel.specs.Serving.{context, Known, Serves, JudgesAll}
+use Rattle.dispatch.specs.Calling.{context, JudgesAll}
+use Rattle.kernel.specs.Serving.{Known}
 
 -- ---- words
 

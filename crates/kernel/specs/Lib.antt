@@ -3,4 +3,5 @@ pub mod Promises
 pub mod Steps
 pub mod Serving
 pub mod Batches
+pub mod Exports
 pub mod Demands

@@ -11,6 +11,7 @@ ghost use Rattle.kernel.specs.Promises as Promises;
 ghost use Rattle.kernel.specs.Promises.{Reads, Runs};
 
 // An answer cell: code and word.
+#[repr(C)]
 pub struct Reading {
     pub code: i32,
     pub word: u32,

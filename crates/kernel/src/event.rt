@@ -1,6 +1,6 @@
 // Every event on every memory: a call, and the tick. Nobody has to check first.
-use crate::dispatch::Done;
-use crate::dispatch::dispatch;
+use dispatch::Done;
+use dispatch::dispatch;
 use calls::judging::named;
 use calls::judging::unless_upto;
 use guard::check::accepts;
@@ -17,6 +17,7 @@ ghost use Rattle.kernel.specs.Steps.{reply, unsound, Step};
 ghost use Rattle.kernel.specs.Serving.{Serves};
 
 // What comes back of an event: code, two words, the running task after it, and the number of tasks released.
+#[repr(C)]
 pub struct Answer {
     pub code: i32,
     pub w1: u32,

@@ -3,5 +3,5 @@
 // once, `cell` reads an answer cell, `running` names the running task.
 pub mod batch;
 pub mod cell;
-pub mod dispatch;
 pub mod event;
+pub mod exports;

@@ -1,0 +1,2 @@
+-- What a call by its number does.
+pub mod Calling

@@ -1,0 +1,212 @@
+/* Okrozumba, a small uITRON kernel: its functions for C and C++.
+
+   `rt staticlib kernel` proves the kernel and writes target/staticlib/libkernel.a, which defines them for x86-64 Linux. The archive asks
+   of the C library no more than memset and keeps nothing between calls: all there is of a kernel is the okrozumba_state that the caller
+   owns.
+
+   No function has to be preceded by a check. Each is defined for every setup, every event and every content of the state, and says by its
+   answer what was wrong. All that is asked of a caller is asked of its pointers: none is null, each leads to as many elements as its type
+   or the length behind it says, and what a function writes overlaps with nothing else that it is given. */
+#ifndef OKROZUMBA_H
+#define OKROZUMBA_H
+
+#include <stddef.h>
+#include <stdint.h>
+
+#ifdef __cplusplus
+extern "C" {
+#endif
+
+/* ---- the state */
+
+#define OKROZUMBA_STATE_WORDS 1180
+#define OKROZUMBA_MESSAGES 256
+
+/* The kernel's memory, 5744 bytes. Only the functions below give its words a meaning. A copy of it is a second kernel in the same state. */
+typedef struct okrozumba_state {
+    uint32_t words[OKROZUMBA_STATE_WORDS];
+    uint32_t messages[OKROZUMBA_MESSAGES];
+} okrozumba_state;
+
+/* ---- events */
+
+/* The context of a call; and the kind of an event, which is a call's context or a tick. */
+enum {
+    OKROZUMBA_TASK = 0,    /* the running task calls */
+    OKROZUMBA_HANDLER = 1, /* an interrupt handler calls */
+    OKROZUMBA_TICK = 2     /* no call: the clock rises by one */
+};
+
+/* The calls, by number. Those marked T are for tasks only; the words that each takes stand behind it. */
+enum {
+    OKROZUMBA_STA_TSK = 1,   /* task */
+    OKROZUMBA_EXT_TSK = 2,   /* T */
+    OKROZUMBA_TER_TSK = 3,   /* T, task */
+    OKROZUMBA_CHG_PRI = 4,   /* task, priority */
+    OKROZUMBA_ROT_RDQ = 5,   /* priority, 0 for the running task's */
+    OKROZUMBA_REL_WAI = 6,   /* task */
+    OKROZUMBA_SUS_TSK = 7,   /* task */
+    OKROZUMBA_RSM_TSK = 8,   /* task */
+    OKROZUMBA_SLP_TSK = 9,   /* T */
+    OKROZUMBA_WAI_TSK = 10,  /* T, ticks, or OKROZUMBA_FOR_EVER */
+    OKROZUMBA_WUP_TSK = 11,  /* task */
+    OKROZUMBA_CAN_WUP = 12,  /* task; w1 the old count */
+    OKROZUMBA_SIG_SEM = 13,  /* semaphore */
+    OKROZUMBA_WAI_SEM = 14,  /* T, semaphore */
+    OKROZUMBA_PREQ_SEM = 15, /* semaphore */
+    OKROZUMBA_SET_FLG = 16,  /* flag, pattern */
+    OKROZUMBA_CLR_FLG = 17,  /* flag, pattern */
+    OKROZUMBA_WAI_FLG = 18,  /* T, flag, pattern, mode; w1 the pattern before clearing */
+    OKROZUMBA_POL_FLG = 19,  /* flag, pattern, mode; w1 the same */
+    OKROZUMBA_SND_MSG = 20,  /* mailbox, message */
+    OKROZUMBA_RCV_MSG = 21,  /* T, mailbox; w1 the message */
+    OKROZUMBA_PRCV_MSG = 22, /* mailbox; w1 the message */
+    OKROZUMBA_GET_BLK = 23,  /* T, pool; w1 the block */
+    OKROZUMBA_PGET_BLK = 24, /* pool; w1 the block */
+    OKROZUMBA_REL_BLK = 25,  /* pool, block */
+    OKROZUMBA_GET_TID = 26,  /* w1 the running task */
+    OKROZUMBA_TSK_STS = 27,  /* task; w1 its state, w2 its priority */
+    OKROZUMBA_SEM_STS = 28,  /* semaphore; w1 the first waiter or 0, w2 the count */
+    OKROZUMBA_FLG_STS = 29,  /* flag; w1 the first waiter or 0, w2 the pattern */
+    OKROZUMBA_MBX_STS = 30,  /* mailbox; w1 the first waiter or 0, w2 the first message or 0 */
+    OKROZUMBA_MPL_STS = 31,  /* pool; w1 the first waiter or 0, w2 the number of free blocks */
+    OKROZUMBA_GET_TIM = 32   /* the clock: w1 its quotient by 2^32, w2 the remainder */
+};
+
+/* The time of wai_tsk that never ends. */
+#define OKROZUMBA_FOR_EVER (-1)
+
+/* The mode of a wait for a flag: 0 asks for all bits of the pattern; add these up. */
+enum {
+    OKROZUMBA_ANY_BIT = 1,
+    OKROZUMBA_CLEAR_ALL = 2 /* on success the flag's pattern becomes 0 */
+};
+
+/* What tsk_sts gives as a task's state. */
+enum {
+    OKROZUMBA_DORMANT = 0,
+    OKROZUMBA_READY = 1,
+    OKROZUMBA_RUN = 2,
+    OKROZUMBA_WAIT = 3,
+    OKROZUMBA_SUSPEND = 4,
+    OKROZUMBA_WAIT_SUSPEND = 5
+};
+
+/* ---- codes */
+
+/* An event with a negative code changed nothing. */
+enum {
+    OKROZUMBA_E_OK = 0,
+    OKROZUMBA_WAITS = 1,          /* the caller waits: its answer will be in its cell */
+    OKROZUMBA_H_CALL = -1,        /* call number not 1..32, or context not 0 or 1 */
+    OKROZUMBA_H_PAR = -2,         /* flag pattern 0 in a wait or poll, mode not 0..3, message number outside 1..count */
+    OKROZUMBA_H_NODMT = -3,       /* sta_tsk on a task not dormant */
+    OKROZUMBA_H_SUS = -4,         /* sus_tsk on a suspended task */
+    OKROZUMBA_H_POLL = -5,        /* a poll that can't be served at once */
+    OKROZUMBA_H_MSG = -6,         /* the message already lies in a mailbox */
+    OKROZUMBA_H_STATE = -9,       /* the state is damaged */
+    OKROZUMBA_H_ILBLK = -10,      /* block number outside the pool, or free */
+    OKROZUMBA_E_TPRI = -1830,     /* priority outside 1..P (rot_rdq: 0..P) */
+    OKROZUMBA_E_ILTIME = -1831,   /* wai_tsk time below -1 */
+    OKROZUMBA_E_SELF = -2097,     /* ter_tsk, sus_tsk or wup_tsk on oneself, task context */
+    OKROZUMBA_E_NOEXS = -2100,    /* id outside 1..count */
+    OKROZUMBA_E_DMT = -2101,      /* ter_tsk, chg_pri, sus_tsk, wup_tsk or can_wup on a dormant task */
+    OKROZUMBA_E_NOSUS = -2104,    /* rsm_tsk on a task not suspended */
+    OKROZUMBA_E_NOWAI = -2110,    /* rel_wai on a task not waiting */
+    OKROZUMBA_E_CTX = -2629,      /* task-only call from a handler; task context while nothing runs */
+    OKROZUMBA_E_QOVR = -2889,     /* wake-up count already 15; semaphore already 65535 */
+    OKROZUMBA_E_TMOUT = -3413,    /* wai_tsk with time 0 and no wake-up stored; in a cell, time ran out */
+    OKROZUMBA_E_RLWAI = -3414     /* only in a cell: wait broken off */
+};
+
+/* ---- answers */
+
+/* What comes back of an event. w1 and w2 are 0 unless a call names them. */
+typedef struct okrozumba_answer {
+    int32_t code;
+    uint32_t w1;
+    uint32_t w2;
+    uint32_t running;  /* the running task after the event, 0 if none */
+    uint32_t released; /* the number of tasks released from a wait */
+} okrozumba_answer;
+
+/* An answer cell: the code that a task's last wait ended with, and the pattern, message or block that it got. It is 0 and 0 from a start of
+   the task to the end of its first wait. */
+typedef struct okrozumba_reading {
+    int32_t code;
+    uint32_t word;
+} okrozumba_reading;
+
+/* What came of a start or a run. The place is the offset of the setup's fault in bytes, 0 if there is none. */
+typedef struct okrozumba_outcome {
+    uint32_t number;
+    size_t place;
+} okrozumba_outcome;
+
+/* The number of an outcome: 0, or why nothing was done and nothing was written. */
+#define OKROZUMBA_DONE 0
+
+/* of a start: the setup's fault */
+enum {
+    OKROZUMBA_S1 = 1, /* the bytes end before a needed word is whole */
+    OKROZUMBA_S2 = 2, /* a count outside its range */
+    OKROZUMBA_S3 = 3, /* an entry outside its range */
+    OKROZUMBA_S4 = 4  /* bytes left over */
+};
+
+/* of many events */
+enum {
+    OKROZUMBA_RAGGED = 1,    /* the event words are no multiple of five */
+    OKROZUMBA_FEW_CODES = 2, /* no place for a code of each event */
+    OKROZUMBA_FEW_WORDS = 3  /* no place for four words of each event */
+};
+
+/* of a run: those of many events, then the setup's fault */
+enum {
+    OKROZUMBA_RUN_S1 = 11,
+    OKROZUMBA_RUN_S2 = 12,
+    OKROZUMBA_RUN_S3 = 13,
+    OKROZUMBA_RUN_S4 = 14
+};
+
+/* ---- functions */
+
+/* Makes the fresh state of a setup, whatever the memory held: OKROZUMBA_DONE. A setup with a fault, OKROZUMBA_S1 to _S4, leaves the memory
+   as it was. It judges the setup itself. */
+okrozumba_outcome okrozumba_start(const uint8_t *setup, size_t setup_bytes, uint32_t words[OKROZUMBA_STATE_WORDS],
+                                  uint32_t messages[OKROZUMBA_MESSAGES]);
+
+/* A call from a context (OKROZUMBA_TASK, OKROZUMBA_HANDLER) by its number; words that the call does not take are ignored. On a damaged
+   state: H_STATE, all else 0, and the state as it was. It looks for damage itself. */
+okrozumba_answer okrozumba_call(uint32_t words[OKROZUMBA_STATE_WORDS], uint32_t messages[OKROZUMBA_MESSAGES], int32_t context,
+                                int32_t number, int32_t a, int32_t b, int32_t c);
+
+/* A tick: the clock rises, and timed waits that run out end. On a damaged state: H_STATE, all else 0, and the state as it was. It looks
+   for damage itself. */
+okrozumba_answer okrozumba_tick(uint32_t words[OKROZUMBA_STATE_WORDS], const uint32_t messages[OKROZUMBA_MESSAGES]);
+
+/* Reads the answer cell of a task. On a damaged state H_STATE, then for a bad id E_NOEXS, each with word 0. It looks for damage itself. */
+okrozumba_reading okrozumba_cell(const uint32_t words[OKROZUMBA_STATE_WORDS], const uint32_t messages[OKROZUMBA_MESSAGES], int32_t task);
+
+/* The running task; 0 if there is none, and on a damaged state. It looks for damage itself. */
+uint32_t okrozumba_running(const uint32_t words[OKROZUMBA_STATE_WORDS], const uint32_t messages[OKROZUMBA_MESSAGES]);
+
+/* Events one after the other, five words each: kind, number, a, b, c (of a tick only the kind counts). The code of event i goes to
+   codes[i], its w1, w2, running and released to answers[4 i] and the next three; what lies behind the last is left. The answers are those
+   of one call after the other, and it is quicker: the state is looked at for damage once. On a damaged state every event is answered with
+   H_STATE and zeros. Returns OKROZUMBA_DONE, or OKROZUMBA_RAGGED, _FEW_CODES or _FEW_WORDS, the first that applies, with nothing
+   written. */
+uint32_t okrozumba_events(uint32_t words[OKROZUMBA_STATE_WORDS], uint32_t messages[OKROZUMBA_MESSAGES], const int32_t *events,
+                          size_t event_words, int32_t *codes, size_t code_places, uint32_t *answers, size_t answer_words);
+
+/* A start and then events, whatever the memory held: OKROZUMBA_DONE. With nothing written it is refused as okrozumba_events, and then, if
+   the setup has a fault, with OKROZUMBA_RUN_S1 to _S4. It judges the setup itself. */
+okrozumba_outcome okrozumba_run(const uint8_t *setup, size_t setup_bytes, uint32_t words[OKROZUMBA_STATE_WORDS],
+                                uint32_t messages[OKROZUMBA_MESSAGES], const int32_t *events, size_t event_words, int32_t *codes,
+                                size_t code_places, uint32_t *answers, size_t answer_words);
+
+#ifdef __cplusplus
+}
+#endif
+
+#endif
