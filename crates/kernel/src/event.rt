@@ -1,5 +1,4 @@
 // Every event on every memory: a call, and the tick. Nobody has to check first.
-use dispatch::Done;
 use dispatch::dispatch;
 use calls::judging::named;
 use calls::judging::unless_upto;
@@ -76,11 +75,12 @@ fn serve_call(
     let handler = named(context) == 1;
     let n = named(number);
     let d = dispatch(words, messages, handler, caller(handler, me), n, a, b, c);
+    let runs = running_task(words);
     Answer {
         code: d.code,
         w1: d.w1,
         w2: d.w2,
-        running: running_task(words),
+        running: runs,
         released: d.released,
     }
 }
@@ -93,11 +93,12 @@ fn serve_tick(words: &mut [u32; STATE_WORDS], messages: &[u32; 256], sound: bool
         return damaged();
     }
     let n = calls::tick::tick(words);
+    let after = running_task(words);
     Answer {
         code: 0,
         w1: 0,
         w2: 0,
-        running: running_task(words),
+        running: after,
         released: n,
     }
 }
@@ -144,6 +145,6 @@ pub fn tick(words: &mut [u32; STATE_WORDS], messages: &[u32; 256]) -> Answer
     ensures { λ r. ⌜ Step Events.tick (now (words .entry)) (now (messages .entry)) (reply (r .code) (r .w1) (r .w2) (r .running) (r .released)) (now (words .exit)) (now (messages .entry)) ⌝ }
 {
     let sound = accepts(words, messages);
-    let me = running_task(words);
-    serve_tick(words, messages, sound, me)
+    let now = running_task(words);
+    serve_tick(words, messages, sound, now)
 }
