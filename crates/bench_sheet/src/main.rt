@@ -13,15 +13,15 @@
 //   E x y z      the events since the last F, W or M at once, by `events`: the list x words too short, with place for y codes and z
 //                words too few
 //   R x y z n    the same by `run`, over the setup's first n bytes
-mod events;
+mod turns;
 mod memory;
 mod text;
 
-use crate::events::at_once;
-use crate::events::counted;
-use crate::events::event;
-use crate::events::keep;
-use crate::events::stray;
+use crate::turns::at_once;
+use crate::turns::counted;
+use crate::turns::event;
+use crate::turns::keep;
+use crate::turns::stray;
 use crate::memory::cell;
 use crate::memory::damages;
 use crate::memory::lay;

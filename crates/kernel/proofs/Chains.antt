@@ -18,7 +18,7 @@ use Rattle.boot.specs.Starting.{Starts}
 use Rattle.boot.specs.declared.Started.{Started}
 use Rattle.boot.proofs.Fresh.{Holds}
 use Rattle.kernel.specs.Promises.{Runs}
-use Rattle.kernel.specs.Steps.{Reply, told, Step, Link, Chain, lastWords, lastMarks}
+use Rattle.events.specs.Steps.{Reply, told, Step, Link, Chain, lastWords, lastMarks}
 use Rattle.kernel.specs.Demands.{CellIs}
 
 -- a start leaves the fresh state of its setup

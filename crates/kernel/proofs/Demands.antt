@@ -26,7 +26,7 @@ use Rattle.state.specs.Picture.{viewShown, Accepted}
 use Rattle.boot.specs.Starting.{Starts}
 use Rattle.boot.specs.declared.Started.{Started}
 use Rattle.boot.proofs.Fresh.{Holds}
-use Rattle.kernel.specs.Steps.{Reply, told, Step, Link, Chain}
+use Rattle.events.specs.Steps.{Reply, told, Step, Link, Chain}
 use Rattle.kernel.specs.Demands.{Same, seen, Demand3OnCode, OutNotGranted, BlocksOnce, stateIn, StaysBrokenOnCode}
 use Rattle.kernel.proofs.Chains.{start-holds, cell-is, step-holds, step-says}
 

@@ -1,7 +1,5 @@
 -- Laws of the kernel.
 pub mod Promised
-pub mod Served
-pub mod Batches
 pub mod Outcomes
 pub mod Chains
 pub mod Demands

@@ -5,10 +5,10 @@ use Prim.Native.Nat.{ℕ, _+_, _≤_}
 use native.Mathlib.Omega.{arith}
 use lib.IntN.{ℤ}
 use Rattle.rules.specs.Setup.{Fault, S1, S2, S3, S4, digit, Read, got, refused, Setup, setup}
-use Rattle.kernel.specs.declared.batch.Batch.{Batch}
-use Rattle.kernel.specs.declared.batch.Batch.the-variants as Batch
-use Rattle.kernel.specs.declared.batch.Ran.{Ran}
-use Rattle.kernel.specs.Batches.{Lent, fitted, RunsAs, RunsFrom}
+use Rattle.events.specs.declared.batch.Batch.{Batch}
+use Rattle.events.specs.declared.batch.Batch.the-variants as Batch
+use Rattle.events.specs.declared.batch.Ran.{Ran}
+use Rattle.events.specs.Batches.{Lent, fitted, RunsAs, RunsFrom}
 use Rattle.kernel.specs.Exports.{ranNumber}
 
 of-fault : (f : Fault) → 10 + digit f ≤ 14

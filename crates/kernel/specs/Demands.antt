@@ -23,7 +23,7 @@ use Rattle.boot.specs.Starting.{Starts}
 use Rattle.boot.specs.declared.Started.{Started}
 use Rattle.boot.specs.declared.Started.the-variants.{Fresh}
 use Rattle.kernel.specs.Promises.{Reads, Runs}
-use Rattle.kernel.specs.Steps.{Reply, told, Link, Chain, lastWords, lastMarks}
+use Rattle.events.specs.Steps.{Reply, told, Link, Chain, lastWords, lastMarks}
 
 -- whatever `cell` reads of a task in this memory is this cell
 abbrev pub CellIs : List ℕ → List ℕ → ℤ → Cell → Type 0

@@ -6,10 +6,10 @@ use lib.IntN.{ℤ}
 use Rattle.boot.specs.Starting.{Starts}
 use Rattle.boot.specs.declared.Started.{Started}
 use Rattle.boot.specs.declared.Started.the-variants as Started
-use Rattle.kernel.specs.declared.batch.Batch.{Batch}
-use Rattle.kernel.specs.declared.batch.Ran.{Ran}
-use Rattle.kernel.specs.declared.batch.Ran.the-variants as Ran
-use Rattle.kernel.specs.Batches.{batchNumber, Lent, Batched, RunsFrom}
+use Rattle.events.specs.declared.batch.Batch.{Batch}
+use Rattle.events.specs.declared.batch.Ran.{Ran}
+use Rattle.events.specs.declared.batch.Ran.the-variants as Ran
+use Rattle.events.specs.Batches.{batchNumber, Lent, Batched, RunsFrom}
 
 -- ---- numbers and places
 

@@ -1,17 +1,17 @@
 // The public functions under plain names, for programs in C and Rust: include/okrozumba.h declares them. Each promises what the
 // function that it wraps promises; an answer that is an enum there is told by its number and place here (specs/Exports.antt).
-use crate::batch::Batch;
-use crate::batch::Ran;
+use events::batch::Batch;
+use events::batch::Ran;
 use crate::cell::Reading;
-use crate::event::Answer;
+use events::event::Answer;
 use boot::Started;
 use state::STATE_WORDS;
 ghost use mathlib.Core.Path.{_≡_};
 ghost use Prim.Native.Nat.{_≤_};
 ghost use Rattle.rules.specs.Events as Events;
-ghost use Rattle.kernel.specs.Steps.{reply, Step};
+ghost use Rattle.events.specs.Steps.{reply, Step};
 ghost use Rattle.kernel.specs.Promises.{Reads, Runs};
-ghost use Rattle.kernel.specs.Batches.{batchNumber, lent};
+ghost use Rattle.events.specs.Batches.{batchNumber, lent};
 ghost use Rattle.kernel.specs.Exports.{startNumber, startPlace, ranNumber, ranPlace, StartsTold, BatchedTold, RunsTold};
 
 // An enum's number; and the place of a setup's fault, else 0.
@@ -65,7 +65,7 @@ pub extern "C" fn okrozumba_call(
 ) -> Answer
     ensures { λ r. ⌜ Step (Events.call context number a b c) (now (words .entry)) (now (messages .entry)) (reply (r .code) (r .w1) (r .w2) (r .running) (r .released)) (now (words .exit)) (now (messages .exit)) ⌝ }
 {
-    crate::event::call(words, messages, context, number, a, b, c)
+    events::event::call(words, messages, context, number, a, b, c)
 }
 
 // A tick.
@@ -73,7 +73,7 @@ pub extern "C" fn okrozumba_call(
 pub extern "C" fn okrozumba_tick(words: &mut [u32; STATE_WORDS], messages: &[u32; 256]) -> Answer
     ensures { λ r. ⌜ Step Events.tick (now (words .entry)) (now (messages .entry)) (reply (r .code) (r .w1) (r .w2) (r .running) (r .released)) (now (words .exit)) (now (messages .entry)) ⌝ }
 {
-    crate::event::tick(words, messages)
+    events::event::tick(words, messages)
 }
 
 // ---- reading
@@ -122,7 +122,7 @@ pub extern "C" fn okrozumba_events(
 ) -> u32
     ensures { λ r. ⌜ BatchedTold (now (events .entry)) r (lent (now (words .entry)) (now (messages .entry)) (now (codes .entry)) (now (answers .entry))) (lent (now (words .exit)) (now (messages .exit)) (now (codes .exit)) (now (answers .exit))) ⌝ }
 {
-    batch_number(crate::batch::events(words, messages, events, codes, answers))
+    batch_number(events::batch::events(words, messages, events, codes, answers))
 }
 
 // A setup's fault has a digit of 1 to 4.
@@ -158,5 +158,5 @@ pub extern "C" fn okrozumba_run(
 ) -> Outcome
     ensures { λ r. ⌜ RunsTold (now (setup .entry)) (now (events .entry)) (r .number) (r .place) (lent (now (words .entry)) (now (messages .entry)) (now (codes .entry)) (now (answers .entry))) (lent (now (words .exit)) (now (messages .exit)) (now (codes .exit)) (now (answers .exit))) ⌝ }
 {
-    run_outcome(crate::batch::run(setup, words, messages, events, codes, answers))
+    run_outcome(events::batch::run(setup, words, messages, events, codes, answers))
 }

@@ -1,7 +1,4 @@
-// The kernel over its memory, for a caller that need check nothing: every function is defined on every memory and every word.
-// `boot::start` makes the fresh state of a setup, `call` and `tick` carry it from event to event, `events` and `run` take many events at
-// once, `cell` reads an answer cell, `running` names the running task.
-pub mod batch;
+// The kernel for its users: `cell` reads an answer cell and names the running task, `exports` has all public functions under plain names for C
+// and Rust. Events are served by the crate `events`, a fresh state is made by `boot`. proofs/ has the theorems on every chain of events.
 pub mod cell;
-pub mod event;
 pub mod exports;

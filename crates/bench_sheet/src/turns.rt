@@ -1,0 +1,276 @@
+// Events, one by one and at once.
+use crate::memory::fault;
+use crate::memory::same_memory;
+use crate::text::field;
+use crate::text::say;
+use crate::text::signed;
+use crate::text::upto;
+use events::batch::Batch;
+use events::batch::Ran;
+use events::event::Answer;
+use state::STATE_WORDS;
+
+// ---- one by one
+
+// An event of five words becomes entry n of the list, which has place for 64.
+pub fn keep(list: &mut [i32; 320], n: usize, kind: i32, number: i32, a: i32, b: i32, c: i32) {
+    if n < 64 {
+        list[5 * n] = kind;
+        list[5 * n + 1] = number;
+        list[5 * n + 2] = a;
+        list[5 * n + 3] = b;
+        list[5 * n + 4] = c;
+    }
+}
+
+pub fn counted(n: usize) -> usize {
+    if n < 64 { n + 1 } else { n }
+}
+
+// The answer to no event: what stands in the places for answers before anything is written there.
+fn blank() -> Answer {
+    Answer {
+        code: 77,
+        w1: 77,
+        w2: 77,
+        running: 77,
+        released: 77,
+    }
+}
+
+// Does entry i of the list.
+fn served(
+    words: &mut [u32; STATE_WORDS],
+    messages: &mut [u32; 256],
+    list: &[i32; 320],
+    i: usize,
+) -> Answer {
+    if 64 <= i {
+        return blank();
+    }
+    let at = 5 * i;
+    let kind = list[at];
+    if kind == 2 {
+        return events::event::tick(words, messages);
+    }
+    events::event::call(
+        words,
+        messages,
+        kind,
+        list[at + 1],
+        list[at + 2],
+        list[at + 3],
+        list[at + 4],
+    )
+}
+
+// Says what is to be, or that it is not so.
+fn verdict(text: &[u8], holds: bool) {
+    if !holds {
+        say(b", NOT");
+    }
+    say(text);
+}
+
+// An answer, and whether the state is as it was: so it must be if the event was refused.
+fn tell(r: Answer, same: bool) {
+    say(b": ");
+    signed(r.code);
+    field(b" ", r.w1);
+    field(b" ", r.w2);
+    field(b", runs ", r.running);
+    field(b", released ", r.released);
+    if r.code < 0 {
+        verdict(b", unchanged", same);
+    }
+    say(b"\n");
+}
+
+// Does entry n of the list.
+pub fn event(
+    words: &mut [u32; STATE_WORDS],
+    messages: &mut [u32; 256],
+    list: &[i32; 320],
+    n: usize,
+) {
+    let old_words = *words;
+    let old_messages = *messages;
+    let r = served(words, messages, list, n);
+    tell(r, same_memory(words, messages, &old_words, &old_messages));
+}
+
+// A call from context 2, which is none, though the number 2 says in a list that an event is a tick.
+pub fn stray(words: &mut [u32; STATE_WORDS], messages: &mut [u32; 256], number: i32, a: i32) {
+    let old_words = *words;
+    let old_messages = *messages;
+    let r = events::event::call(words, messages, 2, number, a, 0, 0);
+    tell(r, same_memory(words, messages, &old_words, &old_messages));
+}
+
+// ---- at once
+
+fn said(text: &[u8], ok: bool) -> bool {
+    say(text);
+    ok
+}
+
+// Says what came of a batch; gives whether it was done.
+fn done(b: Batch) -> bool {
+    match b {
+        Batch::Done => said(b": done", true),
+        Batch::Ragged => said(b": ragged", false),
+        Batch::FewCodes => said(b": few codes", false),
+        Batch::FewWords => said(b": few words", false),
+    }
+}
+
+fn ran(r: Ran) -> bool {
+    match r {
+        Ran::Done => done(Batch::Done),
+        Ran::Unfit(b) => done(b),
+        Ran::Refused(digit, place) => {
+            fault(digit, place);
+            false
+        }
+    }
+}
+
+// Whether an answer was written as the one to event i.
+fn is_written(r: Answer, codes: &[i32; 64], answers: &[u32; 256], i: usize) -> bool {
+    if 64 <= i {
+        return false;
+    }
+    let k = 4 * i;
+    codes[i] == r.code
+        && answers[k] == r.w1
+        && answers[k + 1] == r.w2
+        && answers[k + 2] == r.running
+        && answers[k + 3] == r.released
+}
+
+// The answer to event i of n; behind them there is none.
+fn expected(
+    words: &mut [u32; STATE_WORDS],
+    messages: &mut [u32; 256],
+    list: &[i32; 320],
+    n: usize,
+    i: usize,
+) -> Answer {
+    if i < n {
+        served(words, messages, list, i)
+    } else {
+        blank()
+    }
+}
+
+// Whether the first n events one by one give the answers that were written; behind them nothing is.
+fn replayed(
+    words: &mut [u32; STATE_WORDS],
+    messages: &mut [u32; 256],
+    list: &[i32; 320],
+    n: usize,
+    codes: &[i32; 64],
+    answers: &[u32; 256],
+) -> bool {
+    let mut i: usize = 0;
+    while i < 64 {
+        let r = expected(words, messages, list, n, i);
+        if !is_written(r, codes, answers, i) {
+            return false;
+        }
+        i += 1;
+    }
+    true
+}
+
+// A length that falls short by number k of the line.
+fn short(line: &[u8], k: u32, whole: usize) -> usize {
+    whole - upto(line, k, whole)
+}
+
+// The first n events of the list at once, by `run` over the setup or by `events`, with the lengths that the line says. Gives whether
+// they were done.
+fn batch(
+    line: &[u8],
+    by_run: bool,
+    setup: &[u8],
+    words: &mut [u32; STATE_WORDS],
+    messages: &mut [u32; 256],
+    list: &[i32],
+    codes: &mut [i32],
+    answers: &mut [u32],
+    n: usize,
+) -> bool {
+    if 64 < n {
+        return false;
+    }
+    let e = short(line, 1, 5 * n);
+    let c = short(line, 2, n);
+    let a = short(line, 3, 4 * n);
+    let bytes = upto(line, 4, 80);
+    if list.len() < e {
+        return false;
+    }
+    if codes.len() < c {
+        return false;
+    }
+    if answers.len() < a {
+        return false;
+    }
+    if setup.len() < bytes {
+        return false;
+    }
+    if by_run {
+        return ran(events::batch::run(
+            &setup[0..bytes],
+            words,
+            messages,
+            &list[0..e],
+            &mut codes[0..c],
+            &mut answers[0..a],
+        ));
+    }
+    done(events::batch::events(
+        words,
+        messages,
+        &list[0..e],
+        &mut codes[0..c],
+        &mut answers[0..a],
+    ))
+}
+
+// A batch that is done must answer and leave the state as the events one by one do, one that is not must leave all as it was.
+pub fn at_once(
+    line: &[u8],
+    by_run: bool,
+    setup: &[u8; 80],
+    words: &[u32; STATE_WORDS],
+    messages: &[u32; 256],
+    list: &[i32; 320],
+    n: usize,
+) {
+    let mut all_words = *words;
+    let mut all_messages = *messages;
+    let mut codes = [77i32; 64];
+    let mut answers = [77u32; 256];
+    let ok = batch(
+        line,
+        by_run,
+        setup,
+        &mut all_words,
+        &mut all_messages,
+        list,
+        &mut codes,
+        &mut answers,
+        n,
+    );
+    let mut one_words = *words;
+    let mut one_messages = *messages;
+    let m = if ok { n } else { 0 };
+    let same = replayed(&mut one_words, &mut one_messages, list, m, &codes, &answers);
+    verdict(
+        b", as one by one",
+        same && same_memory(&one_words, &one_messages, &all_words, &all_messages),
+    );
+    say(b"\n");
+}

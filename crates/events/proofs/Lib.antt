@@ -1,0 +1,3 @@
+-- Laws of events.
+pub mod Served
+pub mod Batches

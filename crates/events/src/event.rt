@@ -1,0 +1,150 @@
+// Every event on every memory: a call, and the tick. Nobody has to check first.
+use dispatch::dispatch;
+use calls::judging::named;
+use calls::judging::unless_upto;
+use guard::check::accepts;
+use guard::running::running_task;
+use state::STATE_WORDS;
+ghost use mathlib.Core.Path.{_≡_};
+ghost use mathlib.Core.Bool.{cond};
+ghost use lib.IntN.{ℤ};
+ghost use Rattle.rules.specs.Codes.{number, H-CALL};
+ghost use Rattle.rules.specs.Events as Events;
+ghost use Rattle.rules.specs.Events.{eventOf};
+ghost use Rattle.guard.specs.Running.{runningOf};
+ghost use Rattle.events.specs.Steps.{reply, unsound, Step};
+ghost use Rattle.events.specs.Serving.{Serves};
+
+// What comes back of an event: code, two words, the running task after it, and the number of tasks released.
+#[repr(C)]
+pub struct Answer {
+    pub code: i32,
+    pub w1: u32,
+    pub w2: u32,
+    pub running: u32,
+    pub released: u32,
+}
+
+// The caller: nobody from a handler.
+fn caller(handler: bool, me: u32) -> u32
+    ensures { λ r. ⌜ r ≡ cond handler 0 me ⌝ }
+{
+    if handler { 0 } else { me }
+}
+
+// H_STATE.
+fn damaged() -> Answer
+    ensures { λ r. ⌜ reply (r .code) (r .w1) (r .w2) (r .running) (r .released) ≡ unsound ⌝ }
+{
+    Answer {
+        code: -9,
+        w1: 0,
+        w2: 0,
+        running: 0,
+        released: 0,
+    }
+}
+
+// A call. It is known whether the state is sound and, if so, that `me` runs.
+fn serve_call(
+    words: &mut [u32; STATE_WORDS],
+    messages: &mut [u32; 256],
+    sound: bool,
+    me: u32,
+    context: i32,
+    number: i32,
+    a: i32,
+    b: i32,
+    c: i32,
+) -> Answer
+    ensures { λ r. ⌜ Serves (Events.call context number a b c) sound me (now (words .entry)) (now (messages .entry)) (reply (r .code) (r .w1) (r .w2) (r .running) (r .released)) (now (words .exit)) (now (messages .exit)) ⌝ }
+{
+    if !sound {
+        return damaged();
+    }
+    let e = unless_upto(context, 1, -1);
+    if e < 0 {
+        return Answer {
+            code: e,
+            w1: 0,
+            w2: 0,
+            running: me,
+            released: 0,
+        };
+    }
+    let handler = named(context) == 1;
+    let n = named(number);
+    let d = dispatch(words, messages, handler, caller(handler, me), n, a, b, c);
+    let runs = running_task(words);
+    Answer {
+        code: d.code,
+        w1: d.w1,
+        w2: d.w2,
+        running: runs,
+        released: d.released,
+    }
+}
+
+// A tick, where the same is known.
+fn serve_tick(words: &mut [u32; STATE_WORDS], messages: &[u32; 256], sound: bool, me: u32) -> Answer
+    ensures { λ r. ⌜ Serves Events.tick sound me (now (words .entry)) (now (messages .entry)) (reply (r .code) (r .w1) (r .w2) (r .running) (r .released)) (now (words .exit)) (now (messages .entry)) ⌝ }
+{
+    if !sound {
+        return damaged();
+    }
+    let n = calls::tick::tick(words);
+    let after = running_task(words);
+    Answer {
+        code: 0,
+        w1: 0,
+        w2: 0,
+        running: after,
+        released: n,
+    }
+}
+
+// An event of five words: kind (0 task, 1 handler, 2 tick), call, a, b, c.
+pub fn serve(
+    words: &mut [u32; STATE_WORDS],
+    messages: &mut [u32; 256],
+    sound: bool,
+    me: u32,
+    kind: i32,
+    number: i32,
+    a: i32,
+    b: i32,
+    c: i32,
+) -> Answer
+    ensures { λ r. ⌜ Serves (eventOf kind number a b c) sound me (now (words .entry)) (now (messages .entry)) (reply (r .code) (r .w1) (r .w2) (r .running) (r .released)) (now (words .exit)) (now (messages .exit)) ⌝ }
+{
+    if kind == 2 {
+        return serve_tick(words, messages, sound, me);
+    }
+    serve_call(words, messages, sound, me, kind, number, a, b, c)
+}
+
+// A call from a context (0 task, 1 handler) by its number.
+pub fn call(
+    words: &mut [u32; STATE_WORDS],
+    messages: &mut [u32; 256],
+    context: i32,
+    number: i32,
+    a: i32,
+    b: i32,
+    c: i32,
+) -> Answer
+    ensures { λ r. ⌜ Step (Events.call context number a b c) (now (words .entry)) (now (messages .entry)) (reply (r .code) (r .w1) (r .w2) (r .running) (r .released)) (now (words .exit)) (now (messages .exit)) ⌝ }
+{
+    let sound = accepts(words, messages);
+    let me = running_task(words);
+    serve_call(words, messages, sound, me, context, number, a, b, c)
+}
+
+// A tick.
+pub fn tick(words: &mut [u32; STATE_WORDS], messages: &[u32; 256]) -> Answer
+    ensures { λ r. ⌜ Step Events.tick (now (words .entry)) (now (messages .entry)) (reply (r .code) (r .w1) (r .w2) (r .running) (r .released)) (now (words .exit)) (now (messages .entry)) ⌝ }
+{
+    let sound = accepts(words, messages);
+    let now = running_task(words);
+    serve_tick(words, messages, sound, now)
+}
