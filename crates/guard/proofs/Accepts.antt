@@ -143,7 +143,7 @@ accepts-law b msgs size marks = decides-as
 
 pub running-law : (b msgs : List ℕ) → Accepted b msgs → runningOf b ≡ running (viewShown b msgs)
 unfolding runningOf running viewShown tabulate ids storeShown bodyShown lineShown anchor
-running-law b msgs A = rw (le-leb (entry Layout.system b 0) 16 few) (lowest-first b (λ p. lineShown b (readyAt p)) (entry Layout.system b 0) (omega (arith, few)) head)
+running-law b msgs A = rw (le-leb (entry Layout.system b 0) 16 few) (lowest-first b (λ p. lineShown b (readyAt p)) (entry Layout.system b 0) few head)
   where
     few : entry Layout.system b 0 ≤ 16
     few = A .sound .body .sizes .priorities .1

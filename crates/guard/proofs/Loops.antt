@@ -93,8 +93,8 @@ module _ (p w : ℕ) (b : List ℕ) where
     marks-set zero h z k e = absurd (omega arith)
     marks-set (suc left) h z k e = rw (e, one-bit (p - 1) k, sub-one p, sub-one, add-one, ← head, ne-eqb r 0 z)
 
-module _ (b : List ℕ) {s n m p : ℕ} (es : s ≡ entry Layout.system b 0) (en : n ≡ atMost s 16) (em : m ≡ marksOf n 1 0 b) (ep : p ≡ lowestMark 32 1 m) where
-  found : p ≡ lowestMark 32 1 (marksOf (atMost (entry Layout.system b 0) 16) 1 0 b)
+module _ (b : List ℕ) {s n m p : ℕ} (es : s ≡ entry Layout.system b 0) (en : n ≡ atMost s 16) (em : m ≡ marksOf 16 1 0 b) (ep : p ≡ lowestMark n 1 m) where
+  found : p ≡ lowestMark (atMost (entry Layout.system b 0) 16) 1 (marksOf 16 1 0 b)
   found = ep ∙ rw (em, en, es)
 
   pub runs-none : p ≡ 0 → 0 ≡ runningOf b

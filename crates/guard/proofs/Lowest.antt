@@ -39,11 +39,6 @@ module _ (b : List ℕ) where
       go true rec = rec w (omega (arith, pow-suc 2 p)) ∙ rw (twice, zero-add (2 * W))
       go false rec = rw one (rec (2 ^ p + w) (omega (arith, pow-suc 2 p)) ∙ rw (twice, mul-add (2 ^ p) 1 (2 * W), mul-one (2 ^ p)) (omega arith))
 
-lowest-none : (k p : ℕ) → lowestMark k p 0 ≡ 0
-unfolding lowestMark
-lowest-none zero p = refl
-lowest-none (suc k) p = lowest-none k (suc p)
-
 -- v is the head of the line, 0 if the line is empty
 abbrev pub HeadOf : ℕ → List ℕ → Type 0
 HeadOf v [] = v ≡ 0
@@ -55,22 +50,22 @@ head-of n v [] e h = e
 head-of n v (x ∷ l) e h = (e, h .0 .0)
 
 module _ (b : List ℕ) (L : ℕ → List ℕ) where
-  -- the head of the queue that the lowest of n marks from p on names; k bits are searched
+  -- the head of the queue that the lowest of n bits names, in the marks of k priorities from p on
   lowest-word : (n k p : ℕ) → n ≤ k → ((q : ℕ) → p < q → q ≤ p + n → HeadOf (headAt b q) (L q))
-      → cond (eqb (lowestMark k (suc p) (word b n (suc p))) 0) 0 (headAt b (lowestMark k (suc p) (word b n (suc p)))) ≡ first (nonempty (map L (from (suc p) n)))
+      → cond (eqb (lowestMark n (suc p) (word b k (suc p))) 0) 0 (headAt b (lowestMark n (suc p) (word b k (suc p)))) ≡ first (nonempty (map L (from (suc p) n)))
   unfolding word lowestMark
-  lowest-word zero k p h f = rw (lowest-none k (suc p))
+  lowest-word zero k p h f = refl
   lowest-word (suc n) zero p h f = absurd (omega arith)
   lowest-word (suc n) (suc k) p h f = go (L (suc p)) refl (f (suc p) (omega arith) (omega arith)) (lowest-word n k (suc p) (omega arith) (λ q a c. f q (omega arith) (omega arith)))
     where
       W : ℕ
-      W = word b n (suc (suc p))
+      W = word b k (suc (suc p))
 
       low : ℕ → ℕ
-      low w = cond (eqb (w % 2) 1) (suc p) (lowestMark k (suc (suc p)) (w / 2))
+      low w = cond (eqb (w % 2) 1) (suc p) (lowestMark n (suc (suc p)) (w / 2))
 
       go : (l : List ℕ) → L (suc p) ≡ l → HeadOf (headAt b (suc p)) l
-          → cond (eqb (lowestMark k (suc (suc p)) W) 0) 0 (headAt b (lowestMark k (suc (suc p)) W)) ≡ first (nonempty (map L (from (suc (suc p)) n)))
+          → cond (eqb (lowestMark n (suc (suc p)) W) 0) 0 (headAt b (lowestMark n (suc (suc p)) W)) ≡ first (nonempty (map L (from (suc (suc p)) n)))
           → cond (eqb (low (cond (eqb (headAt b (suc p)) 0) 0 1 + 2 * W)) 0) 0 (headAt b (low (cond (eqb (headAt b (suc p)) 0) 0 1 + 2 * W))) ≡ first (nonempty (L (suc p) ∷ map L (from (suc (suc p)) n)))
       go [] e v r = rw (e, eq-eqb (headAt b (suc p)) 0 v, ne-eqb ((0 + 2 * W) % 2) 1 (omega arith), half) r
         where
@@ -78,7 +73,7 @@ module _ (b : List ℕ) (L : ℕ → List ℕ) where
           half = omega arith
       go (x ∷ l) e v r = rw (e, ne-eqb (headAt b (suc p)) 0 (λ z. omega (arith, v .0, v .1)), eq-eqb ((1 + 2 * W) % 2) 1 (omega arith), ne-eqb (suc p) 0 (λ z. omega arith)) (v .0)
 
-  -- the marks of the priorities 1 to n
-  pub lowest-first : (n : ℕ) → n ≤ 32 → ((q : ℕ) → 1 ≤ q → q ≤ n → HeadOf (headAt b q) (L q))
-      → cond (eqb (lowestMark 32 1 (marksOf n 1 0 b)) 0) 0 (headAt b (lowestMark 32 1 (marksOf n 1 0 b))) ≡ first (nonempty (map L (from 1 n)))
-  lowest-first n h f = rw (marks-word b n 0 0 (omega arith), one-mul (word b n 1), zero-add (word b n 1)) (lowest-word n 32 0 h (λ q a c. f q a (omega arith)))
+  -- the marks of all priorities, searched for those from 1 to n
+  pub lowest-first : (n : ℕ) → n ≤ 16 → ((q : ℕ) → 1 ≤ q → q ≤ n → HeadOf (headAt b q) (L q))
+      → cond (eqb (lowestMark n 1 (marksOf 16 1 0 b)) 0) 0 (headAt b (lowestMark n 1 (marksOf 16 1 0 b))) ≡ first (nonempty (map L (from 1 n)))
+  lowest-first n h f = rw (marks-word b 16 0 0 (omega arith), one-mul (word b 16 1), zero-add (word b 16 1)) (lowest-word n 16 0 h (λ q a c. f q a (omega arith)))

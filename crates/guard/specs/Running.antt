@@ -28,7 +28,8 @@ unfoldable pub lowestMark : ℕ → ℕ → ℕ → ℕ
 lowestMark zero p w = 0
 lowestMark (suc k) p w = cond (eqb (w % 2) 1) p (lowestMark k (suc p) (w / 2))
 
+-- all 16 priorities are marked, those that the state has are searched
 unfoldable pub runningOf : List ℕ → ℕ
 runningOf b =
-    let p : ℕ = lowestMark 32 1 (marksOf (atMost (entry Layout.system b 0) 16) 1 0 b) in
+    let p : ℕ = lowestMark (atMost (entry Layout.system b 0) 16) 1 (marksOf 16 1 0 b) in
     cond (eqb p 0) 0 (headAt b p)

@@ -14,14 +14,13 @@ pub fn at_most(n: u32, most: u32) -> u32
     if n <= most { n } else { 0 }
 }
 
-// A word with one bit for each nonempty ready queue of priorities 1 to n: bit p - 1 is priority p's.
-fn ready_marks(words: &[u32; STATE_WORDS], n: u32) -> u32
-    requires { ⌜ n ≤ 16 ⌝ }
-    ensures { λ r. ⌜ r ≡ marksOf n 1 0 (now (words .entry)) ⌝ }
+// A word with one bit for each nonempty ready queue: bit p - 1 is priority p's. All 16 are looked at, so that the loop has one length.
+fn ready_marks(words: &[u32; STATE_WORDS]) -> u32
+    ensures { λ r. ⌜ r ≡ marksOf 16 1 0 (now (words .entry)) ⌝ }
 {
     let mut marks: u32 = 0;
     let mut p: u32 = 1;
-    let mut left = n;
+    let mut left: u32 = 16;
     while 0 < left {
         if first(words, ready_anchor(p)) != 0 {
             marks = marks | (1 << (p - 1));
@@ -32,13 +31,14 @@ fn ready_marks(words: &[u32; STATE_WORDS], n: u32) -> u32
     marks
 }
 
-// The best priority in such a word: the place of its lowest bit, counted from 1; 0 if there is none.
-fn best_priority(marks: u32) -> u32
-    ensures { λ r. ⌜ (r ≡ lowestMark 32 1 marks) × (r ≤ 32) ⌝ }
+// The best of n priorities in such a word: the place of its lowest bit, counted from 1; 0 if there is none.
+fn best_priority(marks: u32, n: u32) -> u32
+    requires { ⌜ n ≤ 16 ⌝ }
+    ensures { λ r. ⌜ r ≡ lowestMark n 1 marks ⌝ }
 {
     let mut rest = marks;
     let mut p: u32 = 1;
-    let mut left: u32 = 32;
+    let mut left = n;
     while 0 < left {
         if rest % 2 == 1 {
             return p;
@@ -55,7 +55,7 @@ pub fn running_task(words: &[u32; STATE_WORDS]) -> u32
     ensures { λ r. ⌜ r ≡ runningOf (now (words .entry)) ⌝ }
 {
     let n = at_most(system(words, 0), 16);
-    let p = best_priority(ready_marks(words, n));
+    let p = best_priority(ready_marks(words), n);
     if p == 0 {
         0
     } else {

@@ -1,4 +1,4 @@
--- `kernel::check::accepts` meets its contract. The test decides. Assumes nothing.
+-- `guard::check::accepts` meets its contract. The test decides. Assumes nothing.
 use denote.Ref.{now}
 use Rattle.guard.proofs.Accepts.{accepts-law}
 use borrow.Author.Needs.{needs}

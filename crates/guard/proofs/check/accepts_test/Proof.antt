@@ -1,4 +1,4 @@
--- `kernel::check::accepts_test` meets its contract. Each refusal is a test that fails. Assumes nothing.
+-- `guard::check::accepts_test` meets its contract. Each refusal is a test that fails. Assumes nothing.
 use mathlib.Core.Bool.{and-false}
 use Rattle.guard.proofs.Steps.{failed, passed, also, few-ranges}
 use Rattle.guard.proofs.Loops.{loop-is}

@@ -1,4 +1,4 @@
--- `kernel::check::cell_ok` meets its contract. By the cases of the code; a word has 32 bits. Assumes nothing.
+-- `guard::check::cell_ok` meets its contract. By the cases of the code; a word has 32 bits. Assumes nothing.
 use borrow.Author.Tests.{ne-eqb, le-leb}
 use native.Mathlib.Omega.{arith}
 use Rattle.guard.specs.Tests.{cellOk}

@@ -1,4 +1,4 @@
--- `kernel::check::flag_wait_ok` meets its contract. By its two tests. Assumes nothing.
+-- `guard::check::flag_wait_ok` meets its contract. By its two tests. Assumes nothing.
 use mathlib.Core.Path.{sym, _∙_}
 use Rattle.guard.proofs.Steps.{also}
 use Rattle.guard.specs.Tests.{flagWaitOk}

@@ -1,4 +1,4 @@
--- `kernel::check::home` meets its contract. By the cases of the status. Assumes nothing.
+-- `guard::check::home` meets its contract. By the cases of the status. Assumes nothing.
 use borrow.Author.Tests.{ne-eqb}
 use Rattle.guard.specs.Tests.{home}
 use borrow.Author.Needs.{needs}

@@ -1,4 +1,4 @@
--- `kernel::check::mail_home` meets its contract. By its test. Assumes nothing.
+-- `guard::check::mail_home` meets its contract. By its test. Assumes nothing.
 use borrow.Author.Tests.{ne-eqb}
 use borrow.Author.Needs.{needs}
 use Rattle.guard.proofs.check.mail_home.Statement.{statement}

@@ -1,4 +1,4 @@
--- `kernel::check::mail_queued` meets its contract. By its three tests. Assumes nothing.
+-- `guard::check::mail_queued` meets its contract. By its three tests. Assumes nothing.
 use denote.Ref.{now}
 use Rattle.rings.specs.Columns.{col}
 use Rattle.rings.specs.Links.{nexts}

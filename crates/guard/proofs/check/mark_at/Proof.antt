@@ -1,4 +1,4 @@
--- `kernel::check::mark_at` meets its contract. Past the end a list reads 0. Assumes nothing.
+-- `guard::check::mark_at` meets its contract. Past the end a list reads 0. Assumes nothing.
 use mathlib.Core.Path.{sym}
 use native.Mathlib.Omega.{arith}
 use denote.Ref.{now}

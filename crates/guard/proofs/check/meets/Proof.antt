@@ -1,4 +1,4 @@
--- `kernel::check::meets` meets its contract. By the mode. Assumes nothing.
+-- `guard::check::meets` meets its contract. By the mode. Assumes nothing.
 use borrow.Author.Tests.{eq-eqb, ne-eqb}
 use Rattle.guard.proofs.check.meets.Statement.{statement}
 use Rattle.guard.proofs.check.meets.Tie as tie

@@ -1,4 +1,4 @@
--- `kernel::check::message_home_ok` meets its contract. The two marks are compared. Assumes nothing.
+-- `guard::check::message_home_ok` meets its contract. The two marks are compared. Assumes nothing.
 use Rattle.guard.specs.Tests.{mailHome}
 use borrow.Author.Needs.{needs}
 use Rattle.guard.proofs.check.message_home_ok.Statement.{statement}

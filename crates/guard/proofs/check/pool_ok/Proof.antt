@@ -1,4 +1,4 @@
--- `kernel::check::pool_ok` meets its contract. No pool is empty, none has more than 32 blocks, and a mask has 32 bits. Assumes nothing.
+-- `guard::check::pool_ok` meets its contract. No pool is empty, none has more than 32 blocks, and a mask has 32 bits. Assumes nothing.
 use native.Mathlib.Omega.{arith}
 use borrow.Author.Tests.{le-leb}
 use Rattle.guard.proofs.Steps.{some, pool-full}

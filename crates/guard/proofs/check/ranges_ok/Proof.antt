@@ -1,4 +1,4 @@
--- `kernel::check::ranges_ok` meets its contract. Each refusal is a test that fails; the sizes have been judged, so the counts are whole. Assumes nothing.
+-- `guard::check::ranges_ok` meets its contract. Each refusal is a test that fails; the sizes have been judged, so the counts are whole. Assumes nothing.
 use mathlib.Core.Bool.{and-false}
 use Rattle.guard.proofs.Steps.{failed, passed, also, few}
 use Rattle.guard.proofs.Loops.{loop-is, loop-fails}

@@ -1,4 +1,4 @@
--- `kernel::check::rest_ok` meets its contract. By its two tests. Assumes nothing.
+-- `guard::check::rest_ok` meets its contract. By its two tests. Assumes nothing.
 use borrow.Author.Tests.{ne-eqb}
 use borrow.Author.Needs.{needs}
 use Rattle.guard.proofs.check.rest_ok.Statement.{statement}

@@ -1,4 +1,4 @@
--- `kernel::check::sizes_ok` meets its contract. Each refusal is a test that fails. Assumes nothing.
+-- `guard::check::sizes_ok` meets its contract. Each refusal is a test that fails. Assumes nothing.
 use mathlib.Core.Path.{refl, ap}
 use mathlib.Core.Bool.{and-false}
 use Prim.Native.Nat.{ℕ}

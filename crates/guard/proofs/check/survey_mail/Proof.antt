@@ -1,4 +1,4 @@
--- `kernel::check::survey_mail` meets its contract. The survey of a part of the memory, as its only range. Assumes nothing.
+-- `guard::check::survey_mail` meets its contract. The survey of a part of the memory, as its only range. Assumes nothing.
 use Rattle.rings.specs.Columns.{col}
 use Rattle.guard.proofs.Steps.{ranged-at, ranges-last}
 use borrow.Author.Needs.{needs}

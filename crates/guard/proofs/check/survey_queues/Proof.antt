@@ -1,4 +1,4 @@
--- `kernel::check::survey_queues` meets its contract. The survey of a part of the memory. Assumes nothing.
+-- `guard::check::survey_queues` meets its contract. The survey of a part of the memory. Assumes nothing.
 use Rattle.rings.specs.Columns.{col}
 use Rattle.guard.proofs.Steps.{ranged-at}
 use borrow.Author.Needs.{needs}

@@ -1,4 +1,4 @@
--- `kernel::check::survey_tasks` meets its contract. Range after range. Assumes nothing.
+-- `guard::check::survey_tasks` meets its contract. Range after range. Assumes nothing.
 use Rattle.guard.proofs.Steps.{ranges-stop, ranges-on, ranges-last}
 use borrow.Author.Needs.{needs}
 use Rattle.guard.proofs.check.survey_tasks.Statement.{statement}

@@ -1,4 +1,4 @@
--- `kernel::check::task_home_ok` meets its contract. The two anchors are compared. Assumes nothing.
+-- `guard::check::task_home_ok` meets its contract. The two anchors are compared. Assumes nothing.
 use Rattle.guard.specs.Tests.{taskHome}
 use borrow.Author.Needs.{needs}
 use Rattle.guard.proofs.check.task_home_ok.Statement.{statement}

@@ -1,4 +1,4 @@
--- `kernel::check::task_homes_ok` meets its contract. The ids that are left decide as all of them do. Assumes nothing.
+-- `guard::check::task_homes_ok` meets its contract. The ids that are left decide as all of them do. Assumes nothing.
 use mathlib.Core.Path.{refl}
 use native.Mathlib.Omega.{arith}
 use Rattle.guard.specs.Tests.{taskHome}

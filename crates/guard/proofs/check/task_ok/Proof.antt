@@ -1,4 +1,4 @@
--- `kernel::check::task_ok` meets its contract. Each refusal is a test that fails. Assumes nothing.
+-- `guard::check::task_ok` meets its contract. Each refusal is a test that fails. Assumes nothing.
 use mathlib.Core.Path.{refl}
 use mathlib.Core.Bool.{and-false}
 use Rattle.guard.proofs.Steps.{failed, passed, above, upto, within-at, cell-at, also}

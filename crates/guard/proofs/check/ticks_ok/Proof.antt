@@ -1,4 +1,4 @@
--- `kernel::check::ticks_ok` meets its contract. By its two tests. Assumes nothing.
+-- `guard::check::ticks_ok` meets its contract. By its two tests. Assumes nothing.
 use borrow.Author.Tests.{ne-eqb}
 use Rattle.guard.specs.Tests.{ticksOk}
 use borrow.Author.Needs.{needs}

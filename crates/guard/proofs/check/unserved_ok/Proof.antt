@@ -1,4 +1,4 @@
--- `kernel::check::unserved_ok` meets its contract. By the cases of the status. Assumes nothing.
+-- `guard::check::unserved_ok` meets its contract. By the cases of the status. Assumes nothing.
 use borrow.Author.Tests.{ne-eqb}
 use Rattle.guard.specs.Tests.{unservedOk}
 use borrow.Author.Needs.{needs}

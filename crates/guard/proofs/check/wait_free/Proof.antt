@@ -1,4 +1,4 @@
--- `kernel::check::wait_free` meets its contract. By the cases of the kind. Assumes nothing.
+-- `guard::check::wait_free` meets its contract. By the cases of the kind. Assumes nothing.
 use borrow.Author.Tests.{ne-eqb}
 use Rattle.guard.specs.Tests.{waitFree}
 use borrow.Author.Needs.{needs}

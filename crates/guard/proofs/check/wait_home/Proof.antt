@@ -1,4 +1,4 @@
--- `kernel::check::wait_home` meets its contract. By its test. Assumes nothing.
+-- `guard::check::wait_home` meets its contract. By its test. Assumes nothing.
 use borrow.Author.Tests.{le-leb, lt-leb}
 use Rattle.guard.specs.Tests.{waitHome}
 use borrow.Author.Needs.{needs}

@@ -1,4 +1,4 @@
--- `kernel::check::wish_ok` meets its contract. By its tests; a pattern has 32 bits. Assumes nothing.
+-- `guard::check::wish_ok` meets its contract. By its tests; a pattern has 32 bits. Assumes nothing.
 use borrow.Author.Tests.{ne-eqb, le-leb}
 use native.Mathlib.Omega.{arith}
 use Rattle.guard.specs.Tests.{wishOk}

@@ -1,4 +1,4 @@
--- `kernel::check::within` meets its contract. By its two tests. Assumes nothing.
+-- `guard::check::within` meets its contract. By its two tests. Assumes nothing.
 use Rattle.guard.proofs.Steps.{some}
 use borrow.Author.Tests.{le-leb}
 use Rattle.guard.proofs.check.within.Statement.{statement}

@@ -1,4 +1,4 @@
--- `kernel::running::at_most` meets its contract. By its test. Assumes nothing.
+-- `guard::running::at_most` meets its contract. By its test. Assumes nothing.
 use native.Mathlib.Omega.{arith}
 use borrow.Author.Tests.{le-leb, lt-leb}
 use Rattle.guard.proofs.running.at_most.Statement.{statement}

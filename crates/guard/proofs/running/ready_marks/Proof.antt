@@ -1,4 +1,4 @@
--- `kernel::running::ready_marks` meets its contract. The priorities that are left give the same marks. Assumes nothing.
+-- `guard::running::ready_marks` meets its contract. The priorities that are left give the same marks. Assumes nothing.
 use mathlib.Core.Path.{_≡_, refl, _∙_}
 use mathlib.Core.Logic.{⊎-elim}
 use Prim.Native.Nat.{_+_, _≤_}
@@ -10,10 +10,10 @@ use Rattle.guard.proofs.running.ready_marks.Statement.{statement}
 use Rattle.guard.proofs.running.ready_marks.Tie as tie
 
 abbrev Inv-loop : tie.InvT-loop
-Inv-loop words n marks₀ p₀ left₀ marks p left = (marksOf left p marks words ≡ marksOf n 1 0 words) × (p + left ≡ n + 1) × (1 ≤ p)
+Inv-loop words marks₀ p₀ left₀ marks p left = (marksOf left p marks words ≡ marksOf 16 1 0 words) × (p + left ≡ 17) × (1 ≤ p)
 
 abbrev μ-loop : tie.MeasureT-loop
-μ-loop words n marks₀ p₀ left₀ marks p left = left
+μ-loop words marks₀ p₀ left₀ marks p left = left
 
 loop-holds : tie.Need-loop-holds Inv-loop μ-loop
 loop-holds c = (refl, omega arith, omega arith)

@@ -1,4 +1,4 @@
--- `kernel::running::running_task` meets its contract. Step by step. Assumes nothing.
+-- `guard::running::running_task` meets its contract. Step by step. Assumes nothing.
 use Rattle.guard.proofs.Loops.{runs-none, runs-first}
 use borrow.Author.Needs.{needs}
 use Rattle.guard.proofs.running.running_task.Statement.{statement}
@@ -23,10 +23,10 @@ first-requires : tie.Need-first-requires
 first-requires c κs = search needs
 
 returns : tie.Need-returns
-returns c = let p = c .before in let m = p .before in let a = m .before in runs-none _ (a .before .system .ensures) (a .at-most .ensures .0) (m .ready-marks .ensures) (p .best-priority .ensures .0) (c .if1 .taken)
+returns c = let p = c .before in let m = p .before in let a = m .before in runs-none _ (a .before .system .ensures) (a .at-most .ensures .0) (m .ready-marks .ensures) (p .best-priority .ensures) (c .if1 .taken)
 
 returns-2 : tie.Need-returns-2
-returns-2 c = let i = c .before .before in let p = i .before in let m = p .before in let a = m .before in runs-first _ (a .before .system .ensures) (a .at-most .ensures .0) (m .ready-marks .ensures) (p .best-priority .ensures .0) (i .if1 .left) (c .before .ready-anchor .ensures) (c .first .ensures)
+returns-2 c = let i = c .before .before in let p = i .before in let m = p .before in let a = m .before in runs-first _ (a .before .system .ensures) (a .at-most .ensures .0) (m .ready-marks .ensures) (p .best-priority .ensures) (i .if1 .left) (c .before .ready-anchor .ensures) (c .first .ensures)
 
 pub running-task-spec : {M : Type 1} → statement M
 running-task-spec =
