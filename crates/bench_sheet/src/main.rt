@@ -13,15 +13,10 @@
 //   E x y z      the events since the last F, W or M at once, by `events`: the list x words too short, with place for y codes and z
 //                words too few
 //   R x y z n    the same by `run`, over the setup's first n bytes
-mod turns;
 mod memory;
 mod text;
+mod turns;
 
-use crate::turns::at_once;
-use crate::turns::counted;
-use crate::turns::event;
-use crate::turns::keep;
-use crate::turns::stray;
 use crate::memory::cell;
 use crate::memory::damages;
 use crate::memory::lay;
@@ -32,8 +27,13 @@ use crate::text::first_byte;
 use crate::text::nth;
 use crate::text::say;
 use crate::text::word;
+use crate::turns::at_once;
+use crate::turns::counted;
+use crate::turns::event;
+use crate::turns::keep;
+use crate::turns::stray;
+use columns::STATE_WORDS;
 use libc::STDIN_FILENO;
-use state::STATE_WORDS;
 ghost use Prim.Native.Nat.{_≤_};
 ghost use lib.ListN.{length};
 

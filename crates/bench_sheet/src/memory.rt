@@ -5,8 +5,8 @@ use crate::text::signed;
 use crate::text::upto;
 use crate::text::word;
 use boot::Started;
+use columns::STATE_WORDS;
 use libc::STDOUT_FILENO;
-use state::STATE_WORDS;
 ghost use Prim.Native.Nat.{_≤_};
 
 // Word i of the setup.

@@ -5,10 +5,10 @@ use crate::text::field;
 use crate::text::say;
 use crate::text::signed;
 use crate::text::upto;
+use columns::STATE_WORDS;
 use events::batch::Batch;
 use events::batch::Ran;
 use events::event::Answer;
-use state::STATE_WORDS;
 
 // ---- one by one
 

@@ -23,7 +23,7 @@ use Rattle.setup.specs.declared.Judged.the-variants.{Bad, Good}
 use Rattle.setup.specs.Judging.{judgedOf}
 use Rattle.setup.specs.Layout.{planOf, PlanShows}
 use Rattle.setup.proofs.Plans.{whole-plan-law, plan-fits}
-use Rattle.state.specs.Layout.{stateWords}
+use Rattle.columns.specs.Layout.{stateWords}
 use Rattle.state.specs.Moves.{started}
 use Rattle.state.specs.Picture.{viewShown, Accepted, Shows}
 use Rattle.state.specs.Perform.{performed, performedMarks}

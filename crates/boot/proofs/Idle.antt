@@ -12,10 +12,11 @@ use Rattle.rings.specs.Columns.{col}
 use Rattle.rings.proofs.Columns.{clear-of, col-store, length-store, length-col}
 use Rattle.setup.specs.declared.Plan.{Plan}
 use Rattle.setup.specs.Layout.{PlanFits}
-use Rattle.state.specs.Layout as Layout
-use Rattle.state.specs.Layout.{stateWords, words}
-use Rattle.state.specs.Moves.{entry, clearedQueue, clearedMail}
-use Rattle.state.proofs.Tiling.{cleared-queue-law, cleared-mail-law}
+use Rattle.columns.specs.Layout as Layout
+use Rattle.columns.specs.Layout.{stateWords, words}
+use Rattle.columns.specs.Layout.{entry}
+use Rattle.state.specs.Moves.{clearedQueue, clearedMail}
+use Rattle.state.proofs.Relinks.{cleared-queue-law, cleared-mail-law}
 use Rattle.boot.specs.Starting.{inTurn, counted, wordOfId, laidTask, laidSemaphore, laidFlag, allFree, laidPool, entered, anchorsOf, emptiedQueues, emptied}
 use Rattle.boot.proofs.Turns.{Sized, Within, turn-size, turn-apart, turn-length, turn-below, turn-right, turn-at, put-apart, queues-within, mails-within}
 

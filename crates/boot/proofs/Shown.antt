@@ -28,9 +28,9 @@ use Rattle.rings.proofs.Columns.{clear-of, length-col, col-at}
 use Rattle.rings.proofs.Laws.{blank-law, linked-ext, line-is}
 use Rattle.setup.specs.declared.Plan.{Plan}
 use Rattle.setup.specs.Layout.{PlanShows, PlanFits}
-use Rattle.state.specs.Layout as Layout
-use Rattle.state.specs.Layout.{stateWords, words}
-use Rattle.state.specs.Moves.{entry}
+use Rattle.columns.specs.Layout as Layout
+use Rattle.columns.specs.Layout.{stateWords, words}
+use Rattle.columns.specs.Layout.{entry}
 use Rattle.state.specs.Picture.{codeOf, stateShown, taskShown, messageShown, poolShown, tasksShown, messagesShown, storeShown, bodyShown, anchor, lineShown, viewShown, UsedByTasks, ready-queue, wait-queue, UsedByMail, mailbox-queue, Whole, Accepted}
 use Rattle.state.specs.Form.{maskOf}
 use Rattle.state.proofs.FormPile.{table-is}

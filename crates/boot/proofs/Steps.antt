@@ -12,7 +12,7 @@ use Rattle.rules.specs.Setup.{wordAt}
 use Rattle.setup.specs.declared.Plan.{Plan}
 use Rattle.setup.specs.Layout.{planOf, PlanFits}
 use Rattle.setup.proofs.Plans.{plan-fits}
-use Rattle.state.specs.Layout.{system, stateWords, put}
+use Rattle.columns.specs.Layout.{system, stateWords, put}
 use Rattle.state.specs.Moves.{clearedQueue, clearedMail, started}
 use Rattle.state.proofs.Steps.{one-bit}
 use Rattle.boot.specs.Starting.{inTurn, counted, laidTask, laidSemaphore, laidFlag, allFree, laidPool, entered, emptiedQueues, emptied, laid, begun, freshWords}

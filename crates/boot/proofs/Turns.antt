@@ -12,9 +12,9 @@ use lib.Seq.{getD-set-same, getD-set-other}
 use borrow.Author.Tests.{leb-true}
 use Rattle.rings.specs.Columns.{col, store}
 use Rattle.rings.proofs.Columns.{clear-of, col-above, col-below}
-use Rattle.state.specs.Layout.{stateWords}
+use Rattle.columns.specs.Layout.{stateWords}
 use Rattle.state.specs.Moves.{clearedQueue, clearedMail}
-use Rattle.state.proofs.Tiling.{cleared-queue-law, cleared-mail-law}
+use Rattle.state.proofs.Relinks.{cleared-queue-law, cleared-mail-law}
 use Rattle.boot.specs.Starting.{inTurn}
 
 -- ---- the turns

@@ -9,8 +9,8 @@ use Rattle.rules.specs.Setup.{digit, Read, got, refused, wordAt, Setup, setup}
 use Rattle.rules.specs.Kernel.{fresh}
 use Rattle.setup.specs.declared.Plan.{Plan}
 use Rattle.setup.specs.Layout.{planOf}
-use Rattle.state.specs.Layout as Layout
-use Rattle.state.specs.Layout.{stateWords, put}
+use Rattle.columns.specs.Layout as Layout
+use Rattle.columns.specs.Layout.{stateWords, put}
 use Rattle.state.specs.Moves.{clearedQueue, clearedMail, started}
 use Rattle.state.specs.Picture.{viewShown, Accepted}
 use Rattle.boot.specs.declared.Started.{Started}

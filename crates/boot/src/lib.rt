@@ -1,15 +1,15 @@
 // The fresh state of a setup, laid into the memory that the caller lends. The setup is judged whole before a word is written, so a
 // refusal leaves the memory as it was.
+use columns::STATE_WORDS;
+use columns::set_flag;
+use columns::set_free;
+use columns::set_priority;
+use columns::set_semaphore;
+use columns::set_size;
+use columns::set_start;
+use columns::set_system;
 use setup::Judged;
 use setup::Plan;
-use state::STATE_WORDS;
-use state::columns::set_flag;
-use state::columns::set_free;
-use state::columns::set_priority;
-use state::columns::set_semaphore;
-use state::columns::set_size;
-use state::columns::set_start;
-use state::columns::set_system;
 use state::queues::clear;
 use state::queues::mail_clear;
 use state::tasks::begin;

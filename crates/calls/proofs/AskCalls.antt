@@ -12,8 +12,9 @@ use Rattle.rules.specs.View.{View}
 use Rattle.rules.specs.Tasks.{rot-rdq, get-tid, tsk-sts}
 use Rattle.rules.specs.Time.{get-tim}
 use Rattle.rules.specs.Table.{both, anyone, queue}
-use Rattle.state.specs.Layout as Layout
-use Rattle.state.specs.Moves.{entry, rotated}
+use Rattle.columns.specs.Layout as Layout
+use Rattle.columns.specs.Layout.{entry}
+use Rattle.state.specs.Moves.{rotated}
 use Rattle.state.specs.Perform.{performed, performedMarks}
 use Rattle.state.specs.Picture.{storeShown, bodyShown, viewShown, Accepted}
 use Rattle.guard.specs.Running.{runningOf}

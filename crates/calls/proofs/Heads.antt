@@ -14,8 +14,8 @@ use Rattle.rules.specs.View.{line, nonempty, best, running}
 use Rattle.rules.proofs.Lines.{line-tabulate}
 use Rattle.rings.specs.Rings.{IsId, All}
 use Rattle.rings.proofs.Laws.{first-law}
-use Rattle.state.specs.Layout as Layout
-use Rattle.state.specs.Moves.{entry}
+use Rattle.columns.specs.Layout as Layout
+use Rattle.columns.specs.Layout.{entry}
 use Rattle.state.specs.Picture.{tasksShown, storeShown, bodyShown, anchor, lineShown, viewShown, ready-queue, Accepted}
 use Rattle.guard.specs.Running.{headAt, runningOf}
 use Rattle.guard.proofs.Lowest.{HeadOf, head-of}

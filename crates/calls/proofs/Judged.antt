@@ -16,8 +16,8 @@ use Rattle.rules.specs.Tasks.{stateOf}
 use Rattle.rules.specs.View.{View}
 use Rattle.rules.specs.Verdicts.{Verdict, refuse, check}
 use Rattle.rules.specs.Table.{Refusal, refusals, Context, T, Target, row, names-dormant, judged}
-use Rattle.state.specs.Layout as Layout
-use Rattle.state.specs.Moves.{entry}
+use Rattle.columns.specs.Layout as Layout
+use Rattle.columns.specs.Layout.{entry}
 use Rattle.state.specs.Picture.{viewShown, Accepted}
 use Rattle.calls.specs.Doing.{Does, DoesOnWords}
 use Rattle.calls.specs.Judging.{firstCode, orElse, common, commonCode}

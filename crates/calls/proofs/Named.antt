@@ -13,8 +13,8 @@ use Rattle.rules.specs.Tasks.{stateOf}
 use Rattle.rules.specs.View.{View}
 use Rattle.rules.specs.Verdicts.{Verdict}
 use Rattle.rules.specs.Table.{Context, Target, row, names-dormant, judged, task-id}
-use Rattle.state.specs.Layout as Layout
-use Rattle.state.specs.Moves.{entry}
+use Rattle.columns.specs.Layout as Layout
+use Rattle.columns.specs.Layout.{entry}
 use Rattle.state.specs.Picture.{tasksShown, viewShown, Accepted}
 use Rattle.guard.proofs.Signed.{task-in}
 use Rattle.calls.specs.Doing.{Does, DoesOnWords}

@@ -18,8 +18,8 @@ use Rattle.rules.specs.Sound.{WaitNumbers}
 use Rattle.guard.proofs.Cases.{kind-cases, status-cases}
 use Rattle.calls.specs.Reading.{waitsAt, haltedAt, sleepsAt, wakeupsAt, numberAt}
 use Rattle.rules.proofs.Ids.{of-ids, length-ids}
-use Rattle.state.specs.Layout as Layout
-use Rattle.state.specs.Moves.{entry}
+use Rattle.columns.specs.Layout as Layout
+use Rattle.columns.specs.Layout.{entry}
 use Rattle.state.specs.Picture.{noWait, kindNumber, waitShown, stateShown, taskShown, tasksShown, bodyShown, viewShown, Accepted}
 
 pub tasks-count : (b m : List ℕ) → length (viewShown b m .body .tasks) ≡ tasksShown b

@@ -10,8 +10,9 @@ use Rattle.rules.specs.Events.{nat, outside}
 use Rattle.rules.specs.View.{View}
 use Rattle.rules.specs.Tasks.{sta-tsk, ext-tsk, ter-tsk, chg-pri, rel-wai, sus-tsk, rsm-tsk, can-wup}
 use Rattle.rules.specs.Table.{Refusal, T, both, anyone, alive, another, task-id, priority}
-use Rattle.state.specs.Layout as Layout
-use Rattle.state.specs.Moves.{entry, started, retired, regraded, released, halted, resumed}
+use Rattle.columns.specs.Layout as Layout
+use Rattle.columns.specs.Layout.{entry}
+use Rattle.state.specs.Moves.{started, retired, regraded, released, halted, resumed}
 use Rattle.state.specs.Picture.{storeShown, bodyShown, viewShown, Accepted}
 use Rattle.state.specs.Perform.{performed, performedMarks}
 use Rattle.calls.specs.Doing.{DoesOnWords}

@@ -17,12 +17,13 @@ use Rattle.rules.specs.Acts.{Act, elapse}
 use Rattle.rules.specs.Releases.{releases}
 use Rattle.rules.specs.Time.{ending, endings, timeout, ticked}
 use Rattle.rules.proofs.Ids.{of-ids, length-ids}
-use Rattle.state.specs.Layout as Layout
-use Rattle.state.specs.Layout.{stateWords}
-use Rattle.state.specs.Moves.{entry, queued, unqueued, rotated, readied, released, elapsed}
+use Rattle.columns.specs.Layout as Layout
+use Rattle.columns.specs.Layout.{stateWords}
+use Rattle.columns.specs.Layout.{entry}
+use Rattle.state.specs.Moves.{queued, unqueued, rotated, readied, released, elapsed}
 use Rattle.state.specs.Picture.{noWait, waitShown, stateShown, taskShown, bodyShown, viewShown, Accepted}
 use Rattle.state.specs.Perform.{performed, performedMarks}
-use Rattle.state.proofs.Tiling.{queued-law}
+use Rattle.state.proofs.Relinks.{queued-law}
 use Rattle.state.proofs.Lines.{out}
 use Rattle.state.proofs.Touched.{Touched, untouched, touched-put, touched-left, relinked-shown}
 use Rattle.state.proofs.OneTask.{sizes}

@@ -16,8 +16,9 @@ use Rattle.rules.specs.View.{View}
 use Rattle.rules.specs.Verdicts.{Verdict, refuse, waits}
 use Rattle.rules.specs.Tasks.{take-wakeup, slp-tsk, wai-for, wai-tsk, wup-tsk}
 use Rattle.rules.specs.Table.{T, both, anyone, another, time}
-use Rattle.state.specs.Layout as Layout
-use Rattle.state.specs.Moves.{entry, released, slept}
+use Rattle.columns.specs.Layout as Layout
+use Rattle.columns.specs.Layout.{entry}
+use Rattle.state.specs.Moves.{released, slept}
 use Rattle.state.specs.Perform.{put-to-wait, performed, performedMarks}
 use Rattle.state.specs.Picture.{viewShown}
 use Rattle.calls.specs.Doing.{Does, DoesOnWords}

@@ -8,8 +8,8 @@ use lib.Signed.{ltZ}
 use Rattle.rules.specs.Codes.{number, E-NOEXS, E-CTX, E-SELF, E-DMT}
 use Rattle.rules.specs.Events.{outside}
 use Rattle.rules.specs.Table.{Refusal, Context, T, both, Target, anyone, alive, another, misplaced, names-self, names-dormant}
-use Rattle.state.specs.Layout as Layout
-use Rattle.state.specs.Moves.{entry}
+use Rattle.columns.specs.Layout as Layout
+use Rattle.columns.specs.Layout.{entry}
 
 unfoldable pub firstCode : List Refusal → ℤ
 firstCode [] = pos 0

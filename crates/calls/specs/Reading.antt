@@ -3,8 +3,8 @@ use mathlib.Core.Bool.{Bool, cond, _&&_, _||_}
 use mathlib.Core.List.{List}
 use Prim.Native.Nat.{ℕ}
 use lib.Dec.{eqb, leb}
-use Rattle.state.specs.Layout as Layout
-use Rattle.state.specs.Moves.{entry}
+use Rattle.columns.specs.Layout as Layout
+use Rattle.columns.specs.Layout.{entry}
 use Rattle.guard.specs.Running.{headAt, runningOf}
 
 -- WAIT or WAIT-SUSPEND

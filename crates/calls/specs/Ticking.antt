@@ -4,8 +4,9 @@ use mathlib.Core.List.{List}
 use Prim.Native.Nat.{ℕ, zero, suc, _+_}
 use lib.Dec.{eqb}
 use Rattle.rules.specs.Ids.{once}
-use Rattle.state.specs.Layout as Layout
-use Rattle.state.specs.Moves.{entry, isTimed, released}
+use Rattle.columns.specs.Layout as Layout
+use Rattle.columns.specs.Layout.{entry}
+use Rattle.state.specs.Moves.{isTimed, released}
 
 -- a timed wait, suspended or not, with one tick left: by status, kind and ticks
 abbrev pub lastTick : ℕ → ℕ → ℕ → Bool

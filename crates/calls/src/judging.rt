@@ -1,7 +1,7 @@
 // What of a call is judged before its own rule: the words, then E_CTX, E_SELF and E_DMT. A refusal is its code, none is 0.
-use state::STATE_WORDS;
-use state::columns::status;
-use state::columns::system;
+use columns::STATE_WORDS;
+use columns::status;
+use columns::system;
 ghost use mathlib.Core.Path.{_≡_};
 ghost use mathlib.Core.Bool.{cond};
 ghost use mathlib.Core.List.{[], _∷_};
@@ -9,8 +9,8 @@ ghost use lib.IntN.{pos};
 ghost use lib.Dec.{eqb};
 ghost use Rattle.rules.specs.Events.{nat, outside, above};
 ghost use Rattle.rules.specs.Table as Table;
-ghost use Rattle.state.specs.Layout as Layout;
-ghost use Rattle.state.specs.Moves.{entry};
+ghost use Rattle.columns.specs.Layout as Layout;
+ghost use Rattle.columns.specs.Layout.{entry};
 ghost use Rattle.calls.specs.Judging.{firstCode, orElse, contextOf, targetOf, common, taskRefused};
 
 // What a call answers.

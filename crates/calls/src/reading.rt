@@ -1,10 +1,10 @@
 // What is asked of a task's state.
+use columns::STATE_WORDS;
+use columns::kind;
+use columns::status;
+use columns::system;
+use columns::wakeups;
 use guard::running::running_task;
-use state::STATE_WORDS;
-use state::columns::kind;
-use state::columns::status;
-use state::columns::system;
-use state::columns::wakeups;
 use state::queues::first;
 use state::queues::ready_anchor;
 ghost use mathlib.Core.Path.{_≡_};

@@ -1,10 +1,10 @@
 // The tick: the waits that it ends are released, then the other timed waits lose one and the clock rises.
+use columns::STATE_WORDS;
+use columns::kind;
+use columns::status;
+use columns::system;
+use columns::ticks;
 use guard::running::at_most;
-use state::STATE_WORDS;
-use state::columns::kind;
-use state::columns::status;
-use state::columns::system;
-use state::columns::ticks;
 use state::tasks::release;
 use state::time::elapse;
 ghost use mathlib.Core.Path.{_≡_};

@@ -2,9 +2,9 @@
 use crate::event::Answer;
 use crate::event::serve;
 use boot::Started;
+use columns::STATE_WORDS;
 use guard::check::accepts;
 use guard::running::running_task;
-use state::STATE_WORDS;
 ghost use mathlib.Core.Path.{_≡_};
 ghost use Prim.Native.Nat.{suc, _+_, _*_, _≤_};
 ghost use lib.ListN.{length, set};

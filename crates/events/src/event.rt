@@ -1,10 +1,10 @@
 // Every event on every memory: a call, and the tick. Nobody has to check first.
-use dispatch::dispatch;
 use calls::judging::named;
 use calls::judging::unless_upto;
+use columns::STATE_WORDS;
+use dispatch::dispatch;
 use guard::check::accepts;
 use guard::running::running_task;
-use state::STATE_WORDS;
 ghost use mathlib.Core.Path.{_≡_};
 ghost use mathlib.Core.Bool.{cond};
 ghost use lib.IntN.{ℤ};

@@ -17,9 +17,10 @@ use Rattle.rules.proofs.Lines.{line-tabulate, shape-tabulate}
 use Rattle.rings.specs.Links.{firstOf}
 use Rattle.rings.specs.Rings.{lineOf}
 use Rattle.rings.proofs.Laws.{first-law}
-use Rattle.state.specs.Layout as Layout
-use Rattle.state.specs.Layout.{stateWords, words}
-use Rattle.state.specs.Moves.{entry, readyAnchor}
+use Rattle.columns.specs.Layout as Layout
+use Rattle.columns.specs.Layout.{stateWords, words}
+use Rattle.columns.specs.Layout.{entry}
+use Rattle.state.specs.Moves.{readyAnchor}
 use Rattle.state.specs.Picture.{taskShown, tasksShown, messagesShown, storeShown, bodyShown, anchor, lineShown, viewShown, ready-queue, Whole, Accepted}
 use Rattle.state.proofs.FormHomes.{TaskQueue, MailQueue, task-exists, mail-exists, task-many, mail-many}
 use Rattle.guard.specs.Tests.{accepts}

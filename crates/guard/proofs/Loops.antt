@@ -9,9 +9,10 @@ use borrow.Author.Tests.{le-leb, lt-leb, ne-eqb, not-true}
 use native.Mathlib.Decide.{decLe}
 use lib.Bits.{bitOr}
 use Rattle.rings.specs.Links.{firstOf}
-use Rattle.state.specs.Layout as Layout
-use Rattle.state.specs.Layout.{words}
-use Rattle.state.specs.Moves.{entry, readyAnchor}
+use Rattle.columns.specs.Layout as Layout
+use Rattle.columns.specs.Layout.{words}
+use Rattle.columns.specs.Layout.{entry}
+use Rattle.state.specs.Moves.{readyAnchor}
 use Rattle.state.proofs.Steps.{one-bit}
 use Rattle.guard.proofs.Steps.{failed}
 use Rattle.guard.specs.Running.{atMost, headAt, marksOf, lowestMark, runningOf}

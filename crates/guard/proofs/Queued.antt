@@ -17,9 +17,10 @@ use Rattle.rules.specs.Sound.{LiesWell, WaitNumbers}
 use Rattle.rules.proofs.Ids.{of-ids, length-ids}
 use Rattle.rings.specs.Rings.{Stands, lineOf, Linked}
 use Rattle.rings.proofs.Columns.{length-col}
-use Rattle.state.specs.Layout as Layout
-use Rattle.state.specs.Layout.{stateWords, words}
-use Rattle.state.specs.Moves.{entry, readyAnchor, waitAnchor, mailAnchor}
+use Rattle.columns.specs.Layout as Layout
+use Rattle.columns.specs.Layout.{stateWords, words}
+use Rattle.columns.specs.Layout.{entry}
+use Rattle.state.specs.Moves.{readyAnchor, waitAnchor, mailAnchor}
 use Rattle.state.specs.Picture.{waitShown, stateShown, taskShown, messageShown, tasksShown, messagesShown, storeShown, bodyShown, kindNumber, anchor, UsedByTasks, UsedByMail}
 use Rattle.state.specs.Form as Form
 use Rattle.state.proofs.Parts.{nexts-links, prevs-links, nexts-mail, prevs-mail}

@@ -14,8 +14,8 @@ use Rattle.rules.specs.Codes.{Code, OK, H-STATE, E-TMOUT, E-RLWAI}
 use Rattle.rules.specs.State.{Kind, semaphore, flag, mailbox, pool, Wait, on, State, dormant, Task, Store, objects, waitOf, isDormant, sleeps}
 use Rattle.rules.specs.Sound.{Sizes, LiesWell, StoreNumbers, CellNumbers, WishNumbers, WaitNumbers, Unserved, SoundTask}
 use Rattle.rules.proofs.Ids.{of-ids, length-ids}
-use Rattle.state.specs.Layout as Layout
-use Rattle.state.specs.Moves.{entry}
+use Rattle.columns.specs.Layout as Layout
+use Rattle.columns.specs.Layout.{entry}
 use Rattle.state.specs.Perform.{codeKept}
 use Rattle.state.specs.Picture.{codeOf, waitShown, stateShown, taskShown, messageShown, bitsOf, poolShown, tasksShown, storeShown, bodyShown}
 use Rattle.guard.specs.Tests.{every, within, many, sizesOk, cellOk, wishOk, ticksOk, flagWaitOk, waitOk, waitAt, stateOk, taskOk, semaphoreOk, flagOk, poolOk, messageOk, rangesOk}

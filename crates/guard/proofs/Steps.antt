@@ -9,8 +9,8 @@ use lib.Dec.{eqb, leb, ltb}
 use borrow.Author.Tests.{not-true, not-false, le-leb, lt-leb, lt-ltb, le-ltb, eq-eqb, ne-eqb}
 use Rattle.rings.specs.Survey.{Survey, ranged, loose}
 use Rattle.rings.specs.Survey as survey
-use Rattle.state.specs.Layout as Layout
-use Rattle.state.specs.Moves.{entry}
+use Rattle.columns.specs.Layout as Layout
+use Rattle.columns.specs.Layout.{entry}
 use Rattle.guard.specs.Tests.{every, within, many, sizesOk, cellOk, poolOk, rangesOk, ranges}
 
 pub failed : {r t : Bool} → r ≡ t → not r ≡ true → t ≡ false

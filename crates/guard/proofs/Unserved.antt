@@ -20,9 +20,10 @@ use Rattle.rules.proofs.Waits.{neither}
 use Rattle.rings.specs.Links.{firstOf}
 use Rattle.rings.specs.Rings.{headOf, lineOf, Linked}
 use Rattle.rings.proofs.Laws.{first-law}
-use Rattle.state.specs.Layout as Layout
-use Rattle.state.specs.Layout.{stateWords, words}
-use Rattle.state.specs.Moves.{entry, mailAnchor}
+use Rattle.columns.specs.Layout as Layout
+use Rattle.columns.specs.Layout.{stateWords, words}
+use Rattle.columns.specs.Layout.{entry}
+use Rattle.state.specs.Moves.{mailAnchor}
 use Rattle.state.specs.Picture.{waitShown, stateShown, taskShown, bitsOf, poolShown, tasksShown, messagesShown, storeShown, bodyShown, kindNumber, anchor, UsedByMail, mailbox-queue}
 use Rattle.state.proofs.FormHomes.{MailQueue}
 use Rattle.guard.specs.Tests.{every, many, waitFree, waitFreeAt, unservedOk}

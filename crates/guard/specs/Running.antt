@@ -6,9 +6,10 @@ use Prim.Native.Nat.{ℕ, zero, suc, pred, _/_, _%_, _^_}
 use lib.Bits.{bitOr}
 use lib.Dec.{eqb, leb}
 use Rattle.rings.specs.Links.{firstOf}
-use Rattle.state.specs.Layout as Layout
-use Rattle.state.specs.Layout.{words}
-use Rattle.state.specs.Moves.{entry, readyAnchor}
+use Rattle.columns.specs.Layout as Layout
+use Rattle.columns.specs.Layout.{words}
+use Rattle.columns.specs.Layout.{entry}
+use Rattle.state.specs.Moves.{readyAnchor}
 
 -- a count that is too large to be one reads 0
 abbrev pub atMost : ℕ → ℕ → ℕ

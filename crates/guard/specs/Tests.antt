@@ -10,9 +10,10 @@ use Rattle.rules.specs.Events.{outside}
 use Rattle.rules.specs.Objects.{met}
 use Rattle.rings.specs.Links.{firstOf, nexts}
 use Rattle.rings.specs.Survey.{Survey, passed, ranged, loose}
-use Rattle.state.specs.Layout as Layout
-use Rattle.state.specs.Layout.{words}
-use Rattle.state.specs.Moves.{entry, readyAnchor, waitAnchor, mailAnchor}
+use Rattle.columns.specs.Layout as Layout
+use Rattle.columns.specs.Layout.{words}
+use Rattle.columns.specs.Layout.{entry}
+use Rattle.state.specs.Moves.{readyAnchor, waitAnchor, mailAnchor}
 
 -- the ids i, i + 1, … , n of them, all pass
 unfoldable pub every : ℕ → ℕ → (ℕ → Bool) → Bool

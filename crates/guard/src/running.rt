@@ -1,6 +1,6 @@
 // The running task: the head of the nonempty ready queue with the smallest priority number.
-use state::STATE_WORDS;
-use state::columns::system;
+use columns::STATE_WORDS;
+use columns::system;
 use state::queues::first;
 use state::queues::ready_anchor;
 ghost use mathlib.Core.Path.{_≡_};

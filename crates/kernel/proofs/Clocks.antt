@@ -11,9 +11,9 @@ use borrow.Author.Tests.{ltb-true, lt-ltb}
 use Rattle.rules.specs.Places.{tabulate}
 use Rattle.rules.specs.BenchSheet.{at-clock}
 use Rattle.rings.proofs.Columns.{col-store, length-store, length-col}
-use Rattle.state.specs.Layout as Layout
-use Rattle.state.specs.Layout.{words}
-use Rattle.state.specs.Moves.{entry}
+use Rattle.columns.specs.Layout as Layout
+use Rattle.columns.specs.Layout.{words}
+use Rattle.columns.specs.Layout.{entry}
 use Rattle.state.specs.Picture.{taskShown, storeShown, bodyShown, lineShown, viewShown, Accepted}
 use Rattle.state.proofs.FormWords.{back-clock}
 use Rattle.guard.specs.Tests.{sizesOk, taskOk, waitOk, stateOk, semaphoreOk, flagOk, poolOk, messageOk, rangesOk, home, taskHome, tasksQueued, mailQueued, waitFree, unservedOk, accepts}

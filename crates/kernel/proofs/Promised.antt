@@ -12,8 +12,8 @@ use Rattle.rules.specs.Events.{nat, outside}
 use Rattle.rules.specs.Answers.{readCell}
 use Rattle.rules.specs.State.{task, nobody}
 use Rattle.rules.proofs.Ids.{of-ids, length-ids}
-use Rattle.state.specs.Layout as Layout
-use Rattle.state.specs.Moves.{entry}
+use Rattle.columns.specs.Layout as Layout
+use Rattle.columns.specs.Layout.{entry}
 use Rattle.state.specs.Picture.{taskShown, tasksShown, bodyShown, viewShown, Accepted}
 use Rattle.guard.specs.Running.{runningOf}
 use Rattle.guard.specs.Tests.{isTask}

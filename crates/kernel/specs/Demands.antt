@@ -16,8 +16,8 @@ use Rattle.rules.specs.Blocks.{isFree, Happened, granted, gaveBack, AllAccounte
 use Rattle.rules.specs.Demand3.{Agree}
 use Rattle.rules.specs.Broken.{broken, isFresh, Unless}
 use Rattle.rules.specs.BenchSheet.{Case, Sheet}
-use Rattle.state.specs.Layout as Layout
-use Rattle.state.specs.Layout.{put}
+use Rattle.columns.specs.Layout as Layout
+use Rattle.columns.specs.Layout.{put}
 use Rattle.state.specs.Picture.{viewShown, Accepted}
 use Rattle.boot.specs.Starting.{Starts}
 use Rattle.boot.specs.declared.Started.{Started}

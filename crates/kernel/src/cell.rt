@@ -1,10 +1,10 @@
 // Reading a task's answer cell, and naming the running task, of a memory that may be damaged.
+use columns::STATE_WORDS;
+use columns::code;
+use columns::system;
+use columns::word;
 use guard::check::accepts;
 use guard::running::running_task;
-use state::STATE_WORDS;
-use state::columns::code;
-use state::columns::system;
-use state::columns::word;
 ghost use mathlib.Core.Path.{_≡_};
 ghost use Rattle.guard.specs.Tests as Tests;
 ghost use Rattle.kernel.specs.Promises as Promises;

@@ -1,11 +1,11 @@
 // The public functions under plain names, for programs in C and Rust: include/okrozumba.h declares them. Each promises what the
 // function that it wraps promises; an answer that is an enum there is told by its number and place here (specs/Exports.antt).
+use crate::cell::Reading;
+use boot::Started;
+use columns::STATE_WORDS;
 use events::batch::Batch;
 use events::batch::Ran;
-use crate::cell::Reading;
 use events::event::Answer;
-use boot::Started;
-use state::STATE_WORDS;
 ghost use mathlib.Core.Path.{_≡_};
 ghost use Prim.Native.Nat.{_≤_};
 ghost use Rattle.rules.specs.Events as Events;

@@ -15,8 +15,8 @@ use Rattle.rules.specs.Events.{nat, outside}
 use Rattle.rules.specs.Objects.{blocksOf, lowest, free}
 use Rattle.rules.proofs.Ids.{of-ids, length-ids}
 use Rattle.rules.proofs.Waits.{in-by}
-use Rattle.state.specs.Layout as Layout
-use Rattle.state.specs.Moves.{entry}
+use Rattle.columns.specs.Layout as Layout
+use Rattle.columns.specs.Layout.{entry}
 use Rattle.state.specs.Picture.{bitsOf, poolShown, storeShown, bodyShown, viewShown, Accepted}
 use Rattle.guard.specs.Running.{lowestMark}
 use Rattle.objects.specs.Blocks.{bitCount, notOut}

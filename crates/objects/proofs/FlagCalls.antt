@@ -22,9 +22,10 @@ use Rattle.rules.proofs.Ids.{of-ids}
 use Rattle.rules.proofs.Lines.{line-tabulate}
 use Rattle.rings.specs.Links.{firstOf}
 use Rattle.rings.proofs.Laws.{first-law}
-use Rattle.state.specs.Layout as Layout
-use Rattle.state.specs.Layout.{words}
-use Rattle.state.specs.Moves.{entry, waited, mailAnchor}
+use Rattle.columns.specs.Layout as Layout
+use Rattle.columns.specs.Layout.{words}
+use Rattle.columns.specs.Layout.{entry}
+use Rattle.state.specs.Moves.{waited, mailAnchor}
 use Rattle.state.specs.Perform.{put-to-wait, performed, performedMarks}
 use Rattle.state.specs.Picture.{storeShown, bodyShown, viewShown, anchor, messagesShown, lineShown, mailbox-queue, Accepted}
 use Rattle.guard.proofs.Lowest.{HeadOf, head-of}

@@ -7,8 +7,9 @@ use native.Mathlib.Numerals.{sub-one, add-one}
 use native.Mathlib.Omega.{arith}
 use borrow.Author.Tests.{le-leb, lt-leb, not-true, not-false}
 use Rattle.rules.specs.Objects.{met, left}
-use Rattle.state.specs.Layout as Layout
-use Rattle.state.specs.Moves.{entry, waitAnchor, released}
+use Rattle.columns.specs.Layout as Layout
+use Rattle.columns.specs.Layout.{entry}
+use Rattle.state.specs.Moves.{waitAnchor, released}
 use Rattle.guard.specs.Running.{atMost}
 use Rattle.objects.specs.Serving.{Walk, made, metAt, lookedAt, walked, served}
 

@@ -32,9 +32,10 @@ use Rattle.rings.specs.Rings.{Out, Stands, Distinct, headOf, without, lineOf, R
 use Rattle.rings.proofs.Lists.{stands-out, out-rest, without-mid, few}
 use Rattle.rings.proofs.Ways.{head-link}
 use Rattle.rings.proofs.Laws.{once-law, follow-law}
-use Rattle.state.specs.Layout as Layout
-use Rattle.state.specs.Layout.{words}
-use Rattle.state.specs.Moves.{entry, released}
+use Rattle.columns.specs.Layout as Layout
+use Rattle.columns.specs.Layout.{words}
+use Rattle.columns.specs.Layout.{entry}
+use Rattle.state.specs.Moves.{released}
 use Rattle.state.specs.Picture.{waitShown, stateShown, taskShown, tasksShown, storeShown, UsedByTasks, anchor, lineShown, viewShown, wait-queue, Accepted}
 use Rattle.state.specs.Perform.{performed, performedMarks}
 use Rattle.state.proofs.Lines.{keep-without}

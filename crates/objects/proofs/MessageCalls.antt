@@ -15,9 +15,10 @@ use Rattle.rules.specs.Verdicts.{Verdict}
 use Rattle.rules.specs.Objects.{polls, waits-on, take-msg}
 use Rattle.rules.specs.Table.{Context, T, both, anyone, row, judged, object-id}
 use Rattle.rings.specs.Links.{firstOf}
-use Rattle.state.specs.Layout as Layout
-use Rattle.state.specs.Layout.{words}
-use Rattle.state.specs.Moves.{entry, mailAnchor, unmailed, waited}
+use Rattle.columns.specs.Layout as Layout
+use Rattle.columns.specs.Layout.{words}
+use Rattle.columns.specs.Layout.{entry}
+use Rattle.state.specs.Moves.{mailAnchor, unmailed, waited}
 use Rattle.state.specs.Perform.{put-to-wait, performed, performedMarks}
 use Rattle.state.specs.Picture.{viewShown, Accepted}
 use Rattle.guard.proofs.Lowest.{HeadOf}

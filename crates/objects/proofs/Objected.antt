@@ -21,9 +21,10 @@ use Rattle.rules.proofs.Waits.{in-by}
 use Rattle.rules.proofs.Lines.{line-tabulate}
 use Rattle.rings.specs.Links.{firstOf}
 use Rattle.rings.proofs.Laws.{first-law}
-use Rattle.state.specs.Layout as Layout
-use Rattle.state.specs.Layout.{words}
-use Rattle.state.specs.Moves.{entry, waitAnchor, released}
+use Rattle.columns.specs.Layout as Layout
+use Rattle.columns.specs.Layout.{words}
+use Rattle.columns.specs.Layout.{entry}
+use Rattle.state.specs.Moves.{waitAnchor, released}
 use Rattle.state.specs.Picture.{kindNumber, tasksShown, storeShown, bodyShown, anchor, lineShown, viewShown, wait-queue, Accepted}
 use Rattle.state.specs.Perform.{performed, performedMarks}
 use Rattle.guard.proofs.Lowest.{HeadOf, head-of}

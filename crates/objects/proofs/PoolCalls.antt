@@ -12,8 +12,9 @@ use Rattle.rules.specs.State.{pool, on}
 use Rattle.rules.specs.Verdicts.{Verdict, gives, onCount}
 use Rattle.rules.specs.Objects.{polls, waits-on, obj-sts, blocksOf, free, take-blk, rel-blk}
 use Rattle.rules.specs.Table.{T, both}
-use Rattle.state.specs.Layout as Layout
-use Rattle.state.specs.Moves.{entry, released, waited, marked}
+use Rattle.columns.specs.Layout as Layout
+use Rattle.columns.specs.Layout.{entry}
+use Rattle.state.specs.Moves.{released, waited, marked}
 use Rattle.state.specs.Perform.{put-to-wait, performed, performedMarks}
 use Rattle.state.specs.Picture.{viewShown, Accepted}
 use Rattle.guard.specs.Running.{lowestMark}

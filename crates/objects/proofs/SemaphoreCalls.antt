@@ -15,8 +15,9 @@ use Rattle.rules.specs.Verdicts.{Verdict}
 use Rattle.rules.specs.Objects.{polls, waits-on, countOf, obj-sts, sig-sem, take-sem}
 use Rattle.rules.specs.Table.{T, both}
 use Rattle.rules.proofs.Ids.{of-ids}
-use Rattle.state.specs.Layout as Layout
-use Rattle.state.specs.Moves.{entry, released, waited}
+use Rattle.columns.specs.Layout as Layout
+use Rattle.columns.specs.Layout.{entry}
+use Rattle.state.specs.Moves.{released, waited}
 use Rattle.state.specs.Perform.{put-to-wait, performed, performedMarks}
 use Rattle.state.specs.Picture.{storeShown, bodyShown, viewShown}
 use Rattle.calls.specs.Doing.{Does, DoesOnWords}

@@ -18,8 +18,9 @@ use Rattle.rules.specs.Objects.{laid, snd-msg}
 use Rattle.rules.specs.Table.{Refusal, both, anyone, judged, object-id, message}
 use Rattle.rules.proofs.Ids.{of-ids, length-ids}
 use Rattle.rules.proofs.Waits.{in-by}
-use Rattle.state.specs.Layout as Layout
-use Rattle.state.specs.Moves.{entry, mailAnchor, mailed, released}
+use Rattle.columns.specs.Layout as Layout
+use Rattle.columns.specs.Layout.{entry}
+use Rattle.state.specs.Moves.{mailAnchor, mailed, released}
 use Rattle.state.specs.Perform.{performed, performedMarks}
 use Rattle.state.specs.Picture.{messageShown, storeShown, bodyShown, viewShown}
 use Rattle.calls.specs.Doing.{performs, performsMarks, Does}

@@ -5,8 +5,8 @@ use Prim.Native.Nat.{ℕ, zero, suc, pred, _+_, _/_, _%_, _^_}
 use lib.Dec.{eqb, leb}
 use lib.IntN.{pos}
 use Rattle.rules.specs.Events.{outside}
-use Rattle.state.specs.Layout as Layout
-use Rattle.state.specs.Moves.{entry}
+use Rattle.columns.specs.Layout as Layout
+use Rattle.columns.specs.Layout.{entry}
 
 -- how many of the k lowest bits are set
 unfoldable pub bitCount : ℕ → ℕ → ℕ

@@ -14,8 +14,8 @@ use Rattle.rules.specs.Verdicts.{Verdict, waits}
 use Rattle.rules.specs.Objects.{polls, obj-sts, patternOf, set-flg, clr-flg, take-flg}
 use Rattle.rules.specs.Table.{Context, T, both, anyone, row, judged, object-id, asked, mode}
 use Rattle.rings.specs.Links.{firstOf}
-use Rattle.state.specs.Layout as Layout
-use Rattle.state.specs.Layout.{words}
+use Rattle.columns.specs.Layout as Layout
+use Rattle.columns.specs.Layout.{words}
 use Rattle.state.specs.Moves.{mailAnchor}
 use Rattle.calls.specs.Judging.{orElse, commonCode}
 use Rattle.objects.specs.Objects.{noObject}

@@ -11,9 +11,10 @@ use Rattle.rules.specs.Verdicts.{Verdict}
 use Rattle.rules.specs.Objects.{polls, waits-on, obj-sts, countOf, sig-sem, take-sem, blocksOf, free, take-blk, rel-blk}
 use Rattle.rules.specs.Table.{Context, T, both, anyone, row, judged, object-id}
 use Rattle.rings.specs.Links.{firstOf}
-use Rattle.state.specs.Layout as Layout
-use Rattle.state.specs.Layout.{words}
-use Rattle.state.specs.Moves.{entry, waitAnchor}
+use Rattle.columns.specs.Layout as Layout
+use Rattle.columns.specs.Layout.{words}
+use Rattle.columns.specs.Layout.{entry}
+use Rattle.state.specs.Moves.{waitAnchor}
 use Rattle.calls.specs.Judging.{orElse, commonCode}
 
 -- where the system column counts the objects of a kind

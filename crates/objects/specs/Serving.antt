@@ -4,8 +4,9 @@ use mathlib.Core.List.{List}
 use Prim.Native.Nat.{ℕ, zero, suc}
 use lib.Dec.{leb}
 use Rattle.rules.specs.Objects.{met, left}
-use Rattle.state.specs.Layout as Layout
-use Rattle.state.specs.Moves.{entry, waitAnchor, released}
+use Rattle.columns.specs.Layout as Layout
+use Rattle.columns.specs.Layout.{entry}
+use Rattle.state.specs.Moves.{waitAnchor, released}
 use Rattle.guard.specs.Running.{atMost}
 
 -- what it has made so far: the words, the pattern of this moment, and how many it has released

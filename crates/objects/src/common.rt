@@ -1,8 +1,8 @@
 // What a call on an object judges and reads, over the kind of the object.
 use calls::judging::refused;
 use calls::judging::unless_within;
-use state::STATE_WORDS;
-use state::columns::system;
+use columns::STATE_WORDS;
+use columns::system;
 use state::queues::first;
 use state::queues::wait_anchor;
 ghost use mathlib.Core.Path.{_≡_};

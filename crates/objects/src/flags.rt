@@ -1,16 +1,16 @@
 // The calls on flags. `me` is the caller, 0 from a handler and while nothing runs.
+use crate::common::first_waiter;
+use crate::common::refused_object;
 use calls::judging::Said;
 use calls::judging::named;
 use calls::judging::refused;
 use calls::judging::unless_upto;
 use calls::judging::unless_within;
-use crate::common::first_waiter;
-use crate::common::refused_object;
+use columns::STATE_WORDS;
+use columns::flag;
+use columns::set_flag;
+use columns::system;
 use guard::check::meets;
-use state::STATE_WORDS;
-use state::columns::flag;
-use state::columns::set_flag;
-use state::columns::system;
 use state::tasks::wait;
 ghost use mathlib.Core.Path.{_≡_};
 ghost use Rattle.rules.specs.Events.{bits};

@@ -1,9 +1,9 @@
 // The calls on mailboxes that touch no message.
-use calls::judging::Said;
-use calls::judging::named;
 use crate::common::first_waiter;
 use crate::common::refused_object;
-use state::STATE_WORDS;
+use calls::judging::Said;
+use calls::judging::named;
+use columns::STATE_WORDS;
 use state::queues::mail_anchor;
 use state::queues::mail_first;
 ghost use Rattle.calls.specs.Doing.{DoesOnWords};

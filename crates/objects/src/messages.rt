@@ -1,13 +1,13 @@
 // The calls that lay and take messages. `me` is the caller, 0 from a handler and while nothing runs.
+use crate::common::first_waiter;
+use crate::common::refused_object;
 use calls::judging::Said;
 use calls::judging::named;
 use calls::judging::refused;
 use calls::judging::unless_also_within;
 use calls::judging::unless_within;
-use crate::common::first_waiter;
-use crate::common::refused_object;
-use state::STATE_WORDS;
-use state::columns::system;
+use columns::STATE_WORDS;
+use columns::system;
 use state::objects::mark_of;
 use state::objects::post;
 use state::objects::receive;

@@ -1,11 +1,11 @@
 // The calls on pools. `me` is the caller, 0 from a handler and while nothing runs.
-use calls::judging::Said;
-use calls::judging::named;
 use crate::common::first_waiter;
 use crate::common::refused_object;
-use state::STATE_WORDS;
-use state::columns::free;
-use state::columns::size;
+use calls::judging::Said;
+use calls::judging::named;
+use columns::STATE_WORDS;
+use columns::free;
+use columns::size;
 use state::objects::mark_block;
 use state::tasks::release;
 use state::tasks::wait;

@@ -1,11 +1,11 @@
 // The calls on semaphores. `me` is the caller, 0 from a handler and while nothing runs.
-use calls::judging::Said;
-use calls::judging::named;
 use crate::common::first_waiter;
 use crate::common::refused_object;
-use state::STATE_WORDS;
-use state::columns::semaphore;
-use state::columns::set_semaphore;
+use calls::judging::Said;
+use calls::judging::named;
+use columns::STATE_WORDS;
+use columns::semaphore;
+use columns::set_semaphore;
 use state::tasks::release;
 use state::tasks::wait;
 ghost use Rattle.calls.specs.Doing.{DoesOnWords, Kept};

@@ -1,17 +1,17 @@
 // set_flg: the waiters on a flag are looked at in order, in one walk along their queue. `me` is the caller, 0 from a handler and
 // while nothing runs.
+use crate::common::refused_object;
 use crate::flags::bits_of;
 use crate::flags::left_of;
 use calls::judging::named;
-use crate::common::refused_object;
+use columns::STATE_WORDS;
+use columns::flag;
+use columns::mode;
+use columns::set_flag;
+use columns::system;
+use columns::wish;
 use guard::check::meets;
 use guard::running::at_most;
-use state::STATE_WORDS;
-use state::columns::flag;
-use state::columns::mode;
-use state::columns::set_flag;
-use state::columns::system;
-use state::columns::wish;
 use state::queues::follow;
 use state::queues::wait_anchor;
 use state::tasks::release;

@@ -16,11 +16,12 @@ use Rattle.rules.specs.Acts.{elapse, after, move, with-state, older, clockAfter
 use Rattle.rules.proofs.Ids.{map-ids, length-ids}
 use Rattle.rings.specs.Columns.{col, store}
 use Rattle.rings.proofs.Columns.{col-store, col-below, length-store, length-col}
-use Rattle.state.specs.Layout as Layout
-use Rattle.state.specs.Layout.{stateWords, words}
-use Rattle.state.specs.Moves.{entry, isTimed, aged, agedFrom, clocked, elapsed}
+use Rattle.columns.specs.Layout as Layout
+use Rattle.columns.specs.Layout.{stateWords, words}
+use Rattle.columns.specs.Layout.{entry}
+use Rattle.state.specs.Moves.{isTimed, aged, agedFrom, clocked, elapsed}
 use Rattle.state.specs.Picture.{noWait, waitShown, stateShown, taskShown, storeShown, bodyShown, viewShown, Accepted}
-use Rattle.state.proofs.Tiling.{put-at}
+use Rattle.state.proofs.Relinks.{put-at}
 use Rattle.state.proofs.Lines.{rest, follows-stay}
 use Rattle.state.proofs.Done.{LowClock, Done}
 use Rattle.state.proofs.Touched.{low, shown-by, Touched, untouched, touched-put, table-by, pools-by, store-parts}

@@ -11,9 +11,9 @@ use Rattle.rules.specs.View.{moved, act}
 use Rattle.rules.proofs.Lines.{line-tabulate, tabulate-same, exists-after, exists-before}
 use Rattle.rings.specs.Rings.{lineOf, Linked}
 use Rattle.rings.proofs.Laws.{linked-ext, linked-use, line-is}
-use Rattle.state.specs.Layout as Layout
-use Rattle.state.specs.Layout.{stateWords, mailNext, mailPrev, words}
-use Rattle.state.specs.Moves.{entry}
+use Rattle.columns.specs.Layout as Layout
+use Rattle.columns.specs.Layout.{stateWords, mailNext, mailPrev, words}
+use Rattle.columns.specs.Layout.{entry}
 use Rattle.state.specs.Picture.{tasksShown, messagesShown, storeShown, bodyShown, lineShown, viewShown, UsedByTasks, ready-queue, wait-queue, UsedByMail, mailbox-queue, Whole, Shows}
 use Rattle.state.proofs.Lines.{Step, nextAfter, prevAfter, lineAfter, Fine, step-law, Follows}
 

@@ -10,9 +10,9 @@ use Rattle.rules.specs.Ids.{of, In}
 use Rattle.rules.specs.State.{Body, task, nobody}
 use Rattle.rules.specs.Places.{Place}
 use Rattle.rules.specs.Sound.{SoundBody}
-use Rattle.state.specs.Layout as Layout
-use Rattle.state.specs.Layout.{words}
-use Rattle.state.specs.Moves.{entry}
+use Rattle.columns.specs.Layout as Layout
+use Rattle.columns.specs.Layout.{words}
+use Rattle.columns.specs.Layout.{entry}
 use Rattle.state.specs.Picture.{taskShown, messageShown, poolShown, storeShown, bodyShown, tasksShown, messagesShown}
 use Rattle.state.specs.Perform.{codeKept}
 use Rattle.state.specs.Form.{statusNumber, wordsOf, maskOf, boxNumber, taskLink, mailLink, run, Part, part, pile, systemWords, parts}

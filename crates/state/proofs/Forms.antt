@@ -17,7 +17,7 @@ use Rattle.rules.specs.Kernel.{fresh}
 use Rattle.rules.proofs.Ids.{inside}
 use Rattle.rules.proofs.Lines.{tabulate-same}
 use Rattle.rules.proofs.Events.{fresh-sound}
-use Rattle.state.specs.Layout as Layout
+use Rattle.columns.specs.Layout as Layout
 use Rattle.rings.specs.Rings.{lineOf, Linked}
 use Rattle.state.specs.Picture.{storeShown, anchor, lineShown, viewShown, UsedByTasks, UsedByMail, Whole, Accepted}
 use Rattle.state.specs.Form.{Fits32, maskOf, boxNumber, systemWords, parts, formOf, marksOf}

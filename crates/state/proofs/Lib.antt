@@ -1,7 +1,7 @@
 -- Laws of the memory.
 pub mod Parts
 pub mod Steps
-pub mod Tiling
+pub mod Relinks
 pub mod Lines
 pub mod Done
 pub mod Touched

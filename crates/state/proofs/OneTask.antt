@@ -15,11 +15,12 @@ use Rattle.rules.specs.Sound.{Sizes, SoundTask}
 use Rattle.rules.proofs.Ids.{of-put-same, of-ids, length-ids}
 use Rattle.rules.proofs.Fits.{stands}
 use Rattle.rings.specs.Rings.{IsId}
-use Rattle.state.specs.Layout as Layout
-use Rattle.state.specs.Layout.{words}
-use Rattle.state.specs.Moves.{entry, readyAnchor, waitAnchor, queued, unqueued, rotated}
+use Rattle.columns.specs.Layout as Layout
+use Rattle.columns.specs.Layout.{words}
+use Rattle.columns.specs.Layout.{entry}
+use Rattle.state.specs.Moves.{readyAnchor, waitAnchor, queued, unqueued, rotated}
 use Rattle.state.specs.Picture.{tasksShown, waitShown, taskShown, storeShown, bodyShown, viewShown, kindNumber, anchor, UsedByTasks, ready-queue, wait-queue, Accepted}
-use Rattle.state.proofs.Tiling.{queued-law, unqueued-law}
+use Rattle.state.proofs.Relinks.{queued-law, unqueued-law}
 use Rattle.state.proofs.Lines.{Step, rest, out, to, Fine, Small, sort, samePlace, ready-stands, wait-stands, Follows, follows-stay, task-leaves, task-lost, task-goes}
 use Rattle.state.proofs.Done.{Done}
 use Rattle.state.proofs.Touched.{map-put, store-same, relinked-shown, Touched, touched-left, touched-last}

@@ -10,7 +10,7 @@ use Rattle.rings.specs.Columns.{col, splice}
 use Rattle.rings.specs.Links.{nexts, prevs}
 use Rattle.rings.proofs.Columns.{length-col, put-back}
 use Rattle.rings.proofs.Halves.{nexts-col, prevs-col}
-use Rattle.state.specs.Layout.{next, prev, mailNext, mailPrev, stateWords, links, mailLinks, words}
+use Rattle.columns.specs.Layout.{next, prev, mailNext, mailPrev, stateWords, links, mailLinks, words}
 
 module _ (b : List ℕ) (h : length b ≡ stateWords) where
   pub nexts-links : nexts (words links b) ≡ words next b

@@ -12,8 +12,9 @@ use lib.Pow.{shl-exact}
 use lib.Seq.{set-out}
 use borrow.Author.Tests.{ne-eqb, le-leb, lt-leb}
 use Rattle.rules.specs.Ids.{of, put}
-use Rattle.state.specs.Layout as Layout
-use Rattle.state.specs.Moves.{entry, awaiting, masked, marked, isTimed, aged, agedFrom, clocked}
+use Rattle.columns.specs.Layout as Layout
+use Rattle.columns.specs.Layout.{entry}
+use Rattle.state.specs.Moves.{awaiting, masked, marked, isTimed, aged, agedFrom, clocked}
 
 -- ---- tables by id
 

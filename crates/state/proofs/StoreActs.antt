@@ -22,11 +22,12 @@ use Rattle.rings.specs.Links.{leftNext, leftPrev}
 use Rattle.rings.specs.Rings.{IsId, Out, lineOf}
 use Rattle.rings.proofs.Columns.{col-same, col-above, col-below, length-store}
 use Rattle.rings.proofs.Laws.{free-law}
-use Rattle.state.specs.Layout as Layout
-use Rattle.state.specs.Layout.{stateWords, words}
-use Rattle.state.specs.Moves.{entry, masked, marked, mailAnchor, mailed, unmailed}
+use Rattle.columns.specs.Layout as Layout
+use Rattle.columns.specs.Layout.{stateWords, words}
+use Rattle.columns.specs.Layout.{entry}
+use Rattle.state.specs.Moves.{masked, marked, mailAnchor, mailed, unmailed}
 use Rattle.state.specs.Picture.{messagesShown, messageShown, poolShown, storeShown, bodyShown, anchor, lineShown, viewShown, UsedByMail, mailbox-queue, Accepted}
-use Rattle.state.proofs.Tiling.{put-at, Relinked, mailed-law, unmailed-law}
+use Rattle.state.proofs.Relinks.{put-at, Relinked, mailed-law, unmailed-law}
 use Rattle.state.proofs.Lines.{Step, rest, out, to, nextAfter, prevAfter, Fine, Follows, follows-stay, message-leaves, message-goes}
 use Rattle.state.proofs.Done.{Done}
 use Rattle.state.proofs.Touched.{map-put, tasks-by, table-by, pools-by, store-by}

@@ -19,12 +19,13 @@ use mathlib.Core.Option.{some}
 use Rattle.rules.specs.Sound.{WaitNumbers, WishNumbers}
 use Rattle.rings.specs.Columns.{col}
 use Rattle.rings.proofs.Columns.{col-store}
-use Rattle.state.specs.Layout as Layout
-use Rattle.state.specs.Layout.{stateWords}
-use Rattle.state.specs.Moves.{entry, awaiting, rotated, started, readied, retired, regraded, halted, resumed, released, slept, waited}
+use Rattle.columns.specs.Layout as Layout
+use Rattle.columns.specs.Layout.{stateWords}
+use Rattle.columns.specs.Layout.{entry}
+use Rattle.state.specs.Moves.{awaiting, rotated, started, readied, retired, regraded, halted, resumed, released, slept, waited}
 use Rattle.state.specs.Picture.{codeOf, noWait, waitShown, stateShown, taskShown, storeShown, bodyShown, kindNumber, Accepted}
 use Rattle.state.specs.Perform.{codeKept, put-to-wait}
-use Rattle.state.proofs.Tiling.{put-at}
+use Rattle.state.proofs.Relinks.{put-at}
 use Rattle.state.proofs.Lines.{rest}
 use Rattle.state.proofs.Done.{Done}
 use Rattle.state.proofs.Touched.{Touched, untouched, touched-put}

@@ -17,11 +17,12 @@ use Rattle.rules.specs.Places.{Place}
 use Rattle.rules.proofs.Ids.{length-put, of-put-other, of-put-same, of-ids, length-ids}
 use Rattle.rings.specs.Columns.{col, store}
 use Rattle.rings.proofs.Columns.{col-same, col-above, col-below, length-store}
-use Rattle.state.specs.Layout as Layout
-use Rattle.state.specs.Layout.{stateWords, words}
-use Rattle.state.specs.Moves.{entry, queued, unqueued}
+use Rattle.columns.specs.Layout as Layout
+use Rattle.columns.specs.Layout.{stateWords, words}
+use Rattle.columns.specs.Layout.{entry}
+use Rattle.state.specs.Moves.{queued, unqueued}
 use Rattle.state.specs.Picture.{codeOf, waitShown, stateShown, taskShown, messageShown, poolShown, storeShown, anchor}
-use Rattle.state.proofs.Tiling.{Relinked, queued-law, unqueued-law}
+use Rattle.state.proofs.Relinks.{Relinked, queued-law, unqueued-law}
 use Rattle.state.proofs.Lines.{Step, rest, out, to, nextAfter, prevAfter}
 
 -- ---- a table with one entry changed

@@ -11,8 +11,8 @@ use Rattle.rules.specs.State.{semaphore, flag, mailbox, pool, Wait, asleep, tim
 use Rattle.rules.specs.Places.{Place, readyAt, waiters, mail, lineAt}
 use Rattle.rules.specs.View.{View}
 use Rattle.rings.specs.Rings.{All, headOf}
-use Rattle.state.specs.Layout as Layout
-use Rattle.state.specs.Layout.{Column}
+use Rattle.columns.specs.Layout as Layout
+use Rattle.columns.specs.Layout.{Column}
 use Rattle.state.specs.Picture.{kindNumber, anchor}
 use Rattle.state.specs.Perform.{codeKept}
 

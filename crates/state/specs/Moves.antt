@@ -5,14 +5,9 @@ use mathlib.Core.List.{List, [], _∷_}
 use Prim.Native.Nat.{ℕ, zero, suc, pred, _+_, _-_, _*_, _/_, _%_, _^_}
 use lib.Bits.{bitAnd, bitOr}
 use lib.Dec.{eqb, leb}
-use lib.ListN.{getD, set}
 use Rattle.rings.specs.Columns.{splice}
 use Rattle.rings.specs.Links.{pushed, left, cleared}
-use Rattle.state.specs.Layout.{Column, status, priority, start, wakeups, code, word, kind, object, wish, mode, ticks, free, system, links, mailLinks, words, put}
-
--- the entry of an id
-abbrev pub entry : Column → List ℕ → ℕ → ℕ
-entry c b i = getD (words c b) i 0
+use Rattle.columns.specs.Layout.{status, priority, start, wakeups, code, word, kind, object, wish, mode, ticks, free, system, links, mailLinks, words, entry, put}
 
 -- ---- queues
 

@@ -11,7 +11,7 @@ use Rattle.rules.specs.State.{Wait, asleep, timed, on, Body, task, isReady}
 use Rattle.rules.specs.Acts.{Act, start, retire, rotate, regrade, wait, release, suspend, resume, wakeups, count, pattern, post, receive, mark, elapse}
 use Rattle.rules.specs.Objects.{laid}
 use Rattle.rules.specs.Sound.{WaitNumbers}
-use Rattle.state.specs.Layout as Layout
+use Rattle.columns.specs.Layout as Layout
 use Rattle.state.specs.Moves.{mailAnchor, mailed, unmailed, rotated, started, retired, regraded, halted, resumed, released, slept, waited, marked, elapsed}
 use Rattle.state.specs.Picture.{codeOf, kindNumber}
 

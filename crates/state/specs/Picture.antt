@@ -14,9 +14,9 @@ use Rattle.rules.specs.Places.{Place, readyAt, waiters, mail, Exists, tabulate}
 use Rattle.rules.specs.View.{View}
 use Rattle.rules.specs.Sound.{Sound}
 use Rattle.rings.specs.Rings.{lineOf, Linked}
-use Rattle.state.specs.Layout as Layout
-use Rattle.state.specs.Layout.{stateWords, words}
-use Rattle.state.specs.Moves.{entry}
+use Rattle.columns.specs.Layout as Layout
+use Rattle.columns.specs.Layout.{stateWords, words}
+use Rattle.columns.specs.Layout.{entry}
 
 -- ---- tasks
 

@@ -1,10 +1,10 @@
 // The acts on messages and blocks. (A semaphore's count and a flag's pattern are columns.)
-use crate::STATE_WORDS;
-use crate::columns::free;
-use crate::columns::set_free;
 use crate::queues::mail_anchor;
 use crate::queues::mail_leave;
 use crate::queues::mail_push;
+use columns::STATE_WORDS;
+use columns::free;
+use columns::set_free;
 ghost use mathlib.Core.Path.{_≡_};
 ghost use Prim.Native.Nat.{_<_};
 ghost use Rattle.rules.specs.Ids.{of, put};

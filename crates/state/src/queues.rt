@@ -1,13 +1,14 @@
 // The queues: rings of tasks and of messages, over the crate `rings`.
-use crate::STATE_WORDS;
+use columns::STATE_WORDS;
 ghost use mathlib.Core.Path.{_≡_};
 ghost use Prim.Native.Nat.{_-_, _≤_};
 ghost use lib.ListN.{length};
 ghost use Rattle.rings.specs.Columns.{col, splice};
 ghost use Rattle.rings.specs.Links.{firstOf, pushed, left, cleared};
-ghost use Rattle.state.specs.Layout as Layout;
-ghost use Rattle.state.specs.Layout.{words as wordsOf};
-ghost use Rattle.state.specs.Moves.{entry, readyAnchor, waitAnchor, mailAnchor, queued, unqueued, clearedQueue, mailed, unmailed, clearedMail};
+ghost use Rattle.columns.specs.Layout as Layout;
+ghost use Rattle.columns.specs.Layout.{words as wordsOf};
+ghost use Rattle.columns.specs.Layout.{entry};
+ghost use Rattle.state.specs.Moves.{readyAnchor, waitAnchor, mailAnchor, queued, unqueued, clearedQueue, mailed, unmailed, clearedMail};
 
 // The anchor of the ready queue of a priority; 0 for a number that is none.
 pub fn ready_anchor(priority: u32) -> u32

@@ -1,22 +1,22 @@
 // The acts on tasks. Each is an act of the rules (specs/Acts.antt of `rules`), done on the memory.
-use crate::STATE_WORDS;
-use crate::columns::priority;
-use crate::columns::set_code;
-use crate::columns::set_kind;
-use crate::columns::set_mode;
-use crate::columns::set_object;
-use crate::columns::set_priority;
-use crate::columns::set_status;
-use crate::columns::set_ticks;
-use crate::columns::set_wakeups;
-use crate::columns::set_wish;
-use crate::columns::set_word;
-use crate::columns::start;
-use crate::columns::status;
 use crate::queues::leave;
 use crate::queues::push;
 use crate::queues::ready_anchor;
 use crate::queues::wait_anchor;
+use columns::STATE_WORDS;
+use columns::priority;
+use columns::set_code;
+use columns::set_kind;
+use columns::set_mode;
+use columns::set_object;
+use columns::set_priority;
+use columns::set_status;
+use columns::set_ticks;
+use columns::set_wakeups;
+use columns::set_wish;
+use columns::set_word;
+use columns::start;
+use columns::status;
 ghost use mathlib.Core.Path.{_≡_};
 ghost use Rattle.state.specs.Moves.{celled, rotated, readied, started, retired, regraded, halted, resumed, released, awaiting, slept, waited};
 

@@ -1,11 +1,11 @@
 // A tick goes by: each timed wait loses one, and the clock rises.
-use crate::STATE_WORDS;
-use crate::columns::kind;
-use crate::columns::set_system;
-use crate::columns::set_ticks;
-use crate::columns::status;
-use crate::columns::system;
-use crate::columns::ticks;
+use columns::STATE_WORDS;
+use columns::kind;
+use columns::set_system;
+use columns::set_ticks;
+use columns::status;
+use columns::system;
+use columns::ticks;
 ghost use mathlib.Core.Path.{_≡_};
 ghost use Prim.Native.Nat.{pred, _≤_};
 ghost use Rattle.state.specs.Moves.{isTimed, aged, agedFrom, few, clocked, elapsed};

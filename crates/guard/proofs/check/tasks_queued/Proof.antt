@@ -2,8 +2,8 @@
 use denote.Ref.{now}
 use Rattle.rings.specs.Columns.{col}
 use Rattle.rings.specs.Links.{nexts}
-use Rattle.state.specs.Layout as Layout
-use Rattle.state.specs.Layout.{words}
+use Rattle.columns.specs.Layout as Layout
+use Rattle.columns.specs.Layout.{words}
 use Rattle.guard.proofs.Steps.{queued-stop, queued-loose, queued-homes}
 use Rattle.guard.specs.Tests.{many, taskSurvey, taskHome, tasksQueued}
 use borrow.Author.Needs.{needs}

@@ -1,8 +1,8 @@
 use mathlib.Core.Path.{sym}
 use borrow.Author.Needs.{needs}
 use Rattle.rings.proofs.Columns.{col-at, col-past}
-use Rattle.state.proofs.columns.read.Statement.{statement}
-use Rattle.state.proofs.columns.read.Tie as tie
+use Rattle.columns.proofs.read.Statement.{statement}
+use Rattle.columns.proofs.read.Tie as tie
 
 add-result : tie.Need-add-result
 add-result c = search needs

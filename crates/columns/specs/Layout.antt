@@ -4,6 +4,7 @@ use mathlib.Core.Bool.{Bool, true, false, _&&_}
 use mathlib.Core.List.{List, [], _∷_}
 use Prim.Native.Nat.{ℕ, _+_}
 use lib.Dec.{eqb}
+use lib.ListN.{getD}
 use Rattle.rings.specs.Columns.{col, store}
 
 -- where it begins, and how many words it has
@@ -102,6 +103,10 @@ mailLinks = column 625 546
 -- the words of a column
 abbrev pub words : Column → List ℕ → List ℕ
 words c b = col (c .at) (c .width) b
+
+-- the entry of an id
+abbrev pub entry : Column → List ℕ → ℕ → ℕ
+entry c b i = getD (words c b) i 0
 
 -- the memory with another entry in a column; an index outside it changes nothing
 abbrev pub put : Column → ℕ → ℕ → List ℕ → List ℕ

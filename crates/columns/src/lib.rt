@@ -1,12 +1,14 @@
 // The columns of the memory: total reads and writes by id. An id that a column does not have reads 0 and writes nothing.
-use crate::STATE_WORDS;
 ghost use mathlib.Core.Path.{_≡_};
 ghost use Prim.Native.Nat.{_+_, _≤_};
 ghost use lib.ListN.{getD};
 ghost use Rattle.rings.specs.Columns.{col, store};
-ghost use Rattle.state.specs.Layout as Layout;
-ghost use Rattle.state.specs.Layout.{put};
-ghost use Rattle.state.specs.Moves.{entry};
+ghost use Rattle.columns.specs.Layout as Layout;
+ghost use Rattle.columns.specs.Layout.{put};
+ghost use Rattle.columns.specs.Layout.{entry};
+
+// How many words the kernel's state has, beside the 256 marks of the messages.
+pub const STATE_WORDS: usize = 1180;
 
 // Entry i of the `width` words from `at` on.
 fn read(words: &[u32; STATE_WORDS], at: usize, width: usize, i: u32) -> u32

@@ -1,8 +1,8 @@
 use mathlib.Core.Path.{sym}
 use borrow.Author.Needs.{needs}
 use Rattle.rings.proofs.Columns.{store-at, store-past}
-use Rattle.state.proofs.columns.write.Statement.{statement}
-use Rattle.state.proofs.columns.write.Tie as tie
+use Rattle.columns.proofs.write.Statement.{statement}
+use Rattle.columns.proofs.write.Tie as tie
 
 add-words : tie.Need-add-words
 add-words c = search needs

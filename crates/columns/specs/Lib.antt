@@ -1,0 +1,2 @@
+-- The layout of the memory.
+pub mod Layout
