@@ -1,13 +1,15 @@
 -- The loops, over ids, priorities and bits: what the rest gives from here is what the whole gives. Assumes nothing.
 use Prim.Native.Nat.{ℕ, zero, suc, _+_, _-_, _*_, _/_, _%_, _^_, _≤_, _<_}
 use mathlib.Core.Path.{_≡_, refl, sym, ap, _∙_}
-use mathlib.Core.Bool.{Bool, true, false, not, true≢false}
+use mathlib.Core.Bool.{Bool, true, false, not, cond, true≢false}
 use mathlib.Core.List.{List}
 use native.Mathlib.Numerals.{add-one, sub-one}
 use native.Mathlib.Omega.{arith}
 use borrow.Author.Tests.{le-leb, lt-leb, ne-eqb, not-true}
 use native.Mathlib.Decide.{decLe}
 use lib.Bits.{bitOr}
+use lib.Count.{under, trailingZeros}
+use lib.Dec.{eqb}
 use Rattle.rings.specs.Links.{firstOf}
 use Rattle.columns.specs.Layout as Layout
 use Rattle.columns.specs.Layout.{words}
@@ -58,21 +60,30 @@ module _ (f : ℕ → Bool) {most s k n : ℕ} {r : Bool} (es : s ≡ k) (en : (
 
 -- ---- one-bit marks
 
-module _ (p w : ℕ) where
-  pub lowest-none : (left : ℕ) → left ≤ 0 → 0 ≡ lowestMark left p w
-  unfolding lowestMark
-  lowest-none zero h = refl
-  lowest-none (suc left) h = absurd (omega arith)
+-- the lowest set bit stands above as many bits as are 0 before it; n of the k bits are searched, the first of them being place p
+pub lowest-at : (n k p w : ℕ) → n ≤ k → trailingZeros k w < n → trailingZeros k w + p ≡ lowestMark n p w
+unfolding lowestMark trailingZeros
+lowest-at zero k p w l h = absurd (omega arith)
+lowest-at (suc n) zero p w l h = absurd (omega arith)
+lowest-at (suc n) (suc k) p w l h = go (w % 2) (omega arith) (lowest-at n k (suc p) (w / 2) (omega arith)) h
+  where
+    go : (d : ℕ) → d < 2 → (trailingZeros k (w / 2) < n → trailingZeros k (w / 2) + suc p ≡ lowestMark n (suc p) (w / 2))
+        → under d (trailingZeros k (w / 2)) < suc n → under d (trailingZeros k (w / 2)) + p ≡ cond (eqb d 1) p (lowestMark n (suc p) (w / 2))
+    go zero b rest h = rw (← rest (omega arith)) (omega arith)
+    go (suc zero) b rest h = omega arith
+    go (suc (suc d)) b rest h = absurd (omega arith)
 
-  pub lowest-here : (left : ℕ) → 0 < left → w % 2 ≡ 1 → p ≡ lowestMark left p w
-  unfolding lowestMark
-  lowest-here zero h e = absurd (omega arith)
-  lowest-here (suc left) h e = rw e
-
-  pub lowest-on : (left : ℕ) → 0 < left → (w % 2 ≡ 1 → ⊥) → lowestMark (left - 1) (p + 1) (w / 2) ≡ lowestMark left p w
-  unfolding lowestMark
-  lowest-on zero h e = absurd (omega arith)
-  lowest-on (suc left) h e = rw (sub-one, add-one, ne-eqb (w % 2) 1 e)
+pub lowest-none : (n k p w : ℕ) → n ≤ k → n ≤ trailingZeros k w → 0 ≡ lowestMark n p w
+unfolding lowestMark trailingZeros
+lowest-none zero k p w l h = refl
+lowest-none (suc n) zero p w l h = absurd (omega arith)
+lowest-none (suc n) (suc k) p w l h = go (w % 2) (omega arith) (lowest-none n k (suc p) (w / 2) (omega arith)) h
+  where
+    go : (d : ℕ) → d < 2 → (n ≤ trailingZeros k (w / 2) → 0 ≡ lowestMark n (suc p) (w / 2))
+        → suc n ≤ under d (trailingZeros k (w / 2)) → 0 ≡ cond (eqb d 1) p (lowestMark n (suc p) (w / 2))
+    go zero b rest h = rest (omega arith)
+    go (suc zero) b rest h = absurd (omega arith)
+    go (suc (suc d)) b rest h = absurd (omega arith)
 
 module _ (p w : ℕ) (b : List ℕ) where
   pub marks-none : (left : ℕ) → left ≤ 0 → w ≡ marksOf left p w b

@@ -36,18 +36,8 @@ fn best_priority(marks: u32, n: u32) -> u32
     requires { ⌜ n ≤ 16 ⌝ }
     ensures { λ r. ⌜ r ≡ lowestMark n 1 marks ⌝ }
 {
-    let mut rest = marks;
-    let mut p: u32 = 1;
-    let mut left = n;
-    while 0 < left {
-        if rest % 2 == 1 {
-            return p;
-        }
-        rest = rest / 2;
-        p += 1;
-        left -= 1;
-    }
-    0
+    let z = u32::trailing_zeros(marks);
+    if z < n { z + 1 } else { 0 }
 }
 
 // The running task of a memory whose links are whole; 0 if none is ready.

@@ -19,18 +19,8 @@ ghost use Rattle.objects.specs.Blocks.{bitCount, notOut};
 fn lowest_block(mask: u32) -> u32
     ensures { λ r. ⌜ r ≡ lowestMark 32 1 mask ⌝ }
 {
-    let mut rest = mask;
-    let mut k: u32 = 1;
-    let mut left: u32 = 32;
-    while 0 < left {
-        if rest % 2 == 1 {
-            return k;
-        }
-        rest = rest / 2;
-        k += 1;
-        left -= 1;
-    }
-    0
+    let z = u32::trailing_zeros(mask);
+    if z < 32 { z + 1 } else { 0 }
 }
 
 // How many blocks are free in a mask.

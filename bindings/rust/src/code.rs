@@ -1,0 +1,44 @@
+//! The codes of answers and cells. An event with a negative code changed nothing.
+
+/// Done.
+pub const E_OK: i32 = 0;
+/// The caller waits: its answer will be in its cell.
+pub const WAITS: i32 = 1;
+/// Call number not 1..32, or context not 0 or 1.
+pub const H_CALL: i32 = -1;
+/// Flag pattern 0 in a wait or poll, mode not 0..3, message number outside 1..count.
+pub const H_PAR: i32 = -2;
+/// sta_tsk on a task not dormant.
+pub const H_NODMT: i32 = -3;
+/// sus_tsk on a suspended task.
+pub const H_SUS: i32 = -4;
+/// A poll that can't be served at once.
+pub const H_POLL: i32 = -5;
+/// The message already lies in a mailbox.
+pub const H_MSG: i32 = -6;
+/// The state is damaged.
+pub const H_STATE: i32 = -9;
+/// Block number outside the pool, or free.
+pub const H_ILBLK: i32 = -10;
+/// Priority outside 1..P (rot_rdq: 0..P).
+pub const E_TPRI: i32 = -1830;
+/// wai_tsk time below -1.
+pub const E_ILTIME: i32 = -1831;
+/// ter_tsk, sus_tsk or wup_tsk on oneself, task context.
+pub const E_SELF: i32 = -2097;
+/// Id outside 1..count.
+pub const E_NOEXS: i32 = -2100;
+/// ter_tsk, chg_pri, sus_tsk, wup_tsk or can_wup on a dormant task.
+pub const E_DMT: i32 = -2101;
+/// rsm_tsk on a task not suspended.
+pub const E_NOSUS: i32 = -2104;
+/// rel_wai on a task not waiting.
+pub const E_NOWAI: i32 = -2110;
+/// Task-only call from a handler; task context while nothing runs.
+pub const E_CTX: i32 = -2629;
+/// Wake-up count already 15; semaphore already 65535.
+pub const E_QOVR: i32 = -2889;
+/// wai_tsk with time 0 and no wake-up stored; in a cell, time ran out.
+pub const E_TMOUT: i32 = -3413;
+/// Only in a cell: wait broken off.
+pub const E_RLWAI: i32 = -3414;

@@ -1,0 +1,370 @@
+//! How fast the proved kernel is, beside the unproved one of `rings`: `cargo run --profile bench --bin bench`. It is no part of the gate.
+//!
+//! Each row sets two sides beside each other in one run: they take turns, round after round, each from the same state over the same events,
+//! and the quickest round of each counts. Two kernels must have answered alike. With two words, a side (events, calls, rings,
+//! checked) and a setup (small, middle, large), that side alone plays the mixed events once, for a profiler.
+use okrozumba::{Answer, State};
+use second::random::Random;
+use second::rings::Kernel;
+use second::setup::{self, Setup};
+use std::time::Instant;
+
+const ROUNDS: u32 = 31;
+const MIXED: usize = 20_000;
+const LONG: usize = 1_000_000;
+
+// ---- setups
+
+/// Every task has its turn of the priorities; the first of them are started.
+fn sized(
+    priorities: u32,
+    tasks: u32,
+    started: u32,
+    objects: usize,
+    messages: u32,
+    pools: usize,
+    blocks: u32,
+) -> Setup {
+    Setup {
+        priorities,
+        tasks: (0..tasks)
+            .map(|t| (1 + t % priorities, t < started))
+            .collect(),
+        semaphores: vec![0; objects],
+        flags: vec![0; objects],
+        mailboxes: objects as u32,
+        messages,
+        pools: vec![blocks; pools],
+    }
+}
+
+/// The bench sheet's.
+fn small() -> Setup {
+    Setup {
+        tasks: vec![(2, true), (2, true), (1, false)],
+        ..sized(4, 3, 2, 1, 2, 1, 2)
+    }
+}
+
+fn middle() -> Setup {
+    sized(6, 8, 6, 4, 32, 2, 8)
+}
+
+fn large() -> Setup {
+    sized(16, 32, 24, 16, 256, 8, 32)
+}
+
+/// As large, but for the tasks, all of which are started.
+fn with_tasks(tasks: u32) -> Setup {
+    sized(16, tasks, tasks, 16, 256, 8, 32)
+}
+
+// ---- events
+
+type Five = [i32; 5];
+
+/// Mostly one of 1 to n.
+fn id(random: &mut Random, n: u32) -> i32 {
+    if random.percent(3) {
+        random.below(n + 3) as i32 - 1
+    } else {
+        random.within(1, n) as i32
+    }
+}
+
+/// Every call is as likely as the other, and the tick too.
+fn any(random: &mut Random, s: &Setup) -> Five {
+    let number = random.within(1, 33) as i32;
+    let (tasks, objects, pools) = (s.tasks.len() as u32, s.mailboxes, s.pools.len() as u32);
+    let a = match number {
+        1 | 3 | 4 | 6 | 7 | 8 | 11 | 12 | 27 => id(random, tasks),
+        5 => random.below(s.priorities + 1) as i32,
+        10 => random.below(12) as i32 - 1,
+        23 | 24 | 25 | 31 => id(random, pools),
+        _ => id(random, objects),
+    };
+    let b = match number {
+        4 => id(random, s.priorities),
+        16 => 1 << random.below(6),
+        20 => id(random, s.messages),
+        25 => id(random, s.pools[0]),
+        _ => random.within(1, 63) as i32,
+    };
+    match number {
+        33 => [2, 0, 0, 0, 0],
+        _ => [random.below(2) as i32, number, a, b, random.below(4) as i32],
+    }
+}
+
+/// Random events. One that would be refused, or leave no task running, is mostly drawn again.
+fn mixed(s: &Setup, many: usize) -> Vec<i32> {
+    let random = &mut Random::new(1);
+    let mut kernel = rings(s);
+    let mut events = Vec::with_capacity(5 * many);
+    for _ in 0..many {
+        let mut event = any(random, s);
+        for _ in 0..random.below(12) {
+            let tried = kernel.clone().event(&event);
+            if tried.code >= 0 && tried.running != 0 {
+                break;
+            }
+            event = any(random, s);
+        }
+        kernel.event(&event);
+        events.extend(event);
+    }
+    events
+}
+
+fn repeated(cycle: &[Five], many: usize) -> Vec<i32> {
+    cycle.iter().cycle().take(many).flatten().copied().collect()
+}
+
+/// Two calls that leave the state as it was, whatever tasks and messages there are: sig_sem and preq_sem from a handler.
+fn pair_of_calls() -> Vec<i32> {
+    repeated(&[[1, 13, 1, 0, 0], [1, 15, 1, 0, 0]], MIXED)
+}
+
+/// A message in each of its places.
+fn all_messages_sent() -> Vec<i32> {
+    (1..=256).flat_map(|j| [1, 20, 1 + j % 16, j, 0]).collect()
+}
+
+// ---- sides
+
+#[derive(PartialEq)]
+struct Answers {
+    codes: Vec<i32>,
+    words: Vec<u32>,
+}
+
+impl Answers {
+    fn of(events: &[i32]) -> Answers {
+        Answers {
+            codes: vec![0; events.len() / 5],
+            words: vec![0; events.len() / 5 * 4],
+        }
+    }
+
+    /// Every event's answer is written where `State::events` writes it.
+    fn each(&mut self, events: &[i32], mut one: impl FnMut(&Five) -> Answer) {
+        let (events, _) = events.as_chunks::<5>();
+        let (words, _) = self.words.as_chunks_mut::<4>();
+        for ((event, code), words) in events.iter().zip(&mut self.codes).zip(words) {
+            let r = one(event);
+            *code = r.code;
+            *words = [r.w1, r.w2, r.running, r.released];
+        }
+    }
+}
+
+/// A kernel with a way to play events. Not inlined, so that a profiler finds it by name.
+trait Side: Clone {
+    fn play(&mut self, events: &[i32], to: &mut Answers);
+}
+
+#[derive(Clone)]
+struct Events(State);
+
+impl Side for Events {
+    #[inline(never)]
+    fn play(&mut self, events: &[i32], to: &mut Answers) {
+        self.0
+            .events(events, &mut to.codes, &mut to.words)
+            .expect("places for the answers");
+    }
+}
+
+#[derive(Clone)]
+struct Calls(State);
+
+impl Side for Calls {
+    #[inline(never)]
+    fn play(&mut self, events: &[i32], to: &mut Answers) {
+        to.each(events, |&[kind, number, a, b, c]| match kind {
+            2 => self.0.tick(),
+            _ => self.0.call(kind, number, a, b, c),
+        });
+    }
+}
+
+#[derive(Clone)]
+struct Unchecked(Kernel);
+
+impl Side for Unchecked {
+    #[inline(never)]
+    fn play(&mut self, events: &[i32], to: &mut Answers) {
+        to.each(events, |event| self.0.event(event));
+    }
+}
+
+#[derive(Clone)]
+struct Checked(Kernel);
+
+impl Side for Checked {
+    #[inline(never)]
+    fn play(&mut self, events: &[i32], to: &mut Answers) {
+        to.each(events, |event| self.0.checked_event(event));
+    }
+}
+
+fn proved(s: &Setup) -> State {
+    State::start(&setup::bytes(s)).expect("a setup without a fault")
+}
+
+fn rings(s: &Setup) -> Kernel {
+    Kernel::start(&setup::bytes(s)).expect("a setup without a fault")
+}
+
+/// The side after some events.
+fn after<S: Side>(mut side: S, events: &[i32]) -> S {
+    side.play(events, &mut Answers::of(events));
+    side
+}
+
+// ---- measuring
+
+/// ns for each event of one round.
+fn round<S: Side>(side: &S, events: &[i32], to: &mut Answers) -> f64 {
+    let mut side = side.clone();
+    let begun = Instant::now();
+    side.play(events, to);
+    begun.elapsed().as_nanos() as f64 / to.codes.len() as f64
+}
+
+/// Prints a row: the two sides, each over its events. Gives what they answered.
+fn row<A: Side, B: Side>(what: &str, a: (A, &[i32]), b: (B, &[i32])) -> [Answers; 2] {
+    let (mut to_a, mut to_b) = (Answers::of(a.1), Answers::of(b.1));
+    let (mut quickest_a, mut quickest_b) = (f64::MAX, f64::MAX);
+    for _ in 0..ROUNDS {
+        quickest_a = quickest_a.min(round(&a.0, a.1, &mut to_a));
+        quickest_b = quickest_b.min(round(&b.0, b.1, &mut to_b));
+    }
+    let ratio = quickest_a / quickest_b;
+    println!("| {what} | {quickest_a:.1} | {quickest_b:.1} | {ratio:.2} |");
+    [to_a, to_b]
+}
+
+/// The same of two sides that must answer alike.
+fn row_alike<A: Side, B: Side>(what: &str, a: A, b: B, events: &[i32]) {
+    let [to_a, to_b] = row(what, (a, events), (b, events));
+    assert!(to_a == to_b, "the answers differ");
+}
+
+fn against_rings(name: &str, s: &Setup) {
+    let events = &mixed(s, MIXED);
+    let what = format!("`events`, mixed, {name} / rings");
+    row_alike(&what, Events(proved(s)), Unchecked(rings(s)), events);
+    let what = format!("`call`, mixed, {name} / checked rings");
+    row_alike(&what, Calls(proved(s)), Checked(rings(s)), events);
+}
+
+/// From few to many of what the kernel holds, in `events` and by single calls.
+fn growth(what: &str, many: &State, few: &State) {
+    let events = &pair_of_calls();
+    row(
+        &format!("`events`, {what}"),
+        (Events(many.clone()), events),
+        (Events(few.clone()), events),
+    );
+    row(
+        &format!("`call`, {what}"),
+        (Calls(many.clone()), events),
+        (Calls(few.clone()), events),
+    );
+}
+
+fn ticks() {
+    let s = &with_tasks(32);
+    let events = &repeated(&[[2, 0, 0, 0, 0]], MIXED);
+    let asleep = &repeated(&[[0, 9, 0, 0, 0]], 32);
+    let timed = &repeated(&[[0, 10, i32::MAX, 0, 0]], 32);
+    let none = after(Events(proved(s)), asleep);
+    let all = after(Events(proved(s)), timed);
+    row(
+        "tick in `events`, 32 timed waits / none",
+        (all.clone(), events),
+        (none.clone(), events),
+    );
+    row_alike(
+        "tick in `events`, none timed / rings",
+        none,
+        after(Unchecked(rings(s)), asleep),
+        events,
+    );
+    row_alike(
+        "tick in `events`, 32 timed waits / rings",
+        all,
+        after(Unchecked(rings(s)), timed),
+        events,
+    );
+}
+
+/// A start and a million events: both sides from the setup's bytes.
+fn long_run() {
+    let s = &large();
+    let bytes = &setup::bytes(s);
+    let events = &mixed(s, LONG);
+
+    #[derive(Clone)]
+    struct Run<'a>(State, &'a [u8]);
+    impl Side for Run<'_> {
+        fn play(&mut self, events: &[i32], to: &mut Answers) {
+            self.0
+                .run(self.1, events, &mut to.codes, &mut to.words)
+                .expect("a run");
+        }
+    }
+    #[derive(Clone)]
+    struct Start<'a>(&'a [u8]);
+    impl Side for Start<'_> {
+        fn play(&mut self, events: &[i32], to: &mut Answers) {
+            let mut kernel = Kernel::start(self.0).expect("a setup without a fault");
+            to.each(events, |event| kernel.event(event));
+        }
+    }
+    row_alike(
+        "`run`, 1,000,000 mixed, large / rings",
+        Run(proved(s), bytes),
+        Start(bytes),
+        events,
+    );
+}
+
+fn profiled(side: &str, name: &str) {
+    let s = &match name {
+        "small" => small(),
+        "middle" => middle(),
+        _ => large(),
+    };
+    let events = &mixed(s, MIXED);
+    let to = &mut Answers::of(events);
+    match side {
+        "events" => Events(proved(s)).play(events, to),
+        "calls" => Calls(proved(s)).play(events, to),
+        "rings" => Unchecked(rings(s)).play(events, to),
+        _ => Checked(rings(s)).play(events, to),
+    }
+}
+
+fn main() {
+    if cfg!(debug_assertions) {
+        eprintln!("checks slow the unproved side: cargo run --profile bench --bin bench");
+        std::process::exit(2);
+    }
+    let words: Vec<String> = std::env::args().skip(1).collect();
+    if let [side, name] = &words[..] {
+        return profiled(side, name);
+    }
+    println!("| a / b | a, ns an event | b, ns an event | ratio |");
+    println!("|---|---|---|---|");
+    against_rings("small", &small());
+    against_rings("middle", &middle());
+    against_rings("large", &large());
+    let (one, many) = (proved(&with_tasks(1)), proved(&with_tasks(32)));
+    growth("32 tasks / 1 task", &many, &one);
+    let lying = after(Events(many.clone()), &all_messages_sent()).0;
+    growth("256 messages lie / none", &lying, &many);
+    ticks();
+    long_run();
+}

@@ -1,0 +1,351 @@
+//! The kernel's memory as docs/ARCHITECTURE.md and the table of columns (crates/state/specs/Layout.antt) describe it: what any two arrays
+//! show, and the arrays that show a picture. An id is an index into a column; entry 0 of each is unused.
+use crate::picture::{Breach, Object, Picture, Queues, Standing, Task, Wait};
+use okrozumba::{State, MESSAGES, STATE_WORDS};
+
+/// Words of a column: where it begins. Its entries are found by id.
+#[derive(Clone, Copy)]
+struct Column(usize);
+
+const STATUS: Column = Column(0);
+const PRIORITY: Column = Column(33);
+const START: Column = Column(66);
+const WAKEUPS: Column = Column(99);
+const CODE: Column = Column(132);
+const WORD: Column = Column(165);
+const KIND: Column = Column(198);
+const OBJECT: Column = Column(231);
+const WISH: Column = Column(264);
+const MODE: Column = Column(297);
+const TICKS: Column = Column(330);
+const SEMAPHORE: Column = Column(573);
+const FLAG: Column = Column(590);
+const FREE: Column = Column(607);
+const SIZE: Column = Column(616);
+const SYSTEM: Column = Column(1171);
+
+/// The two directions of links, and the number of their nodes.
+#[derive(Clone, Copy)]
+struct Links {
+    next: Column,
+    prev: Column,
+    nodes: u32,
+}
+
+const TASK_LINKS: Links = Links {
+    next: Column(363),
+    prev: Column(468),
+    nodes: 105,
+};
+const MAIL_LINKS: Links = Links {
+    next: Column(625),
+    prev: Column(898),
+    nodes: 273,
+};
+
+/// Anchors: the node before the first of each kind of queue.
+const READY_ANCHORS: u32 = 32;
+const SEMAPHORE_ANCHORS: u32 = 48;
+const FLAG_ANCHORS: u32 = 64;
+const MAILBOX_ANCHORS: u32 = 80;
+const POOL_ANCHORS: u32 = 96;
+const MAIL_ANCHORS: u32 = 256;
+
+/// Entries of the system's column, and the greatest number of each thing.
+const PRIORITIES: (u32, u32) = (0, 16);
+const TASKS: (u32, u32) = (1, 32);
+const SEMAPHORES: (u32, u32) = (2, 16);
+const FLAGS: (u32, u32) = (3, 16);
+const MAILBOXES: (u32, u32) = (4, 16);
+const MAILS: (u32, u32) = (5, 256);
+const POOLS: (u32, u32) = (6, 8);
+const CLOCK_LOW: u32 = 7;
+const CLOCK_HIGH: u32 = 8;
+
+/// A cell's code as the memory has it.
+const CELL_CODES: [i32; 3] = [0, -3413, -3414];
+
+struct Reader<'a> {
+    words: &'a [u32; STATE_WORDS],
+    messages: &'a [u32; MESSAGES],
+}
+
+impl Reader<'_> {
+    fn at(&self, column: Column, id: u32) -> u32 {
+        self.words[column.0 + id as usize]
+    }
+
+    /// A number of things. It bounds every walk, so it is judged before the picture is.
+    fn count(&self, (entry, most): (u32, u32)) -> Result<u32, Breach> {
+        let count = self.at(SYSTEM, entry);
+        if count <= most {
+            Ok(count)
+        } else {
+            Err("a count")
+        }
+    }
+
+    fn entries(&self, column: Column, count: u32) -> Vec<u32> {
+        (1..=count).map(|id| self.at(column, id)).collect()
+    }
+
+    /// Pattern and mode are a flag wait's alone, ticks a timed wait's, the object an object wait's.
+    fn wait(&self, id: u32) -> Result<Wait, Breach> {
+        let object = self.at(OBJECT, id);
+        match self.at(KIND, id) {
+            0 => Ok(Wait::Asleep),
+            1 => Ok(Wait::Timed(self.at(TICKS, id))),
+            2 => Ok(Wait::On(Object::Semaphore(object), 0, 0)),
+            3 => Ok(Wait::On(
+                Object::Flag(object),
+                self.at(WISH, id),
+                self.at(MODE, id),
+            )),
+            4 => Ok(Wait::On(Object::Mailbox(object), 0, 0)),
+            5 => Ok(Wait::On(Object::Pool(object), 0, 0)),
+            _ => Err("a wait's kind"),
+        }
+    }
+
+    fn standing(&self, id: u32) -> Result<Standing, Breach> {
+        match self.at(STATUS, id) {
+            0 => Ok(Standing::Dormant),
+            1 => Ok(Standing::Ready),
+            3 => Ok(Standing::Wait(self.wait(id)?)),
+            4 => Ok(Standing::Suspend),
+            5 => Ok(Standing::WaitSuspend(self.wait(id)?)),
+            _ => Err("a task's state"),
+        }
+    }
+
+    fn task(&self, id: u32) -> Result<Task, Breach> {
+        let code = *CELL_CODES
+            .get(self.at(CODE, id) as usize)
+            .ok_or("a cell's code")?;
+        Ok(Task {
+            start: self.at(START, id),
+            priority: self.at(PRIORITY, id),
+            standing: self.standing(id)?,
+            wakeups: self.at(WAKEUPS, id),
+            cell: (code, self.at(WORD, id)),
+        })
+    }
+
+    /// Whether each block is free; a mark beyond the pool's blocks is damage.
+    fn pool(&self, id: u32) -> Result<Vec<bool>, Breach> {
+        let (size, free) = (self.at(SIZE, id), u64::from(self.at(FREE, id)));
+        if size > 32 || free >> size != 0 {
+            return Err("a pool's blocks");
+        }
+        Ok((0..size).map(|block| free >> block & 1 == 1).collect())
+    }
+
+    /// The ids from an anchor on, back to it; each node's links must be each other's inverse. Ids go up to `count`.
+    fn queue(&self, links: Links, anchor: u32, count: u32) -> Result<Vec<u32>, Breach> {
+        let mut ids = Vec::new();
+        let mut before = anchor;
+        loop {
+            let node = self.at(links.next, before);
+            if node >= links.nodes || self.at(links.prev, node) != before {
+                return Err("a link");
+            }
+            if node == anchor {
+                return Ok(ids);
+            }
+            if node == 0 || node > count || ids.len() as u32 == count {
+                return Err("a queue");
+            }
+            ids.push(node);
+            before = node;
+        }
+    }
+
+    fn queues(&self, links: Links, anchors: u32, many: u32, count: u32) -> Result<Queues, Breach> {
+        (1..=many)
+            .map(|id| self.queue(links, anchors + id, count))
+            .collect()
+    }
+
+    /// An id that stands in no queue leads nowhere.
+    fn rest_unlinked(&self, links: Links, count: u32, queues: &[&Queues]) -> Result<(), Breach> {
+        for id in 1..=count {
+            let stands = queues
+                .iter()
+                .any(|kind| kind.iter().any(|queue| queue.contains(&id)));
+            if !stands && self.at(links.next, id) != 0 {
+                return Err("a link of who stands nowhere");
+            }
+        }
+        Ok(())
+    }
+
+    fn picture(&self) -> Result<Picture, Breach> {
+        let tasks = self.count(TASKS)?;
+        let messages = self.count(MAILS)?;
+        let priorities = self.count(PRIORITIES)?;
+        let (semaphores, flags) = (self.count(SEMAPHORES)?, self.count(FLAGS)?);
+        let (mailboxes, pools) = (self.count(MAILBOXES)?, self.count(POOLS)?);
+        let of_tasks = |anchors, many| self.queues(TASK_LINKS, anchors, many, tasks);
+        let shown = Picture {
+            priorities,
+            tasks: (1..=tasks)
+                .map(|id| self.task(id))
+                .collect::<Result<_, _>>()?,
+            semaphores: self.entries(SEMAPHORE, semaphores),
+            flags: self.entries(FLAG, flags),
+            mailboxes,
+            messages: self.messages[..messages as usize].to_vec(),
+            pools: (1..=pools)
+                .map(|id| self.pool(id))
+                .collect::<Result<_, _>>()?,
+            clock: u64::from(self.at(SYSTEM, CLOCK_HIGH)) << 32
+                | u64::from(self.at(SYSTEM, CLOCK_LOW)),
+            ready: of_tasks(READY_ANCHORS, priorities)?,
+            semaphore_waiters: of_tasks(SEMAPHORE_ANCHORS, semaphores)?,
+            flag_waiters: of_tasks(FLAG_ANCHORS, flags)?,
+            mailbox_waiters: of_tasks(MAILBOX_ANCHORS, mailboxes)?,
+            pool_waiters: of_tasks(POOL_ANCHORS, pools)?,
+            mail: self.queues(MAIL_LINKS, MAIL_ANCHORS, mailboxes, messages)?,
+        };
+        self.rest_unlinked(TASK_LINKS, tasks, &shown.task_queues())?;
+        self.rest_unlinked(MAIL_LINKS, messages, &[&shown.mail])?;
+        Ok(shown)
+    }
+}
+
+/// The sound state that a kernel's memory shows, or a rule that it breaks.
+pub fn shown(state: &State) -> Result<Picture, Breach> {
+    let picture = Reader {
+        words: state.words(),
+        messages: state.messages(),
+    }
+    .picture()?;
+    picture.sound()?;
+    Ok(picture)
+}
+
+struct Writer {
+    words: [u32; STATE_WORDS],
+}
+
+impl Writer {
+    fn put(&mut self, column: Column, id: u32, word: u32) {
+        self.words[column.0 + id as usize] = word;
+    }
+
+    fn put_all(&mut self, column: Column, words: &[u32]) {
+        for (id, word) in (1..).zip(words) {
+            self.put(column, id, *word);
+        }
+    }
+
+    fn wait(&mut self, id: u32, wait: Wait) {
+        let (kind, object) = match wait {
+            Wait::Asleep => (0, None),
+            Wait::Timed(_) => (1, None),
+            Wait::On(Object::Semaphore(on), _, _) => (2, Some(on)),
+            Wait::On(Object::Flag(on), _, _) => (3, Some(on)),
+            Wait::On(Object::Mailbox(on), _, _) => (4, Some(on)),
+            Wait::On(Object::Pool(on), _, _) => (5, Some(on)),
+        };
+        self.put(KIND, id, kind);
+        if let Some(on) = object {
+            self.put(OBJECT, id, on);
+        }
+        match wait {
+            Wait::Timed(left) => self.put(TICKS, id, left),
+            Wait::On(Object::Flag(_), wish, mode) => {
+                self.put(WISH, id, wish);
+                self.put(MODE, id, mode);
+            }
+            _ => {}
+        }
+    }
+
+    fn task(&mut self, id: u32, task: &Task) {
+        let status = match task.standing {
+            Standing::Dormant => 0,
+            Standing::Ready => 1,
+            Standing::Wait(_) => 3,
+            Standing::Suspend => 4,
+            Standing::WaitSuspend(_) => 5,
+        };
+        self.put(STATUS, id, status);
+        self.put(START, id, task.start);
+        self.put(PRIORITY, id, task.priority);
+        self.put(WAKEUPS, id, task.wakeups);
+        let code = CELL_CODES.iter().position(|code| *code == task.cell.0);
+        self.put(CODE, id, code.expect("a sound cell's code") as u32);
+        self.put(WORD, id, task.cell.1);
+        if let Some(wait) = task.standing.wait() {
+            self.wait(id, wait);
+        }
+    }
+
+    fn pool(&mut self, id: u32, free: &[bool]) {
+        let marks = free
+            .iter()
+            .rev()
+            .fold(0, |marks, free| marks << 1 | u32::from(*free));
+        self.put(SIZE, id, free.len() as u32);
+        self.put(FREE, id, marks);
+    }
+
+    fn queues(&mut self, links: Links, anchors: u32, queues: &Queues) {
+        for (anchor, queue) in (anchors + 1..).zip(queues) {
+            let mut before = anchor;
+            for node in queue.iter().copied().chain([anchor]) {
+                self.put(links.next, before, node);
+                self.put(links.prev, node, before);
+                before = node;
+            }
+        }
+    }
+
+    fn system(&mut self, p: &Picture) {
+        self.put(SYSTEM, PRIORITIES.0, p.priorities);
+        self.put(SYSTEM, TASKS.0, p.tasks.len() as u32);
+        self.put(SYSTEM, SEMAPHORES.0, p.semaphores.len() as u32);
+        self.put(SYSTEM, FLAGS.0, p.flags.len() as u32);
+        self.put(SYSTEM, MAILBOXES.0, p.mailboxes);
+        self.put(SYSTEM, MAILS.0, p.messages.len() as u32);
+        self.put(SYSTEM, POOLS.0, p.pools.len() as u32);
+        self.put(SYSTEM, CLOCK_LOW, p.clock as u32);
+        self.put(SYSTEM, CLOCK_HIGH, (p.clock >> 32) as u32);
+    }
+
+    fn links(&mut self, p: &Picture) {
+        for id in 1..=p.tasks.len() as u32 {
+            self.put(TASK_LINKS.next, id, 0);
+        }
+        for id in 1..=p.messages.len() as u32 {
+            self.put(MAIL_LINKS.next, id, 0);
+        }
+        self.queues(TASK_LINKS, READY_ANCHORS, &p.ready);
+        self.queues(TASK_LINKS, SEMAPHORE_ANCHORS, &p.semaphore_waiters);
+        self.queues(TASK_LINKS, FLAG_ANCHORS, &p.flag_waiters);
+        self.queues(TASK_LINKS, MAILBOX_ANCHORS, &p.mailbox_waiters);
+        self.queues(TASK_LINKS, POOL_ANCHORS, &p.pool_waiters);
+        self.queues(MAIL_LINKS, MAIL_ANCHORS, &p.mail);
+    }
+}
+
+/// A memory that shows the picture, with `any` words wherever a word is no part of it.
+pub fn drawn(p: &Picture, mut any: impl FnMut() -> u32) -> State {
+    let mut w = Writer {
+        words: std::array::from_fn(|_| any()),
+    };
+    let mut messages = std::array::from_fn(|_| any());
+    w.system(p);
+    for (id, task) in (1..).zip(&p.tasks) {
+        w.task(id, task);
+    }
+    w.put_all(SEMAPHORE, &p.semaphores);
+    w.put_all(FLAG, &p.flags);
+    for (id, free) in (1..).zip(&p.pools) {
+        w.pool(id, free);
+    }
+    messages[..p.messages.len()].copy_from_slice(&p.messages);
+    w.links(p);
+    State::of(w.words, messages)
+}

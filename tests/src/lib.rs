@@ -1,0 +1,10 @@
+//! A second kernel, from the paper alone, and what it takes to hold the first one to it. Nothing here looks at the first kernel's rules;
+//! of its memory only `layout` knows, and that from the documents.
+pub mod layout;
+pub mod picture;
+pub mod plain;
+pub mod random;
+pub mod rings;
+pub mod script;
+pub mod setup;
+pub mod sketch;

@@ -1,0 +1,44 @@
+//! What no proof covers, from outside: the archive behind its C functions is held to a second kernel, a second reader of setups and a
+//! second decision of what a sound state is. Seeds are fixed, so that every run of it is the same. Ends with 1 at the first difference.
+mod batch;
+mod damage;
+mod drawn;
+mod pair;
+mod reach;
+mod refused;
+mod runs;
+mod sheet;
+
+use std::process::ExitCode;
+use std::time::Instant;
+
+/// Counts as text, or the first difference.
+pub type Verdict = Result<String, String>;
+
+type Part = (&'static str, fn() -> Verdict);
+
+const PARTS: [Part; 6] = [
+    ("bench sheet", sheet::check),
+    ("random runs", runs::check),
+    ("drawn states", drawn::check),
+    ("damaged states", damage::check),
+    ("refused setups", refused::check),
+    ("many events at once", batch::check),
+];
+
+fn main() -> ExitCode {
+    for (name, check) in PARTS {
+        let begun = Instant::now();
+        let verdict = check();
+        let seconds = begun.elapsed().as_secs_f64();
+        match verdict {
+            Ok(counts) => println!("{name} ({seconds:.1} s): {counts}"),
+            Err(difference) => {
+                println!("{name} ({seconds:.1} s): FAILED\n{difference}");
+                return ExitCode::FAILURE;
+            }
+        }
+    }
+    println!("{} parts, no difference", PARTS.len());
+    ExitCode::SUCCESS
+}

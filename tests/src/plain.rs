@@ -1,0 +1,748 @@
+//! The plain kernel of the paper, written from the paper alone and in the plainest way: arrival numbers, and no queue that outlives the
+//! look at it. It is fed the setup and the events and nothing of the other kernel's.
+use crate::picture::{meets, Object, Picture, Queues, Standing, Task, Wait, CLOCK_END};
+use crate::setup::Setup;
+
+pub const H_CALL: i32 = -1;
+pub const H_PAR: i32 = -2;
+pub const H_NODMT: i32 = -3;
+pub const H_SUS: i32 = -4;
+pub const H_POLL: i32 = -5;
+pub const H_MSG: i32 = -6;
+pub const H_ILBLK: i32 = -10;
+pub const E_TPRI: i32 = -1830;
+pub const E_ILTIME: i32 = -1831;
+pub const E_SELF: i32 = -2097;
+pub const E_NOEXS: i32 = -2100;
+pub const E_DMT: i32 = -2101;
+pub const E_NOSUS: i32 = -2104;
+pub const E_NOWAI: i32 = -2110;
+pub const E_CTX: i32 = -2629;
+pub const E_QOVR: i32 = -2889;
+pub const E_TMOUT: i32 = -3413;
+pub const E_RLWAI: i32 = -3414;
+/// The caller must wait.
+const WAITS: i32 = 1;
+
+const WAKEUPS_MOST: u32 = 15;
+const SEMAPHORE_MOST: u32 = 65535;
+const TASK: i32 = 0;
+const HANDLER: i32 = 1;
+const TASK_ONLY: [i32; 8] = [2, 3, 9, 10, 14, 18, 21, 23];
+
+/// A tick, or a call.
+#[derive(Clone, Copy, PartialEq, Eq, Debug)]
+pub enum Event {
+    Tick,
+    Call {
+        context: i32,
+        number: i32,
+        a: i32,
+        b: i32,
+        c: i32,
+    },
+}
+
+pub use okrozumba::Answer;
+
+/// Code, w1, w2.
+type Said = (i32, u32, u32);
+const DONE: Said = (0, 0, 0);
+
+#[derive(Clone, Debug)]
+struct Kept {
+    task: Task,
+    arrival: u64,
+}
+
+#[derive(Clone, Debug)]
+struct Message {
+    /// 0 if it lies in none.
+    mailbox: u32,
+    arrival: u64,
+}
+
+#[derive(Clone, Debug)]
+pub struct Plain {
+    priorities: u32,
+    tasks: Vec<Kept>,
+    semaphores: Vec<u32>,
+    flags: Vec<u32>,
+    mailboxes: u32,
+    messages: Vec<Message>,
+    pools: Vec<Vec<bool>>,
+    clock: u64,
+    /// Numbers given so far.
+    numbers: u64,
+}
+
+/// How many there are of each.
+pub struct Counts {
+    pub priorities: u32,
+    pub tasks: u32,
+    pub semaphores: u32,
+    pub flags: u32,
+    pub mailboxes: u32,
+    pub messages: u32,
+    pub pools: u32,
+}
+
+fn inside(id: i32, count: usize, code: i32) -> Result<(), i32> {
+    if 1 <= id && id as i64 <= count as i64 {
+        Ok(())
+    } else {
+        Err(code)
+    }
+}
+
+fn refuse_if(bad: bool, code: i32) -> Result<(), i32> {
+    if bad {
+        Err(code)
+    } else {
+        Ok(())
+    }
+}
+
+fn at(id: u32) -> usize {
+    id as usize - 1
+}
+
+/// Ids by rising number.
+fn listed(mut numbered: Vec<(u64, u32)>) -> Vec<u32> {
+    numbered.sort();
+    numbered.into_iter().map(|(_, id)| id).collect()
+}
+
+// ---- a fresh kernel
+
+impl Plain {
+    pub fn fresh(setup: &Setup) -> Plain {
+        let idle = |start| Task {
+            start,
+            priority: start,
+            standing: Standing::Dormant,
+            wakeups: 0,
+            cell: (0, 0),
+        };
+        let mut plain = Plain {
+            priorities: setup.priorities,
+            tasks: setup
+                .tasks
+                .iter()
+                .map(|t| Kept {
+                    task: idle(t.0),
+                    arrival: 0,
+                })
+                .collect(),
+            semaphores: setup.semaphores.clone(),
+            flags: setup.flags.clone(),
+            mailboxes: setup.mailboxes,
+            messages: vec![
+                Message {
+                    mailbox: 0,
+                    arrival: 0
+                };
+                setup.messages as usize
+            ],
+            pools: setup
+                .pools
+                .iter()
+                .map(|blocks| vec![true; *blocks as usize])
+                .collect(),
+            clock: 0,
+            numbers: 0,
+        };
+        for (id, task) in (1..).zip(&setup.tasks) {
+            if task.1 {
+                plain.make_ready(id);
+            }
+        }
+        plain
+    }
+
+    /// A plain kernel that stands as the picture does: numbers are given queue by queue.
+    pub fn standing(p: &Picture) -> Plain {
+        let mut plain = Plain {
+            priorities: p.priorities,
+            tasks: p
+                .tasks
+                .iter()
+                .map(|t| Kept {
+                    task: t.clone(),
+                    arrival: 0,
+                })
+                .collect(),
+            semaphores: p.semaphores.clone(),
+            flags: p.flags.clone(),
+            mailboxes: p.mailboxes,
+            messages: p
+                .messages
+                .iter()
+                .map(|m| Message {
+                    mailbox: *m,
+                    arrival: 0,
+                })
+                .collect(),
+            pools: p.pools.clone(),
+            clock: p.clock,
+            numbers: 0,
+        };
+        for id in p.task_queues().into_iter().flatten().flatten() {
+            plain.kept(*id).arrival = plain.number();
+        }
+        for id in p.mail.iter().flatten() {
+            plain.messages[at(*id)].arrival = plain.number();
+        }
+        plain
+    }
+}
+
+// ---- looking
+
+impl Plain {
+    pub fn task(&self, id: u32) -> &Task {
+        &self.tasks[at(id)].task
+    }
+
+    pub fn counts(&self) -> Counts {
+        Counts {
+            priorities: self.priorities,
+            tasks: self.tasks.len() as u32,
+            semaphores: self.semaphores.len() as u32,
+            flags: self.flags.len() as u32,
+            mailboxes: self.mailboxes,
+            messages: self.messages.len() as u32,
+            pools: self.pools.len() as u32,
+        }
+    }
+
+    /// Whether a message lies in a mailbox.
+    pub fn lies(&self, message: u32) -> bool {
+        self.messages[at(message)].mailbox != 0
+    }
+
+    /// Whether there is such a block and it isn't free.
+    pub fn is_out(&self, pool: i32, block: u32) -> bool {
+        let there = self.pools.get((pool as usize).wrapping_sub(1));
+        there.and_then(|blocks| blocks.get(at(block))) == Some(&false)
+    }
+
+    fn queue(&self, member: impl Fn(&Task) -> bool) -> Vec<u32> {
+        let stand = (1..)
+            .zip(&self.tasks)
+            .filter(|(_, kept)| member(&kept.task));
+        listed(stand.map(|(id, kept)| (kept.arrival, id)).collect())
+    }
+
+    fn ready(&self, priority: u32) -> Vec<u32> {
+        self.queue(|task| task.standing == Standing::Ready && task.priority == priority)
+    }
+
+    fn waiters(&self, object: Object) -> Vec<u32> {
+        self.queue(|t| matches!(t.standing.wait(), Some(Wait::On(on, _, _)) if on == object))
+    }
+
+    fn first_waiter(&self, object: Object) -> Option<u32> {
+        self.waiters(object).first().copied()
+    }
+
+    fn mail(&self, mailbox: u32) -> Vec<u32> {
+        let lie = (1..)
+            .zip(&self.messages)
+            .filter(|(_, m)| m.mailbox == mailbox);
+        listed(lie.map(|(id, m)| (m.arrival, id)).collect())
+    }
+
+    /// The head of the nonempty ready queue with the smallest priority number.
+    pub fn running(&self) -> Option<u32> {
+        (1..=self.priorities).find_map(|priority| self.ready(priority).first().copied())
+    }
+
+    pub fn cell(&self, id: i32) -> (i32, u32) {
+        match inside(id, self.tasks.len(), E_NOEXS) {
+            Ok(()) => self.task(id as u32).cell,
+            Err(code) => (code, 0),
+        }
+    }
+
+    fn free_block(&self, pool: u32) -> Option<u32> {
+        let free = self.pools[at(pool)].iter().position(|free| *free);
+        free.map(|block| block as u32 + 1)
+    }
+
+    /// What it shows: its queues listed by number, and all else but the numbers.
+    pub fn picture(&self) -> Picture {
+        let of = |many: usize, object: fn(u32) -> Object| -> Queues {
+            (1..=many as u32)
+                .map(|id| self.waiters(object(id)))
+                .collect()
+        };
+        Picture {
+            priorities: self.priorities,
+            tasks: self.tasks.iter().map(|kept| kept.task.clone()).collect(),
+            semaphores: self.semaphores.clone(),
+            flags: self.flags.clone(),
+            mailboxes: self.mailboxes,
+            messages: self.messages.iter().map(|m| m.mailbox).collect(),
+            pools: self.pools.clone(),
+            clock: self.clock,
+            ready: (1..=self.priorities)
+                .map(|priority| self.ready(priority))
+                .collect(),
+            semaphore_waiters: of(self.semaphores.len(), Object::Semaphore),
+            flag_waiters: of(self.flags.len(), Object::Flag),
+            mailbox_waiters: of(self.mailboxes as usize, Object::Mailbox),
+            pool_waiters: of(self.pools.len(), Object::Pool),
+            mail: (1..=self.mailboxes)
+                .map(|mailbox| self.mail(mailbox))
+                .collect(),
+        }
+    }
+}
+
+// ---- judging, in the paper's order; nothing can change here
+
+impl Plain {
+    fn judge(&self, context: i32, number: i32, a: i32, b: i32, c: i32) -> Result<(), i32> {
+        refuse_if(!(1..=32).contains(&number), H_CALL)?;
+        refuse_if(context != TASK && context != HANDLER, H_CALL)?;
+        self.judge_a(number, a)?;
+        self.judge_b(number, b)?;
+        refuse_if(matches!(number, 18 | 19) && !(0..=3).contains(&c), H_PAR)?;
+        let caller = self.judge_context(context, number)?;
+        let oneself = context == TASK && caller == Some(a as u32);
+        refuse_if(matches!(number, 3 | 7 | 11) && oneself, E_SELF)?;
+        let on_active = matches!(number, 3 | 4 | 7 | 11 | 12);
+        refuse_if(
+            on_active && self.task(a as u32).standing == Standing::Dormant,
+            E_DMT,
+        )?;
+        self.judge_rest(number, caller, a, b, c)
+    }
+
+    fn judge_a(&self, number: i32, a: i32) -> Result<(), i32> {
+        match number {
+            1 | 3 | 4 | 6 | 7 | 8 | 11 | 12 | 27 => inside(a, self.tasks.len(), E_NOEXS),
+            5 => refuse_if(a < 0 || a > self.priorities as i32, E_TPRI),
+            10 => refuse_if(a < -1, E_ILTIME),
+            13..=15 | 28 => inside(a, self.semaphores.len(), E_NOEXS),
+            16..=19 | 29 => inside(a, self.flags.len(), E_NOEXS),
+            20..=22 | 30 => inside(a, self.mailboxes as usize, E_NOEXS),
+            23..=25 | 31 => inside(a, self.pools.len(), E_NOEXS),
+            _ => Ok(()),
+        }
+    }
+
+    fn judge_b(&self, number: i32, b: i32) -> Result<(), i32> {
+        match number {
+            4 => inside(b, self.priorities as usize, E_TPRI),
+            18 | 19 => refuse_if(b == 0, H_PAR),
+            20 => inside(b, self.messages.len(), H_PAR),
+            _ => Ok(()),
+        }
+    }
+
+    /// The running task, if the context suits the call.
+    fn judge_context(&self, context: i32, number: i32) -> Result<Option<u32>, i32> {
+        let running = self.running();
+        refuse_if(context == HANDLER && TASK_ONLY.contains(&number), E_CTX)?;
+        refuse_if(context == TASK && running.is_none(), E_CTX)?;
+        Ok(running)
+    }
+
+    fn judge_rest(
+        &self,
+        number: i32,
+        caller: Option<u32>,
+        a: i32,
+        b: i32,
+        c: i32,
+    ) -> Result<(), i32> {
+        let id = a as u32;
+        match number {
+            1 => refuse_if(self.task(id).standing != Standing::Dormant, H_NODMT),
+            6 => refuse_if(self.task(id).standing.wait().is_none(), E_NOWAI),
+            7 => refuse_if(self.task(id).standing.suspended(), H_SUS),
+            8 => refuse_if(!self.task(id).standing.suspended(), E_NOSUS),
+            10 => refuse_if(
+                a == 0 && caller.is_some_and(|me| self.task(me).wakeups == 0),
+                E_TMOUT,
+            ),
+            11 => refuse_if(self.task(id).wakeups >= WAKEUPS_MOST, E_QOVR),
+            13 => refuse_if(self.semaphores[at(id)] >= SEMAPHORE_MOST, E_QOVR),
+            15 => refuse_if(self.semaphores[at(id)] == 0, H_POLL),
+            19 => refuse_if(!meets(self.flags[at(id)], b as u32, c as u32), H_POLL),
+            20 => refuse_if(self.messages[at(b as u32)].mailbox != 0, H_MSG),
+            22 => refuse_if(self.mail(id).is_empty(), H_POLL),
+            24 => refuse_if(self.free_block(id).is_none(), H_POLL),
+            25 => {
+                inside(b, self.pools[at(id)].len(), H_ILBLK)?;
+                refuse_if(self.pools[at(id)][at(b as u32)], H_ILBLK)
+            }
+            _ => Ok(()),
+        }
+    }
+}
+
+// ---- small changes
+
+impl Plain {
+    fn number(&mut self) -> u64 {
+        self.numbers += 1;
+        self.numbers
+    }
+
+    fn kept(&mut self, id: u32) -> &mut Kept {
+        &mut self.tasks[at(id)]
+    }
+
+    fn stand(&mut self, id: u32, standing: Standing) {
+        self.kept(id).task.standing = standing;
+    }
+
+    /// Last in its queue.
+    fn goes_last(&mut self, id: u32) {
+        self.kept(id).arrival = self.number();
+    }
+
+    fn make_ready(&mut self, id: u32) {
+        self.stand(id, Standing::Ready);
+        self.goes_last(id);
+    }
+
+    fn put_into(&mut self, id: u32, wait: Wait) -> Said {
+        self.stand(id, Standing::Wait(wait));
+        self.goes_last(id);
+        (WAITS, 0, 0)
+    }
+
+    /// The end of a wait by service, time or rel_wai.
+    fn release(&mut self, id: u32, code: i32, word: u32) {
+        self.kept(id).task.cell = (code, word);
+        if self.task(id).standing.suspended() {
+            self.stand(id, Standing::Suspend);
+        } else {
+            self.make_ready(id);
+        }
+    }
+
+    fn make_dormant(&mut self, id: u32) {
+        let task = &mut self.kept(id).task;
+        task.standing = Standing::Dormant;
+        task.wakeups = 0;
+        task.priority = task.start;
+    }
+}
+
+// ---- events
+
+impl Plain {
+    pub fn event(&mut self, event: Event) -> Answer {
+        let before: Vec<bool> = self.waiting();
+        let said = match event {
+            Event::Tick => Ok(self.tick()),
+            Event::Call {
+                context,
+                number,
+                a,
+                b,
+                c,
+            } => self
+                .judge(context, number, a, b, c)
+                .map(|()| self.perform(number, a as u32, b as u32, c as u32)),
+        };
+        let (code, w1, w2) = said.unwrap_or_else(|code| (code, 0, 0));
+        let freed = before.iter().zip(&self.tasks).filter(|(waited, kept)| {
+            **waited && matches!(kept.task.standing, Standing::Ready | Standing::Suspend)
+        });
+        Answer {
+            code,
+            w1,
+            w2,
+            running: self.running().unwrap_or(0),
+            released: freed.count() as u32,
+        }
+    }
+
+    fn waiting(&self) -> Vec<bool> {
+        self.tasks
+            .iter()
+            .map(|kept| kept.task.standing.wait().is_some())
+            .collect()
+    }
+
+    fn tick(&mut self) -> Said {
+        self.clock = (self.clock + 1) % CLOCK_END;
+        for id in 1..=self.counts().tasks {
+            self.lose_one(id);
+        }
+        DONE
+    }
+
+    fn lose_one(&mut self, id: u32) {
+        match self.task(id).standing {
+            Standing::Wait(Wait::Timed(1)) | Standing::WaitSuspend(Wait::Timed(1)) => {
+                self.release(id, E_TMOUT, 0)
+            }
+            Standing::Wait(Wait::Timed(left)) => {
+                self.stand(id, Standing::Wait(Wait::Timed(left - 1)))
+            }
+            Standing::WaitSuspend(Wait::Timed(left)) => {
+                self.stand(id, Standing::WaitSuspend(Wait::Timed(left - 1)))
+            }
+            _ => {}
+        }
+    }
+
+    /// A call that was judged. A task-only call has a caller.
+    fn perform(&mut self, number: i32, a: u32, b: u32, c: u32) -> Said {
+        let caller = self.running();
+        let me = caller.unwrap_or(0);
+        match number {
+            1 => self.sta_tsk(a),
+            2 => self.end(me),
+            3 => self.end(a),
+            4 => self.chg_pri(a, b),
+            5 => self.rot_rdq(a, caller),
+            6 => self.served(a, E_RLWAI, 0),
+            7 => self.sus_tsk(a),
+            8 => self.rsm_tsk(a),
+            9 => self.sleep(me, Wait::Asleep),
+            10 if a as i32 == -1 => self.sleep(me, Wait::Asleep),
+            10 => self.sleep(me, Wait::Timed(a)),
+            11 => self.wup_tsk(a),
+            12 => self.can_wup(a),
+            13 => self.sig_sem(a),
+            14 | 15 => self.take(me, a),
+            16 => self.set_flg(a, b),
+            17 => self.clr_flg(a, b),
+            18 | 19 => self.take_pattern(me, a, b, c),
+            20 => self.snd_msg(a, b),
+            21 | 22 => self.take_message(me, a),
+            23 | 24 => self.take_block(me, a),
+            25 => self.rel_blk(a, b),
+            26 => (0, me, 0),
+            27 => self.tsk_sts(a, caller),
+            28 => (
+                0,
+                self.first_or_0(Object::Semaphore(a)),
+                self.semaphores[at(a)],
+            ),
+            29 => (0, self.first_or_0(Object::Flag(a)), self.flags[at(a)]),
+            30 => self.mbx_sts(a),
+            31 => self.mpl_sts(a),
+            32 => (
+                0,
+                (self.clock >> 32) as u32,
+                (self.clock & 0xffff_ffff) as u32,
+            ),
+            _ => unreachable!("judged"),
+        }
+    }
+
+    fn first_or_0(&self, object: Object) -> u32 {
+        self.first_waiter(object).unwrap_or(0)
+    }
+
+    fn served(&mut self, id: u32, code: i32, word: u32) -> Said {
+        self.release(id, code, word);
+        DONE
+    }
+}
+
+// ---- tasks
+
+impl Plain {
+    fn sta_tsk(&mut self, id: u32) -> Said {
+        let task = &mut self.kept(id).task;
+        task.priority = task.start;
+        task.cell = (0, 0);
+        self.make_ready(id);
+        DONE
+    }
+
+    fn end(&mut self, id: u32) -> Said {
+        self.make_dormant(id);
+        DONE
+    }
+
+    fn chg_pri(&mut self, id: u32, priority: u32) -> Said {
+        self.kept(id).task.priority = priority;
+        if self.task(id).standing == Standing::Ready {
+            self.goes_last(id);
+        }
+        DONE
+    }
+
+    fn rot_rdq(&mut self, priority: u32, running: Option<u32>) -> Said {
+        let head = match priority {
+            0 => running,
+            _ => self.ready(priority).first().copied(),
+        };
+        if let Some(id) = head {
+            self.goes_last(id);
+        }
+        DONE
+    }
+
+    fn sus_tsk(&mut self, id: u32) -> Said {
+        let suspended = match self.task(id).standing {
+            Standing::Wait(wait) => Standing::WaitSuspend(wait),
+            _ => Standing::Suspend,
+        };
+        self.stand(id, suspended);
+        DONE
+    }
+
+    fn rsm_tsk(&mut self, id: u32) -> Said {
+        match self.task(id).standing {
+            Standing::WaitSuspend(wait) => self.stand(id, Standing::Wait(wait)),
+            _ => self.make_ready(id),
+        }
+        DONE
+    }
+
+    fn sleep(&mut self, me: u32, wait: Wait) -> Said {
+        if self.task(me).wakeups == 0 {
+            return self.put_into(me, wait);
+        }
+        self.kept(me).task.wakeups -= 1;
+        DONE
+    }
+
+    fn wup_tsk(&mut self, id: u32) -> Said {
+        if self.task(id).standing.asleep() {
+            return self.served(id, 0, 0);
+        }
+        self.kept(id).task.wakeups += 1;
+        DONE
+    }
+
+    fn can_wup(&mut self, id: u32) -> Said {
+        let old = self.task(id).wakeups;
+        self.kept(id).task.wakeups = 0;
+        (0, old, 0)
+    }
+
+    fn tsk_sts(&self, id: u32, running: Option<u32>) -> Said {
+        let state = match self.task(id).standing {
+            Standing::Dormant => 0,
+            Standing::Ready if running == Some(id) => 2,
+            Standing::Ready => 1,
+            Standing::Wait(_) => 3,
+            Standing::Suspend => 4,
+            Standing::WaitSuspend(_) => 5,
+        };
+        (0, state, self.task(id).priority)
+    }
+}
+
+// ---- semaphores and flags
+
+impl Plain {
+    fn sig_sem(&mut self, id: u32) -> Said {
+        match self.first_waiter(Object::Semaphore(id)) {
+            Some(first) => self.release(first, 0, 0),
+            None => self.semaphores[at(id)] += 1,
+        }
+        DONE
+    }
+
+    fn take(&mut self, me: u32, id: u32) -> Said {
+        if self.semaphores[at(id)] == 0 {
+            return self.put_into(me, Wait::On(Object::Semaphore(id), 0, 0));
+        }
+        self.semaphores[at(id)] -= 1;
+        DONE
+    }
+
+    fn set_flg(&mut self, id: u32, bits: u32) -> Said {
+        self.flags[at(id)] |= bits;
+        for waiter in self.waiters(Object::Flag(id)) {
+            let Some(Wait::On(_, wish, mode)) = self.task(waiter).standing.wait() else {
+                unreachable!("a waiter waits");
+            };
+            let pattern = self.flags[at(id)];
+            if meets(pattern, wish, mode) {
+                self.release(waiter, 0, pattern);
+                self.clear_if_asked(id, mode);
+            }
+        }
+        DONE
+    }
+
+    fn clear_if_asked(&mut self, id: u32, mode: u32) {
+        if mode & 2 != 0 {
+            self.flags[at(id)] = 0;
+        }
+    }
+
+    fn clr_flg(&mut self, id: u32, bits: u32) -> Said {
+        self.flags[at(id)] &= bits;
+        DONE
+    }
+
+    fn take_pattern(&mut self, me: u32, id: u32, wish: u32, mode: u32) -> Said {
+        let pattern = self.flags[at(id)];
+        if !meets(pattern, wish, mode) {
+            return self.put_into(me, Wait::On(Object::Flag(id), wish, mode));
+        }
+        self.clear_if_asked(id, mode);
+        (0, pattern, 0)
+    }
+}
+
+// ---- mailboxes and pools
+
+impl Plain {
+    fn snd_msg(&mut self, mailbox: u32, message: u32) -> Said {
+        match self.first_waiter(Object::Mailbox(mailbox)) {
+            Some(first) => self.release(first, 0, message),
+            None => {
+                self.messages[at(message)] = Message {
+                    mailbox,
+                    arrival: self.number(),
+                }
+            }
+        }
+        DONE
+    }
+
+    fn take_message(&mut self, me: u32, mailbox: u32) -> Said {
+        match self.mail(mailbox).first() {
+            Some(first) => {
+                self.messages[at(*first)].mailbox = 0;
+                (0, *first, 0)
+            }
+            None => self.put_into(me, Wait::On(Object::Mailbox(mailbox), 0, 0)),
+        }
+    }
+
+    fn take_block(&mut self, me: u32, pool: u32) -> Said {
+        match self.free_block(pool) {
+            Some(block) => {
+                self.pools[at(pool)][at(block)] = false;
+                (0, block, 0)
+            }
+            None => self.put_into(me, Wait::On(Object::Pool(pool), 0, 0)),
+        }
+    }
+
+    fn rel_blk(&mut self, pool: u32, block: u32) -> Said {
+        match self.first_waiter(Object::Pool(pool)) {
+            Some(first) => self.release(first, 0, block),
+            None => self.pools[at(pool)][at(block)] = true,
+        }
+        DONE
+    }
+
+    fn mbx_sts(&self, mailbox: u32) -> Said {
+        let first = self.mail(mailbox).first().copied().unwrap_or(0);
+        (0, self.first_or_0(Object::Mailbox(mailbox)), first)
+    }
+
+    fn mpl_sts(&self, pool: u32) -> Said {
+        let free = self.pools[at(pool)].iter().filter(|free| **free).count();
+        (0, self.first_or_0(Object::Pool(pool)), free as u32)
+    }
+}

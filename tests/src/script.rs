@@ -1,0 +1,367 @@
+//! Random setups and events that lead a kernel into every corner: moods that crowd few objects with many tasks, and wrong words.
+use crate::picture::Standing;
+use crate::plain::{Event, Plain};
+use crate::random::Random;
+use crate::setup::Setup;
+
+// ---- setups
+
+/// What a setup is made for.
+#[derive(Clone, Copy)]
+pub enum Size {
+    /// Few of each, often none.
+    Small,
+    /// Any number of each.
+    Any,
+    /// As much as a setup can have.
+    Full,
+    /// Many started tasks, few priorities and one of each object, so that queues grow long.
+    Crowd,
+}
+
+pub const SIZES: [Size; 4] = [Size::Small, Size::Any, Size::Full, Size::Crowd];
+
+fn many(random: &mut Random, size: Size, most: u32) -> u32 {
+    match size {
+        Size::Small => random.below(most.min(2) + 1),
+        Size::Any => random.below(most + 1),
+        Size::Full => most,
+        Size::Crowd => 1,
+    }
+}
+
+fn tasks(random: &mut Random, size: Size, priorities: u32) -> Vec<(u32, bool)> {
+    let (count, started) = match size {
+        Size::Small => (random.within(1, 5), 70),
+        Size::Any => (random.within(1, 32), 60),
+        Size::Full => (32, 80),
+        Size::Crowd => (random.within(28, 32), 95),
+    };
+    (0..count)
+        .map(|_| (random.within(1, priorities), random.percent(started)))
+        .collect()
+}
+
+/// Mostly empty, so that tasks wait, and now and then at the top.
+fn semaphore(random: &mut Random, size: Size) -> u32 {
+    match random.below(10) {
+        0 => random.within(65533, 65535),
+        1..=4 if !matches!(size, Size::Crowd) => random.below(4),
+        _ => 0,
+    }
+}
+
+fn flag(random: &mut Random) -> u32 {
+    match random.below(4) {
+        0 => random.word(),
+        1 => random.below(16),
+        _ => 0,
+    }
+}
+
+fn pool(random: &mut Random) -> u32 {
+    match random.below(4) {
+        0 => random.within(1, 32),
+        1 => 32,
+        _ => random.within(1, 3),
+    }
+}
+
+pub fn setup(random: &mut Random, size: Size) -> Setup {
+    let priorities = match size {
+        Size::Small | Size::Crowd => random.within(1, 4),
+        Size::Any => random.within(1, 16),
+        Size::Full => 16,
+    };
+    let tasks = tasks(random, size, priorities);
+    let semaphores = (0..many(random, size, 16))
+        .map(|_| semaphore(random, size))
+        .collect();
+    let flags = (0..many(random, size, 16)).map(|_| flag(random)).collect();
+    let mailboxes = many(random, size, 16);
+    let messages = match size {
+        Size::Small => random.below(4),
+        Size::Any => random.below(257),
+        Size::Full | Size::Crowd => 256,
+    };
+    let pools = (0..many(random, size, 8)).map(|_| pool(random)).collect();
+    Setup {
+        priorities,
+        tasks,
+        semaphores,
+        flags,
+        mailboxes,
+        messages,
+        pools,
+    }
+}
+
+// ---- events
+
+/// Which calls come, and how: percentages of ticks, of handlers and of wrong words, and of words that the mood keeps coming back to.
+#[derive(Clone, Copy)]
+struct Mood {
+    calls: &'static [i32],
+    ticks: u32,
+    handlers: u32,
+    wrong: u32,
+    focus: u32,
+}
+
+const fn mood(calls: &'static [i32], ticks: u32, handlers: u32, wrong: u32, focus: u32) -> Mood {
+    Mood {
+        calls,
+        ticks,
+        handlers,
+        wrong,
+        focus,
+    }
+}
+
+const ALL: [i32; 32] = [
+    1, 2, 3, 4, 5, 6, 7, 8, 9, 10, 11, 12, 13, 14, 15, 16, 17, 18, 19, 20, 21, 22, 23, 24, 25, 26,
+    27, 28, 29, 30, 31, 32,
+];
+
+const MOODS: [Mood; 12] = [
+    // of everything, right and wrong
+    mood(&ALL, 10, 35, 10, 30),
+    mood(&ALL, 5, 50, 50, 30),
+    // tasks wait, twice all of them for the same
+    mood(&[9, 10, 14, 18, 21, 23], 2, 2, 2, 50),
+    mood(&[14, 18, 21, 23], 0, 0, 0, 99),
+    mood(&[18], 0, 0, 0, 99),
+    // handlers serve
+    mood(&[6, 8, 11, 13, 16, 20, 25], 10, 80, 3, 50),
+    // tasks come and go
+    mood(&[1, 2, 3, 4, 5, 7, 8, 12], 5, 50, 5, 30),
+    mood(&[1, 1, 1, 2, 3], 5, 60, 0, 0),
+    // waits end while tasks are suspended
+    mood(&[7, 8, 6, 10, 9, 14], 20, 50, 3, 40),
+    // counts rise and mailboxes fill
+    mood(&[11], 0, 90, 2, 90),
+    mood(&[20, 20, 20, 22], 1, 50, 2, 60),
+    mood(&[20], 0, 80, 0, 95),
+];
+
+const NUMBERS_OUTSIDE: [i32; 6] = [0, 33, -1, 64, i32::MIN, i32::MAX];
+/// The top one, too: a pattern is an unsigned number.
+const BITS: [i32; 4] = [1, 2, 4, i32::MIN];
+const CONTEXTS_OUTSIDE: [i32; 5] = [2, -1, 3, i32::MIN, i32::MAX];
+
+/// Writes events for a plain kernel as it stands. A mood lasts a while and has a call, an id, a bit and a mode that it keeps coming back to.
+pub struct Author {
+    mood: Mood,
+    left: u32,
+    call: i32,
+    id: u32,
+    bit: i32,
+    mode: i32,
+}
+
+impl Default for Author {
+    fn default() -> Author {
+        Author {
+            mood: MOODS[0],
+            left: 0,
+            call: 1,
+            id: 1,
+            bit: 1,
+            mode: 0,
+        }
+    }
+}
+
+impl Author {
+    fn change_mood(&mut self, random: &mut Random) {
+        self.mood = random.pick(&MOODS);
+        self.left = if random.percent(10) {
+            250
+        } else {
+            random.within(5, 60)
+        };
+        self.call = random.pick(self.mood.calls);
+        self.id = random.within(1, 4);
+        self.bit = random.pick(&BITS);
+        self.mode = random.below(4) as i32;
+    }
+
+    pub fn event(&mut self, random: &mut Random, plain: &Plain) -> Event {
+        // tasks alone get nowhere once all of them wait
+        let stuck = self.mood.handlers < 10 && plain.running().is_none();
+        if self.left == 0 || stuck && random.percent(70) {
+            self.change_mood(random);
+        }
+        self.left -= 1;
+        if random.percent(self.mood.ticks) {
+            return Event::Tick;
+        }
+        let number = self.number(random);
+        let context = self.context(random, plain);
+        let (a, b, c) = self.words(random, plain, number);
+        Event::Call {
+            context,
+            number,
+            a,
+            b,
+            c,
+        }
+    }
+
+    fn wrong(&self, random: &mut Random) -> bool {
+        random.percent(self.mood.wrong)
+    }
+
+    fn number(&self, random: &mut Random) -> i32 {
+        if self.wrong(random) && random.percent(10) {
+            random.pick(&NUMBERS_OUTSIDE)
+        } else if self.focused(random) {
+            self.call
+        } else {
+            random.pick(self.mood.calls)
+        }
+    }
+
+    fn context(&self, random: &mut Random, plain: &Plain) -> i32 {
+        if self.wrong(random) && random.percent(10) {
+            return random.pick(&CONTEXTS_OUTSIDE);
+        }
+        let handlers = if plain.running().is_none() {
+            85
+        } else {
+            self.mood.handlers
+        };
+        i32::from(random.percent(handlers))
+    }
+
+    /// Words that the call ignores are random, too.
+    fn words(&self, random: &mut Random, plain: &Plain, number: i32) -> (i32, i32, i32) {
+        let counts = plain.counts();
+        let any = |random: &mut Random| random.word() as i32;
+        let a = match number {
+            1 => self.dormant(random, plain, counts.tasks),
+            3 | 4 | 6 | 7 | 8 | 11 | 12 | 27 => self.id(random, counts.tasks),
+            5 => self.rotated(random, counts.priorities),
+            10 => self.time(random),
+            13..=15 | 28 => self.id(random, counts.semaphores),
+            16..=19 | 29 => self.id(random, counts.flags),
+            20..=22 | 30 => self.id(random, counts.mailboxes),
+            23..=25 | 31 => self.id(random, counts.pools),
+            _ => any(random),
+        };
+        let b = match number {
+            4 => self.id(random, counts.priorities),
+            16 => self.pattern(random),
+            17 => !self.pattern(random),
+            18 | 19 => self.wish(random),
+            20 => self.message(random, plain, counts.messages),
+            25 => self.block(random, plain, a),
+            _ => any(random),
+        };
+        let c = if matches!(number, 18 | 19) {
+            self.mode(random)
+        } else {
+            any(random)
+        };
+        (a, b, c)
+    }
+
+    fn id(&self, random: &mut Random, count: u32) -> i32 {
+        if count == 0 || self.wrong(random) {
+            let edges = [0, -1, count as i32 + 1, i32::MIN, i32::MAX, 257];
+            return random.pick(&edges);
+        }
+        if self.focused(random) && self.id <= count {
+            self.id as i32
+        } else {
+            random.within(1, count) as i32
+        }
+    }
+
+    /// Mostly a dormant task, if there is one.
+    fn dormant(&self, random: &mut Random, plain: &Plain, count: u32) -> i32 {
+        let first = self.id(random, count);
+        if random.percent(20) || !(1..=count as i32).contains(&first) {
+            return first;
+        }
+        let mut ids = (first..=count as i32).chain(1..first);
+        let found = ids.find(|id| plain.task(*id as u32).standing == Standing::Dormant);
+        found.unwrap_or(first)
+    }
+
+    fn rotated(&self, random: &mut Random, priorities: u32) -> i32 {
+        if random.percent(40) {
+            0
+        } else {
+            self.id(random, priorities)
+        }
+    }
+
+    fn time(&self, random: &mut Random) -> i32 {
+        if self.wrong(random) {
+            return random.pick(&[-2, -3, i32::MIN]);
+        }
+        match random.below(10) {
+            0 => 0,
+            1 => -1,
+            2 => random.pick(&[i32::MAX, i32::MAX - 1, 1000]),
+            _ => random.within(1, 6) as i32,
+        }
+    }
+
+    fn focused(&self, random: &mut Random) -> bool {
+        random.percent(self.mood.focus)
+    }
+
+    /// Few bits, so that conditions are met now and then.
+    fn pattern(&self, random: &mut Random) -> i32 {
+        match random.below(10) {
+            0 => random.word() as i32,
+            1 => 0,
+            2..=5 => random.pick(&BITS) | random.pick(&BITS),
+            _ => random.pick(&BITS),
+        }
+    }
+
+    fn wish(&self, random: &mut Random) -> i32 {
+        if self.wrong(random) {
+            0
+        } else if self.focused(random) {
+            self.bit
+        } else {
+            self.pattern(random) | random.pick(&BITS)
+        }
+    }
+
+    fn mode(&self, random: &mut Random) -> i32 {
+        if self.wrong(random) {
+            random.pick(&[-1, 4, 5, i32::MIN, i32::MAX])
+        } else if self.focused(random) {
+            self.mode
+        } else {
+            random.below(4) as i32
+        }
+    }
+
+    /// Mostly the first that lies in no mailbox, if there is one.
+    fn message(&self, random: &mut Random, plain: &Plain, count: u32) -> i32 {
+        let first = self.id(random, count);
+        if random.percent(20) {
+            return first;
+        }
+        let unsent = (1..=count as i32).find(|id| !plain.lies(*id as u32));
+        unsent.unwrap_or(first)
+    }
+
+    /// Mostly one that is out, if the pool has one.
+    fn block(&self, random: &mut Random, plain: &Plain, pool: i32) -> i32 {
+        if self.wrong(random) || random.percent(20) {
+            return random.pick(&[0, -1, 33, i32::MIN, i32::MAX, 1, 2, 32]);
+        }
+        let start = random.within(1, 32);
+        let out = (start..=32)
+            .chain(1..start)
+            .find(|block| plain.is_out(pool, *block));
+        out.unwrap_or(start) as i32
+    }
+}

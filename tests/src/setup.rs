@@ -1,0 +1,115 @@
+//! A second reader of setups, from "The setup" of the paper alone: the first fault and its place, or what the setup has.
+
+/// What a setup has.
+#[derive(Clone, PartialEq, Eq, Debug)]
+pub struct Setup {
+    pub priorities: u32,
+    /// Starting priority; whether it is started.
+    pub tasks: Vec<(u32, bool)>,
+    pub semaphores: Vec<u32>,
+    pub flags: Vec<u32>,
+    pub mailboxes: u32,
+    pub messages: u32,
+    /// Blocks of each.
+    pub pools: Vec<u32>,
+}
+
+/// The number of an S fault, and its place.
+pub type Fault = (u32, usize);
+
+struct Reader<'a> {
+    bytes: &'a [u8],
+    place: usize,
+}
+
+impl Reader<'_> {
+    fn word(&mut self) -> Result<u32, Fault> {
+        let rest = &self.bytes[self.place..];
+        let Some(four) = rest.first_chunk::<4>() else {
+            return Err((1, self.place));
+        };
+        self.place += 4;
+        Ok(u32::from_le_bytes(*four))
+    }
+
+    /// A word that is refused with the fault's number if it is outside the range.
+    fn within(&mut self, low: u32, high: u32, fault: u32) -> Result<u32, Fault> {
+        let place = self.place;
+        let word = self.word()?;
+        if low <= word && word <= high {
+            Ok(word)
+        } else {
+            Err((fault, place))
+        }
+    }
+
+    fn count(&mut self, low: u32, high: u32) -> Result<u32, Fault> {
+        self.within(low, high, 2)
+    }
+
+    fn entry(&mut self, low: u32, high: u32) -> Result<u32, Fault> {
+        self.within(low, high, 3)
+    }
+
+    fn entries(&mut self, count: u32, low: u32, high: u32) -> Result<Vec<u32>, Fault> {
+        (0..count).map(|_| self.entry(low, high)).collect()
+    }
+}
+
+/// The setup that the bytes have, or their first fault.
+pub fn read(bytes: &[u8]) -> Result<Setup, Fault> {
+    let mut r = Reader { bytes, place: 0 };
+    let priorities = r.count(1, 16)?;
+    let mut tasks = Vec::new();
+    for _ in 0..r.count(1, 32)? {
+        tasks.push((r.entry(1, priorities)?, r.entry(0, 1)? == 1));
+    }
+    let many = r.count(0, 16)?;
+    let semaphores = r.entries(many, 0, 65535)?;
+    let many = r.count(0, 16)?;
+    let flags = r.entries(many, 0, u32::MAX)?;
+    let mailboxes = r.count(0, 16)?;
+    let messages = r.count(0, 256)?;
+    let many = r.count(0, 8)?;
+    let pools = r.entries(many, 1, 32)?;
+    if r.place < bytes.len() {
+        return Err((4, r.place));
+    }
+    Ok(Setup {
+        priorities,
+        tasks,
+        semaphores,
+        flags,
+        mailboxes,
+        messages,
+        pools,
+    })
+}
+
+/// The words of a setup, each with its smallest and greatest value.
+pub fn ranged_words(s: &Setup) -> Vec<(u32, u32, u32)> {
+    let mut words = vec![(s.priorities, 1, 16), (s.tasks.len() as u32, 1, 32)];
+    for (priority, started) in &s.tasks {
+        words.push((*priority, 1, s.priorities));
+        words.push((u32::from(*started), 0, 1));
+    }
+    words.push((s.semaphores.len() as u32, 0, 16));
+    words.extend(s.semaphores.iter().map(|count| (*count, 0, 65535)));
+    words.push((s.flags.len() as u32, 0, 16));
+    words.extend(s.flags.iter().map(|pattern| (*pattern, 0, u32::MAX)));
+    words.push((s.mailboxes, 0, 16));
+    words.push((s.messages, 0, 256));
+    words.push((s.pools.len() as u32, 0, 8));
+    words.extend(s.pools.iter().map(|blocks| (*blocks, 1, 32)));
+    words
+}
+
+/// The bytes of words.
+pub fn bytes_of(words: impl IntoIterator<Item = u32>) -> Vec<u8> {
+    words.into_iter().flat_map(u32::to_le_bytes).collect()
+}
+
+/// The bytes of a setup.
+pub fn bytes(s: &Setup) -> Vec<u8> {
+    bytes_of(ranged_words(s).into_iter().map(|(word, _, _)| word))
+}
