@@ -1148,7 +1148,7 @@ mod tests {
             let random = &mut Random::new(seed);
             let setup = script::setup(random, SIZES[seed as usize % SIZES.len()]);
             let bytes = setup::bytes(&setup);
-            let mut author = Author::new();
+            let mut author = Author::default();
             let mut plain = Plain::fresh(&setup);
             let mut proved = State::start(&bytes).unwrap();
             let mut rings = Kernel::start(&bytes).unwrap();
