@@ -1,5 +1,6 @@
-//! The kernel's memory as docs/ARCHITECTURE.md and the table of columns (crates/state/specs/Layout.antt) describe it: what any two arrays
-//! show, and the arrays that show a picture. An id is an index into a column; entry 0 of each is unused.
+//! The kernel's memory as it is described: docs/ARCHITECTURE.md, the table of columns (crates/state/specs/Layout.antt) and what their words stand
+//! for (the same folder's Picture.antt). What any two arrays show, and arrays that show a picture. An id is an index into a column; entry
+//! 0 is unused.
 use crate::picture::{Breach, Object, Picture, Queues, Standing, Task, Wait};
 use okrozumba::{State, MESSAGES, STATE_WORDS};
 
@@ -166,7 +167,7 @@ impl Reader<'_> {
             .collect()
     }
 
-    /// An id that stands in no queue leads nowhere.
+    /// An id that stands in no queue leads nowhere; its backward link is no part of the state.
     fn rest_unlinked(&self, links: Links, count: u32, queues: &[&Queues]) -> Result<(), Breach> {
         for id in 1..=count {
             let stands = queues
