@@ -14,13 +14,13 @@ use Rattle.setup.proofs.Reading.{from-read, word-lies, section-lies}
 
 module _ {A B : Type 0} where
   -- where what follows goes by the offset alone
-  then-judged : (r : Read A) (f : A → ℕ → Read B) (g : ℕ → Judged) → ((a : A) (i : ℕ) → r ≡ got a i → judgedOf (f a i) ≡ g i) → judgedOf (and-then r f) ≡ onGood (judgedOf r) g
+  pub then-judged : (r : Read A) (f : A → ℕ → Read B) (g : ℕ → Judged) → ((a : A) (i : ℕ) → r ≡ got a i → judgedOf (f a i) ≡ g i) → judgedOf (and-then r f) ≡ onGood (judgedOf r) g
   unfolding and-then
   then-judged (got a i) f g h = h a i refl
   then-judged (refused d i) f g h = refl
 
   -- where nothing follows
-  map-judged : (r : Read A) (f : A → B) → judgedOf (and-then r (λ a i. got (f a) i)) ≡ judgedOf r
+  pub map-judged : (r : Read A) (f : A → B) → judgedOf (and-then r (λ a i. got (f a) i)) ≡ judgedOf r
   unfolding and-then
   map-judged (got a i) f = refl
   map-judged (refused d i) f = refl
@@ -44,7 +44,7 @@ module _ (s : List ℕ) where
   unfolding readEntry
   nothing-judged i = refl
 
-  words-judged : (r : Range) (e : List Range) (i : ℕ) → judgedOf (readEntry s (r ∷ e) i) ≡ onGood (judgedOf (readWord s r S3 i)) (λ j. judgedOf (readEntry s e j))
+  pub words-judged : (r : Range) (e : List Range) (i : ℕ) → judgedOf (readEntry s (r ∷ e) i) ≡ onGood (judgedOf (readWord s r S3 i)) (λ j. judgedOf (readEntry s e j))
   unfolding readEntry
   words-judged r e i = then-judged (readWord s r S3 i) _ _ (λ w j q. map-judged (readEntry s e j) _)
 

@@ -73,9 +73,10 @@ pub enum Judged {
     Good(usize),
 }
 
-struct Span {
-    least: u32,
-    most: u32,
+// From the least to the most.
+pub struct Span {
+    pub least: u32,
+    pub most: u32,
 }
 
 // The words of an entry: none, the first, or both.
@@ -86,7 +87,7 @@ struct Shape {
 }
 
 // The word at an offset is whole, and within its range or else has the fault that is given.
-fn judge_word(bytes: &[u8], r: Span, fault: u32, at: usize) -> Judged
+pub fn judge_word(bytes: &[u8], r: Span, fault: u32, at: usize) -> Judged
     ensures { λ j. ⌜ ((f : Fault) → fault ≡ digit f → j ≡ judgedOf (readWord (now (bytes .entry)) (to (r .least) (r .most)) f at)) ⌝ }
 {
     if !has_word(bytes, at) {

@@ -1,0 +1,66 @@
+-- The text of a recorded run, as the numbers of its bytes: "start" and the running task, then a line for each event; or the one line of a refusal.
+-- Numbers are decimal, with single spaces between them, and a line feed ends each line.
+use mathlib.Core.Bool.{cond}
+use mathlib.Core.List.{List, [], _∷_, _++_, map}
+use Prim.Native.Nat.{ℕ, zero, suc, _+_, _/_, _%_}
+use lib.Dec.{ltb}
+use lib.IntN.{ℤ, pos, negsuc}
+use Rattle.rules.specs.Setup.{Read, got, refused, digit, Setup}
+use Rattle.rules.specs.Events.{eventsOf}
+use Rattle.rules.specs.View.{running}
+use Rattle.rules.specs.Answers.{numbers}
+use Rattle.rules.specs.Kernel.{fresh}
+use Rattle.rules.specs.Runs.{answers}
+use Rattle.playback.specs.Ascii.{ascii}
+use Rattle.playback.specs.Recorded.{Run, joined, readEvents, recorded}
+
+-- ---- numbers
+
+-- the digits of n, at most k of them before the last
+unfoldable pub digits : ℕ → ℕ → List ℕ
+digits zero n = (48 + n) ∷ []
+digits (suc k) n = let more = digits k (n / 10) ++ ((48 + n % 10) ∷ []) in cond (ltb n 10) ((48 + n) ∷ []) more
+
+-- n has fewer than n digits before the last
+unfoldable pub decimal : ℕ → List ℕ
+decimal n = digits n n
+
+unfoldable pub signed : ℤ → List ℕ
+signed (pos n) = decimal n
+signed (negsuc n) = 45 ∷ decimal (suc n)
+
+-- ---- lines
+
+-- numbers, a space before each, and the end of the line
+unfoldable pub fields : List ℤ → List ℕ
+fields [] = 10 ∷ []
+fields (x ∷ l) = 32 ∷ (signed x ++ fields l)
+
+-- "start" and the running task
+unfoldable pub startLine : ℕ → List ℕ
+startLine runs = ascii "start" ++ fields (pos runs ∷ [])
+
+-- "refused", the fault's digit and the place
+unfoldable pub refusal : ℕ → ℕ → List ℕ
+refusal fault place = ascii "refused" ++ fields (pos fault ∷ pos place ∷ [])
+
+-- a line for each answer, numbered from i on
+unfoldable pub lines : ℕ → List (List ℤ) → List ℕ
+lines i [] = []
+lines i (a ∷ l) = (decimal i ++ fields a) ++ lines (suc i) l
+
+-- ---- the text
+
+-- from the setup and the words of the events alone, by the rules' run from the fresh state
+unfoldable pub runText : Setup → List ℤ → List ℕ
+unfolding answers
+runText u words = startLine (running (fresh u)) ++ lines 1 (map numbers (answers (fresh u) (eventsOf words)))
+
+unfoldable pub textFrom : Read Run → List ℕ
+textFrom (got r end) = runText (r .setup) (r .words)
+textFrom (refused f place) = refusal (digit f) place
+
+-- the text of a file. Whoever unfolds it computes the text of any file.
+unfoldable pub textOf : List ℕ → List ℕ
+unfolding answers joined readEvents recorded digits decimal signed fields startLine refusal lines runText textFrom
+textOf s = textFrom (recorded s)
