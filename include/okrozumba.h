@@ -205,6 +205,31 @@ okrozumba_outcome okrozumba_run(const uint8_t *setup, size_t setup_bytes, uint32
                                 uint32_t messages[OKROZUMBA_MESSAGES], const int32_t *events, size_t event_words, int32_t *codes,
                                 size_t code_places, uint32_t *answers, size_t answer_words);
 
+/* ---- recorded runs
+
+   `rt staticlib playback` proves this function and writes target/staticlib/libplayback.a, which defines it; it needs no other archive. It
+   takes 126 kB of the stack. */
+
+/* No text is longer. */
+#define OKROZUMBA_TEXT 183017
+
+/* The number of what was played. */
+enum {
+    OKROZUMBA_WRITTEN = 0, /* the text stands in the first bytes of the output, and what lies behind is left */
+    OKROZUMBA_SHORT = 1    /* the output is too short, and nothing was written */
+};
+
+/* In both cases the length is the text's. */
+typedef struct okrozumba_told {
+    uint32_t number;
+    size_t length;
+} okrozumba_told;
+
+/* Plays a recorded run: a setup, the number of events (0 to 3,000), and five words for each, kind, call, a, b, c. The text has "start" and the
+   running task, then a line for each event: number, code, w1, w2, running task, released. Of a file with a fault it is the one line "refused",
+   digit of the fault (1 to 4 for S1 to S4), place from the file's start, and nothing ran. It judges the file itself. */
+okrozumba_told okrozumba_play(const uint8_t *file, size_t file_bytes, uint8_t *text, size_t text_bytes);
+
 #ifdef __cplusplus
 }
 #endif

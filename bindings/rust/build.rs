@@ -1,4 +1,4 @@
-//! Finds the kernel's archive: in the folder that OKROZUMBA_ARCHIVE names, else where `rt staticlib kernel` of this repository writes it.
+//! Finds the archives: in the folder that OKROZUMBA_ARCHIVE names, else where `rt staticlib` of this repository writes them.
 use std::env;
 use std::path::{Path, PathBuf};
 
@@ -12,13 +12,20 @@ fn folder() -> PathBuf {
     }
 }
 
-fn main() {
-    let archive = folder().join("libkernel.a");
-    println!("cargo:rerun-if-env-changed=OKROZUMBA_ARCHIVE");
+fn link(name: &str) {
+    let archive = folder().join(format!("lib{name}.a"));
     println!("cargo:rerun-if-changed={}", archive.display());
     if !archive.exists() {
-        panic!("{} is missing: run `rt staticlib kernel` in the repository's root, or set OKROZUMBA_ARCHIVE", archive.display());
+        panic!("{} is missing: run `rt staticlib {name}` in the repository's root, or set OKROZUMBA_ARCHIVE", archive.display());
     }
+    println!("cargo:rustc-link-lib=static={name}");
+}
+
+fn main() {
+    println!("cargo:rerun-if-env-changed=OKROZUMBA_ARCHIVE");
     println!("cargo:rustc-link-search=native={}", folder().display());
-    println!("cargo:rustc-link-lib=static=kernel");
+    link("kernel");
+    if env::var_os("CARGO_FEATURE_PLAYBACK").is_some() {
+        link("playback");
+    }
 }

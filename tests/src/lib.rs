@@ -4,6 +4,7 @@ pub mod layout;
 pub mod picture;
 pub mod plain;
 pub mod random;
+pub mod recording;
 pub mod rings;
 pub mod script;
 pub mod setup;

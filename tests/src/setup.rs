@@ -1,4 +1,5 @@
-//! A second reader of setups, from "The setup" of the paper alone: the first fault and its place, or what the setup has.
+//! A second reader of setups, from "The setup" of the paper alone: the first fault and its place, or what the setup has. Recorded runs begin
+//! with a setup and are read by the same reader.
 
 /// What a setup has.
 #[derive(Clone, PartialEq, Eq, Debug)]
@@ -17,13 +18,17 @@ pub struct Setup {
 /// The number of an S fault, and its place.
 pub type Fault = (u32, usize);
 
-struct Reader<'a> {
+pub struct Reader<'a> {
     bytes: &'a [u8],
     place: usize,
 }
 
 impl Reader<'_> {
-    fn word(&mut self) -> Result<u32, Fault> {
+    pub fn new(bytes: &[u8]) -> Reader<'_> {
+        Reader { bytes, place: 0 }
+    }
+
+    pub fn word(&mut self) -> Result<u32, Fault> {
         let rest = &self.bytes[self.place..];
         let Some(four) = rest.first_chunk::<4>() else {
             return Err((1, self.place));
@@ -43,7 +48,7 @@ impl Reader<'_> {
         }
     }
 
-    fn count(&mut self, low: u32, high: u32) -> Result<u32, Fault> {
+    pub fn count(&mut self, low: u32, high: u32) -> Result<u32, Fault> {
         self.within(low, high, 2)
     }
 
@@ -54,36 +59,49 @@ impl Reader<'_> {
     fn entries(&mut self, count: u32, low: u32, high: u32) -> Result<Vec<u32>, Fault> {
         (0..count).map(|_| self.entry(low, high)).collect()
     }
+
+    /// The seven sections.
+    pub fn setup(&mut self) -> Result<Setup, Fault> {
+        let priorities = self.count(1, 16)?;
+        let mut tasks = Vec::new();
+        for _ in 0..self.count(1, 32)? {
+            tasks.push((self.entry(1, priorities)?, self.entry(0, 1)? == 1));
+        }
+        let many = self.count(0, 16)?;
+        let semaphores = self.entries(many, 0, 65535)?;
+        let many = self.count(0, 16)?;
+        let flags = self.entries(many, 0, u32::MAX)?;
+        let mailboxes = self.count(0, 16)?;
+        let messages = self.count(0, 256)?;
+        let many = self.count(0, 8)?;
+        let pools = self.entries(many, 1, 32)?;
+        Ok(Setup {
+            priorities,
+            tasks,
+            semaphores,
+            flags,
+            mailboxes,
+            messages,
+            pools,
+        })
+    }
+
+    /// Nothing may follow.
+    pub fn end(&self) -> Result<(), Fault> {
+        if self.place < self.bytes.len() {
+            Err((4, self.place))
+        } else {
+            Ok(())
+        }
+    }
 }
 
 /// The setup that the bytes have, or their first fault.
 pub fn read(bytes: &[u8]) -> Result<Setup, Fault> {
-    let mut r = Reader { bytes, place: 0 };
-    let priorities = r.count(1, 16)?;
-    let mut tasks = Vec::new();
-    for _ in 0..r.count(1, 32)? {
-        tasks.push((r.entry(1, priorities)?, r.entry(0, 1)? == 1));
-    }
-    let many = r.count(0, 16)?;
-    let semaphores = r.entries(many, 0, 65535)?;
-    let many = r.count(0, 16)?;
-    let flags = r.entries(many, 0, u32::MAX)?;
-    let mailboxes = r.count(0, 16)?;
-    let messages = r.count(0, 256)?;
-    let many = r.count(0, 8)?;
-    let pools = r.entries(many, 1, 32)?;
-    if r.place < bytes.len() {
-        return Err((4, r.place));
-    }
-    Ok(Setup {
-        priorities,
-        tasks,
-        semaphores,
-        flags,
-        mailboxes,
-        messages,
-        pools,
-    })
+    let mut reader = Reader::new(bytes);
+    let setup = reader.setup()?;
+    reader.end()?;
+    Ok(setup)
 }
 
 /// The words of a setup, each with its smallest and greatest value.

@@ -11,7 +11,8 @@
 //!
 //! `rt staticlib kernel`, in the repository's root, proves the kernel and writes `target/staticlib/libkernel.a` for x86-64 Linux; the build
 //! script links that. Set `OKROZUMBA_ARCHIVE` to another folder with a `libkernel.a` to link that one. The archive needs no more of the C
-//! library than `memset`.
+//! library than `memset`. With the feature `playback`, the module of that name plays recorded runs; it links `libplayback.a` too, which `rt
+//! staticlib playback` writes.
 //!
 //! # Example
 //!
@@ -36,6 +37,8 @@
 mod archive;
 pub mod call;
 pub mod code;
+#[cfg(feature = "playback")]
+pub mod playback;
 
 /// Words of a state, without the marks of the messages.
 pub const STATE_WORDS: usize = 1180;

@@ -1,10 +1,7 @@
 // Plays each file that an argument names, and writes its name before its text. The stored text comes from a kernel of its own, written from the
 // paper alone.
-use columns::STATE_WORDS;
 use libc::STDOUT_FILENO;
-use playback::ANSWER_WORDS;
-use playback::EVENT_WORDS;
-use playback::EVENTS;
+use playback::FILE;
 use playback::Played;
 use playback::TEXT;
 ghost use Prim.Native.Nat.{_≤_};
@@ -17,21 +14,8 @@ fn show(text: &[u8], n: usize)
 }
 
 fn play(file: &[u8]) {
-    let mut words = [0u32; STATE_WORDS];
-    let mut messages = [0u32; 256];
-    let mut events = [0i32; EVENT_WORDS];
-    let mut codes = [0i32; EVENTS];
-    let mut answers = [0u32; ANSWER_WORDS];
     let mut text = [0u8; TEXT];
-    let played = playback::play(
-        file,
-        &mut words,
-        &mut messages,
-        &mut events,
-        &mut codes,
-        &mut answers,
-        &mut text,
-    );
+    let played = playback::play(file, &mut text);
     if let Played::Written(k) = played {
         show(&text, k);
     }
@@ -46,7 +30,7 @@ fn play_named(path: &[u8]) {
         os::fail(path);
         return;
     }
-    let mut file = [0u8; 60449];
+    let mut file = [0u8; FILE];
     let n = io::read_full(fd, &mut file);
     libc::close(fd);
     play(&file[..n]);

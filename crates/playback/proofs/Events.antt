@@ -30,6 +30,10 @@ module _ {A B : Type 0} where
   then-then (got a i) f g = refl
   then-then (refused d i) f g = refl
 
+pub reads-both : {A : Type 0} (P Q : A → ℕ → Type 0) (r : Read A) → Reads P r → Reads Q r → Reads (λ a j. P a j × Q a j) r
+reads-both P Q (got a j) p q = (p, q)
+reads-both P Q (refused d j) p q = tt
+
 then-got : {A : Type 0} (r : Read A) → r ≡ and-then r (λ a i. got a i)
 unfolding and-then
 then-got (got a i) = refl
@@ -84,15 +88,11 @@ module _ (s : List ℕ) where
   pub events-lie : (i : ℕ) → Reads (λ w j. Lie i w) (readEvents s i)
   events-lie i =
       rw (events-flat i)
-      (reads-then (λ n j. WordAt s i n j × ((i + 4 ≤ length s) × (n ≤ 3000))) _ (readWord s (to 0 3000) S2 i) _ (both _ _ (readWord s (to 0 3000) S2 i) (word-lies s (to 0 3000) S2 i) (word-within s (to 0 3000) S2 i))
+      (reads-then (λ n j. WordAt s i n j × ((i + 4 ≤ length s) × (n ≤ 3000))) _ (readWord s (to 0 3000) S2 i) _ (reads-both _ _ (readWord s (to 0 3000) S2 i) (word-lies s (to 0 3000) S2 i) (word-within s (to 0 3000) S2 i))
       (λ n j h. reads-then (λ ws k. ws ≡ wordsFrom s (length (replicate (5 * n) anyWord)) j) _ (readEntry s (replicate (5 * n) anyWord) j) _ (words-read (replicate (5 * n) anyWord) j)
       (λ ws k e.
       let q : wordsFrom s (length (replicate (5 * n) anyWord)) j ≡ wordsFrom s (5 * wordAt s i) (i + 4) = rw (length-replicate (5 * n) anyWord, h .0 .0, h .0 .1) in
       record { room = h .1 .0; few = rw (h .0 .0) at (h .1 .1); words = ap (λ (l : List ℕ). map signedWord l) (e ∙ q) })))
-    where
-      both : (P Q : ℕ → ℕ → Type 0) (r : Read ℕ) → Reads P r → Reads Q r → Reads (λ n j. P n j × Q n j) r
-      both P Q (got n j) p q = (p, q)
-      both P Q (refused d j) p q = tt
 
   -- ---- what is judged
 

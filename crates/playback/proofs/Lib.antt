@@ -6,4 +6,5 @@ pub mod Reach
 pub mod Events
 pub mod Rows
 pub mod Verdict
+pub mod PlainText
 pub mod Examples

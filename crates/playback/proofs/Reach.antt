@@ -13,7 +13,7 @@ use Rattle.rules.specs.Setup.{Fault, S1, S2, S3, Read, got, refused, and-then, 
 use Rattle.rules.proofs.Accepted.{Reads}
 use Rattle.setup.proofs.Reading.{from-read}
 use Rattle.playback.specs.Recorded.{Run, events, signedWord, joined, readEvents, recorded}
-use Rattle.playback.specs.Text.{textFrom, textOf}
+use Rattle.playback.specs.Text.{runText, textFrom, textOf}
 
 -- the offset behind the last byte that decided
 abbrev reach : {A : Type 0} → Read A → ℕ
@@ -168,11 +168,11 @@ pub later-bytes : (s : List ℕ) → textOf (take 60449 s) ≡ textOf s
 unfolding textOf recorded readRun
 later-bytes s = go (leb 60449 (length s)) refl
   where
-    go : (t : Bool) → leb 60449 (length s) ≡ t → textFrom (recorded (take 60449 s)) ≡ textFrom (recorded s)
+    go : (t : Bool) → leb 60449 (length s) ≡ t → textFrom runText (recorded (take 60449 s)) ≡ textFrom runText (recorded s)
     go true e =
         let h = leb-true 60449 (length s) e in
         let l : length (take 60449 s) ≡ 60449 = length-take 60449 s ∙ omega (arith, h) in
         let S = run-steady s (take 60449 s) 60449 h (omega (arith, l)) (λ j q. getD-take s 60449 j q) in
         let m = S .most in
-        ap textFrom (ap (at-end (take 60449 s)) (S .same (omega (arith, m))) ∙ end-alike s (take 60449 s) (readRun s) (omega (arith, m, h)) (omega (arith, m, l)))
-    go false e = ap (λ (x : List ℕ). textFrom (recorded x)) (take-all s 60449 (leb-false 60449 (length s) e))
+        ap (textFrom runText) (ap (at-end (take 60449 s)) (S .same (omega (arith, m))) ∙ end-alike s (take 60449 s) (readRun s) (omega (arith, m, h)) (omega (arith, m, l)))
+    go false e = ap (λ (x : List ℕ). textFrom runText (recorded x)) (take-all s 60449 (leb-false 60449 (length s) e))

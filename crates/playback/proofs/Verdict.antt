@@ -14,7 +14,7 @@ use Rattle.setup.specs.declared.Judged.the-variants.{Bad, Good}
 use Rattle.setup.proofs.Reading.{from-read}
 use Rattle.setup.proofs.Judging.{good-read, bad-read}
 use Rattle.playback.specs.Recorded.{Run, readEvents, recorded}
-use Rattle.playback.specs.Text.{startLine, refusal, lines, runText, textFrom, textOf}
+use Rattle.playback.specs.Text.{startLine, refusal, lines, runLines, runText, textFrom, textOf}
 use Rattle.playback.specs.Playing.{rows, Ran, RanFrom}
 use Rattle.playback.proofs.Events.{Lie, events-lie}
 
@@ -85,7 +85,7 @@ module _ (s : List ℕ) where
         events-good = from-read _ (readEvents s at) (read .0) end (end-got (readEvents s at) (read .0) end (read .1)) (events-lie s at)
 
         pub run-text : {n runs : ℕ} {codes : List ℤ} {words : List ℕ} → n ≡ wordAt s at → RanFrom s at n runs codes words → textOf s ≡ startLine runs ++ lines 1 (rows codes words n 0)
-        unfolding textOf textFrom runText and-then
+        unfolding textOf textFrom runLines runText and-then
         run-text {n} {runs} {codes} {words} c R =
             let q : Ran s at n runs codes words (set-up .0) = R (set-up .0) (set-up .1) in
             rw (then-recorded, read .1, q .first, q .answered, c, events-good .words)

@@ -1,5 +1,6 @@
 // A recorded run, from the bytes of its file to the bytes of its text. The whole file is judged before anything runs; the events then run
 // as one batch. The contracts cite `textOf`, the text that the rules give from the bytes alone.
+mod exports;
 mod reading;
 mod text;
 
@@ -12,11 +13,14 @@ ghost use Rattle.playback.specs.Text.{startLine, refusal, lines, textOf}
 ghost use Rattle.playback.specs.Playing.{rows, RanFrom, Shown};
 
 // The most events, and the places for their words, codes and answers.
-pub const EVENTS: usize = 3000;
+const EVENTS: usize = 3000;
 
-pub const EVENT_WORDS: usize = 15000;
+const EVENT_WORDS: usize = 15000;
 
-pub const ANSWER_WORDS: usize = 12000;
+const ANSWER_WORDS: usize = 12000;
+
+// One byte more than the longest file has: whatever follows it, the text is the same (`later-bytes`).
+pub const FILE: usize = 60449;
 
 // No text is longer.
 pub const TEXT: usize = 183017;
@@ -76,9 +80,8 @@ fn run(
     runs
 }
 
-// Plays the recorded run of a file. The memory of the kernel and the places for the events and their answers are lent, and what is left in them
-// is of no use.
-pub fn play(
+// `play` in places for the events and their answers that are lent.
+fn play_in(
     file: &[u8],
     words: &mut [u32; STATE_WORDS],
     messages: &mut [u32; 256],
@@ -100,4 +103,24 @@ pub fn play(
             }
         },
     }
+}
+
+// Plays the recorded run of a file. It takes 126 kB of the stack: it is for the bench, not for the board.
+pub fn play(file: &[u8], text: &mut [u8]) -> Played
+    ensures { λ r. ⌜ Shown (textOf (now (file .entry))) r (now (text .entry)) (now (text .exit)) ⌝ }
+{
+    let mut words = [0u32; STATE_WORDS];
+    let mut messages = [0u32; 256];
+    let mut events = [0i32; EVENT_WORDS];
+    let mut codes = [0i32; EVENTS];
+    let mut answers = [0u32; ANSWER_WORDS];
+    play_in(
+        file,
+        &mut words,
+        &mut messages,
+        &mut events,
+        &mut codes,
+        &mut answers,
+        text,
+    )
 }

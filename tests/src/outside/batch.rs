@@ -2,9 +2,9 @@
 use crate::pair::serve;
 use crate::Verdict;
 use okrozumba::{Answer, Refusal, State, Unfit, ANSWER_WORDS, EVENT_WORDS};
-use second::plain::{Event, Plain};
 use second::random::Random;
-use second::script::{self, Author, SIZES};
+use second::recording::{self, Recording};
+use second::script::SIZES;
 use second::setup;
 
 const RUNS: u64 = 240;
@@ -24,45 +24,21 @@ struct Run {
     last: State,
 }
 
-fn event_words(event: Event) -> [i32; EVENT_WORDS] {
-    match event {
-        // of a tick only the kind counts
-        Event::Tick => [2, 5, -1, 77, 3],
-        Event::Call {
-            context,
-            number,
-            a,
-            b,
-            c,
-        } => [context, number, a, b, c],
-    }
-}
-
 fn record(seed: u64) -> Result<Run, String> {
-    let random = &mut Random::new(7000 + seed);
-    let setup = script::setup(random, SIZES[seed as usize % SIZES.len()]);
-    let bytes = setup::bytes(&setup);
-    let fresh = State::start(&bytes).map_err(|bad| format!("{setup:?}: {bad:?}"))?;
-    let mut plain = Plain::fresh(&setup);
-    let mut author = Author::default();
-    let mut run = Run {
+    let size = SIZES[seed as usize % SIZES.len()];
+    let drawn = Recording::drawn(&mut Random::new(7000 + seed), size, EVENTS);
+    let bytes = setup::bytes(&drawn.setup);
+    let fresh = State::start(&bytes).map_err(|bad| format!("{:?}: {bad:?}", drawn.setup))?;
+    let mut last = fresh.clone();
+    let events = drawn.events.iter();
+    let answers = events.map(|five| serve(&mut last, recording::event(*five)));
+    Ok(Run {
         bytes,
-        words: Vec::new(),
-        last: fresh.clone(),
+        answers: answers.collect(),
+        words: drawn.events.concat(),
         fresh,
-        answers: Vec::new(),
-    };
-    while run.answers.len() < EVENTS {
-        let event = author.event(random, &plain);
-        // a call from context 2 is a tick in a batch
-        if matches!(event, Event::Call { context: 2, .. }) {
-            continue;
-        }
-        plain.event(event);
-        run.words.extend(event_words(event));
-        run.answers.push(serve(&mut run.last, event));
-    }
-    Ok(run)
+        last,
+    })
 }
 
 /// Places for so many answers and some more.

@@ -4,12 +4,15 @@ mod batch;
 mod damage;
 mod drawn;
 mod pair;
+mod playback;
+mod program;
 mod reach;
 mod refused;
 mod runs;
 mod sheet;
 
 use std::process::ExitCode;
+use std::thread;
 use std::time::Instant;
 
 /// Counts as text, or the first difference.
@@ -17,20 +20,29 @@ pub type Verdict = Result<String, String>;
 
 type Part = (&'static str, fn() -> Verdict);
 
-const PARTS: [Part; 6] = [
+const PARTS: [Part; 7] = [
     ("bench sheet", sheet::check),
     ("random runs", runs::check),
     ("drawn states", drawn::check),
     ("damaged states", damage::check),
     ("refused setups", refused::check),
     ("many events at once", batch::check),
+    ("recorded runs", playback::check),
 ];
 
+fn timed(check: fn() -> Verdict) -> (Verdict, f64) {
+    let begun = Instant::now();
+    (check(), begun.elapsed().as_secs_f64())
+}
+
 fn main() -> ExitCode {
-    for (name, check) in PARTS {
-        let begun = Instant::now();
-        let verdict = check();
-        let seconds = begun.elapsed().as_secs_f64();
+    // all at once, told in order
+    let begun = PARTS.map(|(name, check)| (name, thread::spawn(move || timed(check))));
+    for (name, part) in begun {
+        let Ok((verdict, seconds)) = part.join() else {
+            println!("{name}: FAILED, see above");
+            return ExitCode::FAILURE;
+        };
         match verdict {
             Ok(counts) => println!("{name} ({seconds:.1} s): {counts}"),
             Err(difference) => {

@@ -33,7 +33,7 @@ show-requires : tie.Need-show-requires
 show-requires c κs =
     let k = c .before .before in
     let p = k .before .before .before in
-    omega (arith, written-within (p .play .ensures) _ (k .played .given .1), p .play .kept .1 .1 .1 .1 .1 .1 .0)
+    omega (arith, written-within (p .play .ensures) _ (k .played .given .1), p .play .kept .1 .0)
 
 enum-told : tie.Need-enum-told
 enum-told c = search needs

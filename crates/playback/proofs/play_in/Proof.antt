@@ -1,11 +1,11 @@
--- `play`: what was judged decides what is shown. Assumes nothing.
+-- `play_in`: what was judged decides what is shown. Assumes nothing.
 use Prim.Native.Nat.{_≤_}
 use native.Mathlib.Omega.{arith}
 use lib.ListN.{length}
 use Rattle.playback.proofs.Verdict.{setup-refused, events-refused, events-good, run-text}
 use borrow.Author.Needs.{needs}
-use Rattle.playback.proofs.play.Statement.{statement}
-use Rattle.playback.proofs.play.Tie as tie
+use Rattle.playback.proofs.play_in.Statement.{statement}
+use Rattle.playback.proofs.play_in.Tie as tie
 
 judge-requires : tie.Need-judge-requires
 judge-requires c κs = search needs
@@ -93,8 +93,8 @@ returns-3 c =
     let A = J .before .before in
     rw (run-text _ (A .before .before .judge .ensures) (A .at .given .1) (J .judge-events .ensures) (E .enum-told .given .1) (W .word .ensures) (R .run .ensures)) (S .show-run .ensures)
 
-pub play-spec : {M : Type 1} → statement M
-play-spec =
+pub play-in-spec : {M : Type 1} → statement M
+play-in-spec =
     tie.close
     (tie.spec
     judge-requires

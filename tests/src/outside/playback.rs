@@ -1,0 +1,208 @@
+//! Recorded runs, whole and damaged: the text that the archive writes, and the program's, is the second player's.
+use crate::program;
+use crate::Verdict;
+use okrozumba::playback::{play, Short};
+use second::random::Random;
+use second::recording::{self, Recording};
+use second::script::{Size, SIZES};
+use second::setup;
+use std::fs;
+
+const FILES: u64 = 500;
+/// Damaged copies of each.
+const COPIES: u32 = 24;
+const EVENTS_MOST: usize = 3000;
+const LONGEST: usize = 60_448;
+/// Bytes of an output behind its text.
+const SPARE: usize = 40;
+const SENTINEL: u8 = 0xa5;
+
+/// The request's own example: the bench sheet's setup, sta_tsk(3) and slp_tsk.
+const SHEET: [u32; 27] = [
+    4, 3, 2, 1, 2, 1, 1, 0, 1, 0, 1, 0, 1, 2, 1, 2, 2, 0, 1, 3, 0, 0, 0, 9, 0, 0, 0,
+];
+const SHEET_TEXT: &str = "start 1\n1 0 0 0 3 0\n2 1 0 0 1 0\n";
+
+#[derive(Default)]
+struct Tally {
+    /// Files that ran, and their lines.
+    ran: u64,
+    lines: u64,
+    /// Refused with S1 to S4.
+    faults: [u64; 4],
+    by_program: u64,
+    longest_text: usize,
+}
+
+/// What a lent output of so many bytes holds after the text was written: the text and all behind it as it was, or, too short, all as it was.
+fn lent(file: &[u8], text: &[u8], places: usize) -> bool {
+    let mut output = vec![SENTINEL; places];
+    let mut expected = output.clone();
+    let fits = text.len() <= places;
+    if fits {
+        expected[..text.len()].copy_from_slice(text);
+    }
+    let told = if fits {
+        Ok(text.len())
+    } else {
+        Err(Short { needed: text.len() })
+    };
+    play(file, &mut output) == told && output == expected
+}
+
+impl Tally {
+    fn count(&mut self, text: &str) {
+        match text.strip_prefix("refused ") {
+            Some(rest) => self.faults[rest.as_bytes()[0] as usize - usize::from(b'1')] += 1,
+            None => {
+                self.ran += 1;
+                self.lines += text.lines().count() as u64;
+            }
+        }
+        self.longest_text = self.longest_text.max(text.len());
+    }
+
+    /// The archive, with more places than are needed, with just enough, with one too few and with none.
+    fn judge(&mut self, file: &[u8]) -> Result<(), String> {
+        let text = recording::text(file);
+        let long = text.len();
+        self.count(&text);
+        for places in [long + SPARE, long, long - 1, 0] {
+            if !lent(file, text.as_bytes(), places) {
+                let named = format!("{file:?}, {places} bytes of output");
+                return Err(format!("{named}\nthe second player's text:\n{text}"));
+            }
+        }
+        Ok(())
+    }
+
+    /// The program, fed in pieces of so many bytes.
+    fn run_program(&mut self, file: &[u8], piece: usize) -> Result<(), String> {
+        let text = recording::text(file);
+        let written = program::play(file, piece)?;
+        self.by_program += 1;
+        if written == text.as_bytes() {
+            Ok(())
+        } else {
+            let named = String::from_utf8_lossy(&written);
+            Err(format!("{file:?}: the program wrote\n{named}\nnot\n{text}"))
+        }
+    }
+
+    fn truncations(&mut self, file: &[u8]) -> Result<(), String> {
+        (0..=file.len()).try_for_each(|end| self.judge(&file[..end]))
+    }
+}
+
+/// A few bytes changed to any others, some cut off or added.
+fn damaged(random: &mut Random, file: &[u8]) -> Vec<u8> {
+    let mut file = file.to_vec();
+    // the setup is short beside the events
+    let front = file.len().min(120) as u32;
+    match random.below(4) {
+        0 => file.truncate(random.below(file.len() as u32) as usize),
+        1 => file.extend((0..random.within(1, 9)).map(|_| random.word() as u8)),
+        2 => {
+            for _ in 0..random.within(1, 3) {
+                file[random.below(front) as usize] = random.below(34) as u8;
+            }
+        }
+        _ => {
+            let at = random.below(file.len() as u32) as usize;
+            file[at] = random.word() as u8;
+        }
+    }
+    file
+}
+
+/// Mostly some dozens of events, now and then as many as there can be.
+fn drawn(random: &mut Random, seed: u64) -> Vec<u8> {
+    let many = match seed % 50 {
+        0 => 0,
+        1 => EVENTS_MOST,
+        _ => random.below(200) as usize,
+    };
+    Recording::drawn(random, SIZES[seed as usize % SIZES.len()], many).bytes()
+}
+
+fn random_files(tally: &mut Tally) -> Result<(), String> {
+    for seed in 0..FILES {
+        let random = &mut Random::new(31_000 + seed);
+        let file = drawn(random, seed);
+        tally.judge(&file)?;
+        for _ in 0..COPIES {
+            tally.judge(&damaged(random, &file))?;
+        }
+        let copy = damaged(random, &file);
+        let piece = random.within(1, 300) as usize;
+        tally.run_program(&file, piece)?;
+        tally.run_program(&copy, piece)?;
+    }
+    Ok(())
+}
+
+/// The longest file: every truncation; and whatever follows it, all that the program need not read too.
+fn longest(tally: &mut Tally) -> Result<(), String> {
+    let mut file = Recording::drawn(&mut Random::new(9), Size::Full, EVENTS_MOST).bytes();
+    if file.len() != LONGEST {
+        return Err(format!("the longest file has {} bytes", file.len()));
+    }
+    tally.truncations(&file)?;
+    for more in [1, 2, 3, 4, 5, 100, 1_000_000] {
+        file.resize(LONGEST + more, 7);
+        tally.judge(&file)?;
+        tally.run_program(&file, 4096)?;
+    }
+    file.truncate(LONGEST);
+    tally.run_program(&file, 1000)
+}
+
+/// One event more than there can be, and the words of events at both ends.
+fn edges(tally: &mut Tally) -> Result<(), String> {
+    let mut run = Recording::drawn(&mut Random::new(10), Size::Small, EVENTS_MOST);
+    run.events.push([0; 5]);
+    tally.judge(&run.bytes())?;
+    let words = [i32::MIN, -1, 0, 1, 2, 3, 4, i32::MAX];
+    run.events = words.map(|word| [word, 26, word, word, word]).to_vec();
+    tally.judge(&run.bytes())?;
+    run.events = words.map(|word| [1, word, word, 1, 1]).to_vec();
+    tally.judge(&run.bytes())
+}
+
+/// The runs that the repository ships.
+fn shipped(tally: &mut Tally) -> Result<(), String> {
+    let folder = concat!(env!("CARGO_MANIFEST_DIR"), "/../examples/runs");
+    for entry in fs::read_dir(folder).map_err(|e| format!("{folder}: {e}"))? {
+        let path = entry.map_err(|e| format!("{folder}: {e}"))?.path();
+        let file = fs::read(&path).map_err(|e| format!("{}: {e}", path.display()))?;
+        tally.judge(&file)?;
+        tally.run_program(&file, file.len())?;
+    }
+    Ok(())
+}
+
+fn sheet(tally: &mut Tally) -> Result<(), String> {
+    let file = setup::bytes_of(SHEET);
+    if recording::text(&file) != SHEET_TEXT {
+        return Err("the second player has another text than the request".to_string());
+    }
+    tally.truncations(&file)?;
+    (0..=file.len()).try_for_each(|end| tally.run_program(&file[..end], 7))
+}
+
+pub fn check() -> Verdict {
+    let mut tally = Tally::default();
+    sheet(&mut tally)?;
+    shipped(&mut tally)?;
+    random_files(&mut tally)?;
+    longest(&mut tally)?;
+    edges(&mut tally)?;
+    if tally.faults.contains(&0) {
+        return Err(format!("too little tested: {:?}", tally.faults));
+    }
+    let [s1, s2, s3, s4] = tally.faults;
+    Ok(format!(
+        "{} files ran, {} lines; {s1} S1, {s2} S2, {s3} S3, {s4} S4; {} files by the program; the longest text had {} bytes",
+        tally.ran, tally.lines, tally.by_program, tally.longest_text
+    ))
+}
