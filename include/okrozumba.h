@@ -1,8 +1,8 @@
 /* Okrozumba, a small uITRON kernel: its functions for C and C++.
 
-   `rt staticlib kernel` proves the kernel and writes target/staticlib/libkernel.a, which defines them for x86-64 Linux. The archive asks
-   of the C library no more than memset and keeps nothing between calls: all there is of a kernel is the okrozumba_state that the caller
-   owns.
+   `rt staticlib okrozumba` proves the kernel and writes target/staticlib/libokrozumba.a, which defines them for x86-64 Linux. The archive
+   asks of the C library no more than memset and keeps nothing between calls: all there is of a kernel is the okrozumba_state that the caller
+   owns. Each function has a section of its own, so that a linker can leave out those that nobody calls.
 
    No function has to be preceded by a check. Each is defined for every setup, every event and every content of the state, and says by its
    answer what was wrong. All that is asked of a caller is asked of its pointers: none is null, each leads to as many elements as its type
@@ -205,10 +205,7 @@ okrozumba_outcome okrozumba_run(const uint8_t *setup, size_t setup_bytes, uint32
                                 uint32_t messages[OKROZUMBA_MESSAGES], const int32_t *events, size_t event_words, int32_t *codes,
                                 size_t code_places, uint32_t *answers, size_t answer_words);
 
-/* ---- recorded runs
-
-   `rt staticlib playback` proves this function and writes target/staticlib/libplayback.a, which defines it; it needs no other archive. It
-   takes 126 kB of the stack. */
+/* ---- recorded runs */
 
 /* No text is longer. */
 #define OKROZUMBA_TEXT 183017
@@ -227,7 +224,8 @@ typedef struct okrozumba_told {
 
 /* Plays a recorded run: a setup, the number of events (0 to 3,000), and five words for each, kind, call, a, b, c. The text has "start" and the
    running task, then a line for each event: number, code, w1, w2, running task, released. Of a file with a fault it is the one line "refused",
-   digit of the fault (1 to 4 for S1 to S4), place from the file's start, and nothing ran. It judges the file itself. */
+   digit of the fault (1 to 4 for S1 to S4), place from the file's start, and nothing ran. It judges the file itself. It takes 126 kB of the
+   stack: it is for the bench, not for the board. */
 okrozumba_told okrozumba_play(const uint8_t *file, size_t file_bytes, uint8_t *text, size_t text_bytes);
 
 #ifdef __cplusplus

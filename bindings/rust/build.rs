@@ -1,4 +1,4 @@
-//! Finds the archives: in the folder that OKROZUMBA_ARCHIVE names, else where `rt staticlib` of this repository writes them.
+//! Finds the archive: in the folder that OKROZUMBA_ARCHIVE names, else where `rt staticlib okrozumba` of this repository writes it.
 use std::env;
 use std::path::{Path, PathBuf};
 
@@ -12,20 +12,13 @@ fn folder() -> PathBuf {
     }
 }
 
-fn link(name: &str) {
-    let archive = folder().join(format!("lib{name}.a"));
+fn main() {
+    let archive = folder().join("libokrozumba.a");
+    println!("cargo:rerun-if-env-changed=OKROZUMBA_ARCHIVE");
     println!("cargo:rerun-if-changed={}", archive.display());
     if !archive.exists() {
-        panic!("{} is missing: run `rt staticlib {name}` in the repository's root, or set OKROZUMBA_ARCHIVE", archive.display());
+        panic!("{} is missing: run `rt staticlib okrozumba` in the repository's root, or set OKROZUMBA_ARCHIVE", archive.display());
     }
-    println!("cargo:rustc-link-lib=static={name}");
-}
-
-fn main() {
-    println!("cargo:rerun-if-env-changed=OKROZUMBA_ARCHIVE");
     println!("cargo:rustc-link-search=native={}", folder().display());
-    link("kernel");
-    if env::var_os("CARGO_FEATURE_PLAYBACK").is_some() {
-        link("playback");
-    }
+    println!("cargo:rustc-link-lib=static=okrozumba");
 }

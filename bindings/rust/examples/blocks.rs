@@ -1,6 +1,6 @@
 //! Blocks of a pool, taken and returned: the events are played at once, then what came of them is read. From the repository's root:
 //!
-//!     rt staticlib kernel
+//!     rt staticlib okrozumba
 //!     cargo run --offline --manifest-path bindings/rust/Cargo.toml --example blocks
 //!
 //! It prints:

@@ -1,4 +1,4 @@
-//! The functions of the archives, as `include/okrozumba.h` declares them. A reference to an array is passed as C passes a pointer.
+//! The functions of the archive, as `include/okrozumba.h` declares them. A reference to an array is passed as C passes a pointer.
 use crate::{Answer, Cell, MESSAGES, STATE_WORDS};
 
 type Words = [u32; STATE_WORDS];
@@ -8,6 +8,12 @@ type Messages = [u32; MESSAGES];
 pub struct Outcome {
     pub number: u32,
     pub place: usize,
+}
+
+#[repr(C)]
+pub struct Told {
+    pub number: u32,
+    pub length: usize,
 }
 
 extern "C" {
@@ -57,17 +63,7 @@ extern "C" {
         answers: *mut u32,
         answer_words: usize,
     ) -> Outcome;
-}
 
-#[cfg(feature = "playback")]
-#[repr(C)]
-pub struct Told {
-    pub number: u32,
-    pub length: usize,
-}
-
-#[cfg(feature = "playback")]
-extern "C" {
     pub fn okrozumba_play(
         file: *const u8,
         file_bytes: usize,

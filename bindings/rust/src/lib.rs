@@ -2,17 +2,17 @@
 //!
 //! A kernel is a [`State`]: two arrays that the program owns. [`State::start`] makes a fresh one from a setup, [`State::call`] and
 //! [`State::tick`] carry it from event to event, [`State::cell`] reads what a task's last wait ended with, [`State::events`] and
-//! [`State::run`] play many events at once. Nothing is kept elsewhere: a clone is a second kernel in the same state.
+//! [`State::run`] play many events at once. Nothing is kept elsewhere: a clone is a second kernel in the same state. [`playback::play`] gives
+//! the text of a recorded run.
 //!
 //! Every function is defined for every argument and every content of the arrays, and says by its answer what was wrong; so all of them
 //! are safe. That is what the kernel's proofs promise of the functions that this crate wraps (`include/okrozumba.h`).
 //!
 //! # The archive
 //!
-//! `rt staticlib kernel`, in the repository's root, proves the kernel and writes `target/staticlib/libkernel.a` for x86-64 Linux; the build
-//! script links that. Set `OKROZUMBA_ARCHIVE` to another folder with a `libkernel.a` to link that one. The archive needs no more of the C
-//! library than `memset`. With the feature `playback`, the module of that name plays recorded runs; it links `libplayback.a` too, which `rt
-//! staticlib playback` writes.
+//! `rt staticlib okrozumba`, in the repository's root, proves the kernel and writes `target/staticlib/libokrozumba.a` for x86-64 Linux; the
+//! build script links that. Set `OKROZUMBA_ARCHIVE` to another folder with a `libokrozumba.a` to link that one. The archive needs no more of
+//! the C library than `memset`.
 //!
 //! # Example
 //!
@@ -37,7 +37,6 @@
 mod archive;
 pub mod call;
 pub mod code;
-#[cfg(feature = "playback")]
 pub mod playback;
 
 /// Words of a state, without the marks of the messages.

@@ -85,8 +85,8 @@ module _ (b : List ℕ) where
 abbrev pub Told : Bool → List ℕ → Survey → Type 0
 Told t m s = (t ≡ s .ok) × (m ≡ s .marks)
 
-pub ranged-at : (l : List ℕ) (a : ℕ) (m : List ℕ) {n n′ k k′ : ℕ} {t : Bool} {m₁ : List ℕ} → n ≡ n′ → k ≡ k′ → Told t m₁ (ranged n l a k m) → Told t m₁ (ranged n′ l a k′ m)
-ranged-at l a m e f h = rw (← e, ← f) h
+pub ranged-at : (a : ℕ) (m : List ℕ) {l l′ : List ℕ} {n n′ k k′ : ℕ} {t : Bool} {m₁ : List ℕ} → l ≡ l′ → n ≡ n′ → k ≡ k′ → Told t m₁ (ranged n l a k m) → Told t m₁ (ranged n′ l′ a k′ m)
+ranged-at a m d e f h = rw (← d, ← e, ← f) h
 
 module _ (n : ℕ) (l : List ℕ) (a k : ℕ) (m : List ℕ) {t : Bool} {m₁ : List ℕ} (e : Told t m₁ (ranged n l a k m)) where
   pub ranges-stop : (rs : List (ℕ × ℕ)) → not t ≡ true → Told false m₁ (ranges n l ((a, k) ∷ rs) m)

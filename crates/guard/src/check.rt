@@ -18,9 +18,11 @@ use columns::ticks;
 use columns::wakeups;
 use columns::wish;
 use columns::word;
-use state::objects::mark_of;
+use state::marks::mark_of;
+use state::queues::links;
 use state::queues::mail_anchor;
 use state::queues::mail_first;
+use state::queues::mail_links;
 use state::queues::ready_anchor;
 use state::queues::wait_anchor;
 ghost use mathlib.Core.Path.{_≡_};
@@ -331,9 +333,8 @@ fn survey_queues(words: &[u32; STATE_WORDS], anchor: u32, k: u32, marks: &mut [u
     ensures { λ r. ⌜ r ≡ ranged (Tests.many (now (words .entry)) 1) (wordsOf Layout.links (now (words .entry))) anchor (Tests.many (now (words .entry)) k) (now (marks .entry)) .ok ⌝ }
     ensures { λ _. ⌜ now (marks .exit) ≡ ranged (Tests.many (now (words .entry)) 1) (wordsOf Layout.links (now (words .entry))) anchor (Tests.many (now (words .entry)) k) (now (marks .entry)) .marks ⌝ }
 {
-    let all = &words[..];
     rings::survey(
-        &all[363..573],
+        links(words),
         system(words, 1),
         anchor,
         system(words, k),
@@ -400,8 +401,7 @@ fn tasks_queued(words: &[u32; STATE_WORDS]) -> bool
     if !survey_tasks(words, &mut marks) {
         return false;
     }
-    let all = &words[..];
-    if !rings::loose(&all[363..573], system(words, 1), &marks) {
+    if !rings::loose(links(words), system(words, 1), &marks) {
         return false;
     }
     task_homes_ok(words, &marks, system(words, 1))
@@ -412,9 +412,8 @@ fn survey_mail(words: &[u32; STATE_WORDS], marks: &mut [u32]) -> bool
     ensures { λ r. ⌜ r ≡ Tests.ranges (Tests.many (now (words .entry)) 5) (wordsOf Layout.mailLinks (now (words .entry))) (Tests.mailRanges (now (words .entry))) (now (marks .entry)) .ok ⌝ }
     ensures { λ _. ⌜ now (marks .exit) ≡ Tests.ranges (Tests.many (now (words .entry)) 5) (wordsOf Layout.mailLinks (now (words .entry))) (Tests.mailRanges (now (words .entry))) (now (marks .entry)) .marks ⌝ }
 {
-    let all = &words[..];
     rings::survey(
-        &all[625..1171],
+        mail_links(words),
         system(words, 5),
         257,
         system(words, 4),
@@ -459,8 +458,7 @@ fn mail_queued(words: &[u32; STATE_WORDS], messages: &[u32; 256]) -> bool
     if !survey_mail(words, &mut marks) {
         return false;
     }
-    let all = &words[..];
-    if !rings::loose(&all[625..1171], system(words, 5), &marks) {
+    if !rings::loose(mail_links(words), system(words, 5), &marks) {
         return false;
     }
     message_homes_ok(messages, &marks, system(words, 5))

@@ -1,6 +1,5 @@
 -- Laws of the kernel.
 pub mod Promised
-pub mod Outcomes
 pub mod Chains
 pub mod Demands
 pub mod Clocks

@@ -1,4 +1,3 @@
 -- The kernel: what its functions promise, and what is demanded of runs.
 pub mod Promises
-pub mod Exports
 pub mod Demands

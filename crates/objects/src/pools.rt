@@ -6,7 +6,7 @@ use calls::judging::named;
 use columns::STATE_WORDS;
 use columns::free;
 use columns::size;
-use state::objects::mark_block;
+use state::marks::mark_block;
 use state::tasks::release;
 use state::tasks::wait;
 ghost use mathlib.Core.Path.{_≡_};

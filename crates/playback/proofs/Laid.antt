@@ -19,7 +19,6 @@ use Rattle.playback.specs.declared.Played.the-variants.{Written, Short}
 use Rattle.playback.specs.Text.{decimal, signed, fields, lines}
 use Rattle.playback.specs.Output.{outputOf, playedOf, laid, Wrote}
 use Rattle.playback.specs.Playing.{rowAt, rows, Shown}
-use Rattle.playback.specs.Exports.{playedNumber, playedLength, ShownTold}
 use Rattle.playback.proofs.Decimal.{decimal-one, decimal-more, decimal-length}
 
 module _ {A : Type 0} where
@@ -188,12 +187,3 @@ module _ {text : List ℕ} {r : Played} {old new : List ℕ} (S : Shown text r o
       let z : Short k ≡ Written (length text) = sym e ∙ (rw q at (S .says)) in
       let y : _≡_ {A = ℕ} 0 1 = cc in
       omega arith
-
-  -- in numbers
-  pub shown-told : {n l : ℕ} → n ≡ playedNumber r → l ≡ playedLength r → ShownTold text n l old new
-  unfolding playedOf
-  shown-told p q = record { says = p ∙ ap playedNumber (S .says); long = q ∙ ap playedLength (S .says) ∙ go (leb (length text) (length old)); holds = S .holds }
-    where
-      go : (t : Bool) → playedLength (cond t (Written (length text)) (Short (length text))) ≡ length text
-      go true = refl
-      go false = refl

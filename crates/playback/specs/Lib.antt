@@ -4,5 +4,4 @@ pub mod Ascii
 pub mod Text
 pub mod Output
 pub mod Playing
-pub mod Exports
 pub mod Examples

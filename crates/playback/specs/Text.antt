@@ -2,7 +2,7 @@
 -- Numbers are decimal, with single spaces between them, and a line feed ends each line.
 use mathlib.Core.Bool.{cond}
 use mathlib.Core.List.{List, [], _∷_, _++_, map}
-use Prim.Native.Nat.{ℕ, zero, suc, _+_, _/_, _%_}
+use Prim.Native.Nat.{ℕ, zero, suc, _+_, _-_, _*_, _/_, _%_, _≤_}
 use lib.Dec.{ltb}
 use lib.IntN.{ℤ, pos, negsuc}
 use Rattle.rules.specs.Setup.{Read, got, refused, digit, Setup}
@@ -25,6 +25,15 @@ digits (suc k) n = let more = digits k (n / 10) ++ ((48 + n % 10) ∷ []) in con
 -- n has fewer than n digits before the last
 unfoldable pub decimal : ℕ → List ℕ
 decimal n = digits n n
+
+-- "0" to "9": `decimal-digits`
+abbrev pub Digit : ℕ → Type 0
+Digit d = (48 ≤ d) × (d ≤ 57)
+
+-- the number that digits name, behind those of m: `decimal-value` reads a number back
+unfoldable pub valueFrom : ℕ → List ℕ → ℕ
+valueFrom m [] = m
+valueFrom m (d ∷ l) = valueFrom (10 * m + (d - 48)) l
 
 unfoldable pub signed : ℤ → List ℕ
 signed (pos n) = decimal n

@@ -1,6 +1,5 @@
 // A recorded run, from the bytes of its file to the bytes of its text. The whole file is judged before anything runs; the events then run
 // as one batch. The contracts cite `textOf`, the text that the rules give from the bytes alone.
-mod exports;
 mod reading;
 mod text;
 

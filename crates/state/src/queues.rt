@@ -4,7 +4,7 @@ ghost use mathlib.Core.Path.{_≡_};
 ghost use Prim.Native.Nat.{_-_, _≤_};
 ghost use lib.ListN.{length};
 ghost use Rattle.rings.specs.Columns.{col, splice};
-ghost use Rattle.rings.specs.Links.{firstOf, pushed, left, cleared};
+ghost use Rattle.rings.specs.Links.{nexts, firstOf, pushed, left, cleared};
 ghost use Rattle.columns.specs.Layout as Layout;
 ghost use Rattle.columns.specs.Layout.{words as wordsOf};
 ghost use Rattle.columns.specs.Layout.{entry};
@@ -82,20 +82,26 @@ pub fn clear(words: &mut [u32; STATE_WORDS], anchor: u32)
     clear_in(words, 363, 573, anchor);
 }
 
+// The rings of the tasks; the first half has the next links.
+pub fn links(words: &[u32; STATE_WORDS]) -> &[u32]
+    ensures { λ r. ⌜ (now r ≡ wordsOf Layout.links (now (words .entry))) × (nexts (now r) ≡ wordsOf Layout.next (now (words .entry))) ⌝ }
+{
+    let all = &words[..];
+    &all[363..573]
+}
+
 // The first task in the queue of an anchor, 0 if it is empty.
 pub fn first(words: &[u32; STATE_WORDS], anchor: u32) -> u32
     ensures { λ r. ⌜ r ≡ firstOf (wordsOf Layout.next (now (words .entry))) anchor ⌝ }
 {
-    let all = &words[..];
-    rings::first(&all[363..573], anchor)
+    rings::first(links(words), anchor)
 }
 
 // The node behind x in its queue: a task, or the anchor.
 pub fn follow(words: &[u32; STATE_WORDS], x: u32) -> u32
     ensures { λ r. ⌜ r ≡ entry Layout.next (now (words .entry)) x ⌝ }
 {
-    let all = &words[..];
-    rings::follow(&all[363..573], x)
+    rings::follow(links(words), x)
 }
 
 // Message j goes last in the queue of an anchor.
@@ -119,10 +125,17 @@ pub fn mail_clear(words: &mut [u32; STATE_WORDS], anchor: u32)
     clear_in(words, 625, 1171, anchor);
 }
 
+// The rings of the messages; the first half has the next links.
+pub fn mail_links(words: &[u32; STATE_WORDS]) -> &[u32]
+    ensures { λ r. ⌜ (now r ≡ wordsOf Layout.mailLinks (now (words .entry))) × (nexts (now r) ≡ wordsOf Layout.mailNext (now (words .entry))) ⌝ }
+{
+    let all = &words[..];
+    &all[625..1171]
+}
+
 // The first message of a mailbox's anchor, 0 if it is empty.
 pub fn mail_first(words: &[u32; STATE_WORDS], anchor: u32) -> u32
     ensures { λ r. ⌜ r ≡ firstOf (wordsOf Layout.mailNext (now (words .entry))) anchor ⌝ }
 {
-    let all = &words[..];
-    rings::first(&all[625..1171], anchor)
+    rings::first(mail_links(words), anchor)
 }

@@ -1,6 +1,5 @@
 -- `guard::check::mail_queued` meets its contract. By its three tests. Assumes nothing.
 use denote.Ref.{now}
-use Rattle.rings.specs.Columns.{col}
 use Rattle.rings.specs.Links.{nexts}
 use Rattle.columns.specs.Layout as Layout
 use Rattle.columns.specs.Layout.{words}
@@ -17,21 +16,15 @@ survey-mail-requires : tie.Need-survey-mail-requires
 survey-mail-requires c κs = search needs
 
 returns : tie.Need-returns
-unfolding mailQueued col
+unfolding mailQueued
 returns c =
     let s = c .before .before in
     let st = s .before .before in
     let b = now (st .args .words) in
     queued-stop (mailSurvey b) (many b 5) (nexts (words Layout.mailLinks b)) (mailHome (now (st .args .messages))) (s .survey-mail .ensures) (c .if1 .taken)
 
-sub-loose : tie.Need-sub-loose
-sub-loose c = search needs
-
-part-loose-start : tie.Need-part-loose-start
-part-loose-start c = search needs
-
-part-loose-end : tie.Need-part-loose-end
-part-loose-end c = search needs
+mail-links-requires : tie.Need-mail-links-requires
+mail-links-requires c κs = search needs
 
 system-requires : tie.Need-system-requires
 system-requires c κs = search needs
@@ -43,15 +36,16 @@ loose-requires : tie.Need-loose-requires
 loose-requires c κs = search needs
 
 returns-2 : tie.Need-returns-2
-unfolding mailQueued col
+unfolding mailQueued
 returns-2 c =
     let l = c .before in
     let y = l .before .before in
-    let i = y .before .before .before in
+    let k = y .before in
+    let i = k .before in
     let s = i .before .before in
     let st = s .before .before in
     let b = now (st .args .words) in
-    queued-loose (mailSurvey b) (many b 5) (nexts (words Layout.mailLinks b)) (mailHome (now (st .args .messages))) (s .survey-mail .ensures) (y .system .ensures) (l .loose .ensures) (c .if2 .taken)
+    queued-loose (mailSurvey b) (many b 5) (nexts (words Layout.mailLinks b)) (mailHome (now (st .args .messages))) (s .survey-mail .ensures) (y .system .ensures) (rw (k .mail-links .ensures .0) at (l .loose .ensures)) (c .if2 .taken)
 
 slice-aggregate-message-homes-ok : tie.Need-slice-aggregate-message-homes-ok
 slice-aggregate-message-homes-ok c = search needs
@@ -63,16 +57,17 @@ message-homes-ok-requires : tie.Need-message-homes-ok-requires
 message-homes-ok-requires c κs = search needs
 
 returns-3 : tie.Need-returns-3
-unfolding mailQueued col
+unfolding mailQueued
 returns-3 c =
     let j = c .before .before .before in
     let l = j .before in
     let y = l .before .before in
-    let i = y .before .before .before in
+    let k = y .before in
+    let i = k .before in
     let s = i .before .before in
     let st = s .before .before in
     let b = now (st .args .words) in
-    queued-homes (mailSurvey b) (many b 5) (nexts (words Layout.mailLinks b)) (mailHome (now (st .args .messages))) (s .survey-mail .ensures) (y .system .ensures) (l .loose .ensures) (i .if1 .left) (j .if2 .left) (c .before .system2 .ensures) (c .message-homes-ok .ensures)
+    queued-homes (mailSurvey b) (many b 5) (nexts (words Layout.mailLinks b)) (mailHome (now (st .args .messages))) (s .survey-mail .ensures) (y .system .ensures) (rw (k .mail-links .ensures .0) at (l .loose .ensures)) (i .if1 .left) (j .if2 .left) (c .before .system2 .ensures) (c .message-homes-ok .ensures)
 
 pub mail-queued-spec : {M : Type 1} → statement M
 mail-queued-spec =
@@ -81,9 +76,7 @@ mail-queued-spec =
     slice-aggregate-survey-mail
     survey-mail-requires
     returns
-    sub-loose
-    part-loose-start
-    part-loose-end
+    mail-links-requires
     system-requires
     slice-aggregate-loose
     loose-requires

@@ -1,18 +1,11 @@
 -- `guard::check::survey_mail` meets its contract. The survey of a part of the memory, as its only range. Assumes nothing.
-use Rattle.rings.specs.Columns.{col}
 use Rattle.guard.proofs.Steps.{ranged-at, ranges-last}
 use borrow.Author.Needs.{needs}
 use Rattle.guard.proofs.check.survey_mail.Statement.{statement}
 use Rattle.guard.proofs.check.survey_mail.Tie as tie
 
-sub-survey : tie.Need-sub-survey
-sub-survey c = search needs
-
-part-survey-start : tie.Need-part-survey-start
-part-survey-start c = search needs
-
-part-survey-end : tie.Need-part-survey-end
-part-survey-end c = search needs
+mail-links-requires : tie.Need-mail-links-requires
+mail-links-requires c κs = search needs
 
 system-requires : tie.Need-system-requires
 system-requires c κs = search needs
@@ -27,16 +20,16 @@ same-length : tie.Need-same-length
 same-length c = search needs
 
 returns : tie.Need-returns
-unfolding col
-returns c = let s = c .before .before in let t = s .before .before in ranges-last _ _ _ _ _ (ranged-at _ _ _ (t .before .system .ensures) (t .system2 .ensures) (s .survey .ensures))
+returns c =
+    let s = c .before .before in let t = s .before .before in
+    let k = t .before .before in
+    ranges-last _ _ _ _ _ (ranged-at _ _ (k .mail-links .ensures .0) (t .before .system .ensures) (t .system2 .ensures) (s .survey .ensures))
 
 pub survey-mail-spec : {M : Type 1} → statement M
 survey-mail-spec =
     tie.close
     (tie.spec
-    sub-survey
-    part-survey-start
-    part-survey-end
+    mail-links-requires
     system-requires
     system-requires-2
     survey-requires

@@ -1,6 +1,5 @@
 -- `guard::check::tasks_queued` meets its contract. By its three tests. Assumes nothing.
 use denote.Ref.{now}
-use Rattle.rings.specs.Columns.{col}
 use Rattle.rings.specs.Links.{nexts}
 use Rattle.columns.specs.Layout as Layout
 use Rattle.columns.specs.Layout.{words}
@@ -17,21 +16,15 @@ survey-tasks-requires : tie.Need-survey-tasks-requires
 survey-tasks-requires c κs = search needs
 
 returns : tie.Need-returns
-unfolding tasksQueued col
+unfolding tasksQueued
 returns c =
     let s = c .before .before in
     let st = s .before .before in
     let b = now (st .args .words) in
     queued-stop (taskSurvey b) (many b 1) (nexts (words Layout.links b)) (taskHome b) (s .survey-tasks .ensures) (c .if1 .taken)
 
-sub-loose : tie.Need-sub-loose
-sub-loose c = search needs
-
-part-loose-start : tie.Need-part-loose-start
-part-loose-start c = search needs
-
-part-loose-end : tie.Need-part-loose-end
-part-loose-end c = search needs
+links-requires : tie.Need-links-requires
+links-requires c κs = search needs
 
 system-requires : tie.Need-system-requires
 system-requires c κs = search needs
@@ -43,15 +36,16 @@ loose-requires : tie.Need-loose-requires
 loose-requires c κs = search needs
 
 returns-2 : tie.Need-returns-2
-unfolding tasksQueued col
+unfolding tasksQueued
 returns-2 c =
     let l = c .before in
     let y = l .before .before in
-    let i = y .before .before .before in
+    let k = y .before in
+    let i = k .before in
     let s = i .before .before in
     let st = s .before .before in
     let b = now (st .args .words) in
-    queued-loose (taskSurvey b) (many b 1) (nexts (words Layout.links b)) (taskHome b) (s .survey-tasks .ensures) (y .system .ensures) (l .loose .ensures) (c .if2 .taken)
+    queued-loose (taskSurvey b) (many b 1) (nexts (words Layout.links b)) (taskHome b) (s .survey-tasks .ensures) (y .system .ensures) (rw (k .links .ensures .0) at (l .loose .ensures)) (c .if2 .taken)
 
 slice-aggregate-task-homes-ok : tie.Need-slice-aggregate-task-homes-ok
 slice-aggregate-task-homes-ok c = search needs
@@ -63,16 +57,17 @@ task-homes-ok-requires : tie.Need-task-homes-ok-requires
 task-homes-ok-requires c κs = search needs
 
 returns-3 : tie.Need-returns-3
-unfolding tasksQueued col
+unfolding tasksQueued
 returns-3 c =
     let j = c .before .before .before in
     let l = j .before in
     let y = l .before .before in
-    let i = y .before .before .before in
+    let k = y .before in
+    let i = k .before in
     let s = i .before .before in
     let st = s .before .before in
     let b = now (st .args .words) in
-    queued-homes (taskSurvey b) (many b 1) (nexts (words Layout.links b)) (taskHome b) (s .survey-tasks .ensures) (y .system .ensures) (l .loose .ensures) (i .if1 .left) (j .if2 .left) (c .before .system2 .ensures) (c .task-homes-ok .ensures)
+    queued-homes (taskSurvey b) (many b 1) (nexts (words Layout.links b)) (taskHome b) (s .survey-tasks .ensures) (y .system .ensures) (rw (k .links .ensures .0) at (l .loose .ensures)) (i .if1 .left) (j .if2 .left) (c .before .system2 .ensures) (c .task-homes-ok .ensures)
 
 pub tasks-queued-spec : {M : Type 1} → statement M
 tasks-queued-spec =
@@ -81,9 +76,7 @@ tasks-queued-spec =
     slice-aggregate-survey-tasks
     survey-tasks-requires
     returns
-    sub-loose
-    part-loose-start
-    part-loose-end
+    links-requires
     system-requires
     slice-aggregate-loose
     loose-requires

@@ -1,0 +1,70 @@
+-- The answers of `start`, `events`, `run` and `play` in numbers, as the exported functions give them.
+use mathlib.Core.List.{List}
+use mathlib.Core.Path.{_≡_}
+use Prim.Native.Nat.{ℕ, _+_}
+use lib.IntN.{ℤ}
+use lib.ListN as ListN
+use Rattle.boot.specs.Starting.{Starts}
+use Rattle.boot.specs.declared.Started.{Started}
+use Rattle.boot.specs.declared.Started.the-variants as Started
+use Rattle.events.specs.declared.batch.Batch.{Batch}
+use Rattle.events.specs.declared.batch.Ran.{Ran}
+use Rattle.events.specs.declared.batch.Ran.the-variants as Ran
+use Rattle.events.specs.Batches.{batchNumber, Lent, Batched, RunsFrom}
+use Rattle.playback.specs.declared.Played.{Played}
+use Rattle.playback.specs.declared.Played.the-variants as Played
+use Rattle.playback.specs.Output.{playedOf, outputOf}
+
+-- ---- numbers and places
+
+-- 0, or 1 to 4 for S1 to S4
+abbrev pub startNumber : Started → ℕ
+startNumber Started.Fresh = 0
+startNumber (Started.Refused digit place) = digit
+
+abbrev pub startPlace : Started → ℕ
+startPlace Started.Fresh = 0
+startPlace (Started.Refused digit place) = place
+
+-- 0; 1 to 3 as a batch; 11 to 14 for S1 to S4
+abbrev pub ranNumber : Ran → ℕ
+ranNumber Ran.Done = 0
+ranNumber (Ran.Unfit b) = batchNumber b
+ranNumber (Ran.Refused digit place) = 10 + digit
+
+abbrev pub ranPlace : Ran → ℕ
+ranPlace Ran.Done = 0
+ranPlace (Ran.Unfit b) = 0
+ranPlace (Ran.Refused digit place) = place
+
+-- 0 written, 1 short
+abbrev pub playedNumber : Played → ℕ
+playedNumber (Played.Written n) = 0
+playedNumber (Played.Short n) = 1
+
+abbrev pub playedLength : Played → ℕ
+playedLength (Played.Written n) = n
+playedLength (Played.Short n) = n
+
+-- ---- the contracts
+
+-- the number is that of an answer of which P holds
+pub record Numbered {A : Type 0} (numberOf : A → ℕ) (P : A → Type 0) (n : ℕ) : Type 0 where
+  pub answer : A
+  pub promised : P answer
+  pub number : n ≡ numberOf answer
+
+abbrev pub StartsTold : List ℕ → ℕ → ℕ → List ℕ → List ℕ → List ℕ → List ℕ → Type 0
+StartsTold s n place words marks words′ marks′ = Numbered startNumber (λ r. Starts s r words marks words′ marks′ × (place ≡ startPlace r)) n
+
+abbrev pub BatchedTold : List ℤ → ℕ → Lent → Lent → Type 0
+BatchedTold events n old new = Numbered batchNumber (λ r. Batched events r old new) n
+
+abbrev pub RunsTold : List ℕ → List ℤ → ℕ → ℕ → Lent → Lent → Type 0
+RunsTold s events n place old new = Numbered ranNumber (λ r. RunsFrom s events r old new × (place ≡ ranPlace r)) n
+
+-- the text's length, whether it was written, and what the output holds then
+pub record ShownTold (text : List ℕ) (number length : ℕ) (old new : List ℕ) : Type 0 where
+  pub says : number ≡ playedNumber (playedOf text old)
+  pub long : length ≡ ListN.length text
+  pub holds : new ≡ outputOf text old

@@ -1,0 +1,2 @@
+-- The exported functions: what they promise.
+pub mod Exports

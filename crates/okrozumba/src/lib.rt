@@ -1,0 +1,190 @@
+// The public functions under plain names, for programs in C and Rust: include/okrozumba.h declares them. Each promises what the
+// function that it wraps promises; an answer that is an enum there is told by its number and place here (specs/Exports.antt).
+use boot::Started;
+use columns::STATE_WORDS;
+use events::batch::Batch;
+use events::batch::Ran;
+use events::event::Answer;
+use kernel::cell::Reading;
+use playback::Played;
+ghost use mathlib.Core.Path.{_≡_};
+ghost use Prim.Native.Nat.{_≤_};
+ghost use Rattle.rules.specs.Events as Events;
+ghost use Rattle.events.specs.Steps.{reply, Step};
+ghost use Rattle.kernel.specs.Promises.{Reads, Runs};
+ghost use Rattle.events.specs.Batches.{batchNumber, lent};
+ghost use Rattle.playback.specs.Text.{textOf};
+ghost use Rattle.okrozumba.specs.Exports.{startNumber, startPlace, ranNumber, ranPlace, playedNumber, playedLength, StartsTold, BatchedTold, RunsTold, ShownTold};
+
+// An enum's number; and the place of a setup's fault, else 0.
+#[repr(C)]
+pub struct Outcome {
+    pub number: u32,
+    pub place: usize,
+}
+
+// ---- a fresh state
+
+fn start_outcome(started: Started) -> Outcome
+    ensures { λ r. ⌜ (r .number ≡ startNumber started) × (r .place ≡ startPlace started) ⌝ }
+{
+    match started {
+        Started::Fresh => Outcome {
+            number: 0,
+            place: 0,
+        },
+        Started::Refused(digit, place) => Outcome {
+            number: digit,
+            place,
+        },
+    }
+}
+
+// The fresh state of a setup: 0, or the digit of its fault with the place, and the memory as it was.
+#[no_mangle]
+pub extern "C" fn okrozumba_start(
+    setup: &[u8],
+    words: &mut [u32; STATE_WORDS],
+    messages: &mut [u32; 256],
+) -> Outcome
+    ensures { λ r. ⌜ StartsTold (now (setup .entry)) (r .number) (r .place) (now (words .entry)) (now (messages .entry)) (now (words .exit)) (now (messages .exit)) ⌝ }
+{
+    start_outcome(boot::start(setup, words, messages))
+}
+
+// ---- one event
+
+// A call from a context (0 task, 1 handler) by its number.
+#[no_mangle]
+pub extern "C" fn okrozumba_call(
+    words: &mut [u32; STATE_WORDS],
+    messages: &mut [u32; 256],
+    context: i32,
+    number: i32,
+    a: i32,
+    b: i32,
+    c: i32,
+) -> Answer
+    ensures { λ r. ⌜ Step (Events.call context number a b c) (now (words .entry)) (now (messages .entry)) (reply (r .code) (r .w1) (r .w2) (r .running) (r .released)) (now (words .exit)) (now (messages .exit)) ⌝ }
+{
+    events::event::call(words, messages, context, number, a, b, c)
+}
+
+// A tick.
+#[no_mangle]
+pub extern "C" fn okrozumba_tick(words: &mut [u32; STATE_WORDS], messages: &[u32; 256]) -> Answer
+    ensures { λ r. ⌜ Step Events.tick (now (words .entry)) (now (messages .entry)) (reply (r .code) (r .w1) (r .w2) (r .running) (r .released)) (now (words .exit)) (now (messages .entry)) ⌝ }
+{
+    events::event::tick(words, messages)
+}
+
+// ---- reading
+
+// The cell of a task: H_STATE if the state is damaged, then E_NOEXS for a bad id, each with word 0.
+#[no_mangle]
+pub extern "C" fn okrozumba_cell(
+    words: &[u32; STATE_WORDS],
+    messages: &[u32; 256],
+    task: i32,
+) -> Reading
+    ensures { λ r. ⌜ Reads (now (words .entry)) (now (messages .entry)) task (r .code) (r .word) ⌝ }
+{
+    kernel::cell::cell(words, messages, task)
+}
+
+// The running task, 0 if there is none or the state is damaged.
+#[no_mangle]
+pub extern "C" fn okrozumba_running(words: &[u32; STATE_WORDS], messages: &[u32; 256]) -> u32
+    ensures { λ r. ⌜ Runs (now (words .entry)) (now (messages .entry)) r ⌝ }
+{
+    kernel::cell::running(words, messages)
+}
+
+// ---- many events
+
+fn batch_number(b: Batch) -> u32
+    ensures { λ r. ⌜ r ≡ batchNumber b ⌝ }
+{
+    match b {
+        Batch::Done => 0,
+        Batch::Ragged => 1,
+        Batch::FewCodes => 2,
+        Batch::FewWords => 3,
+    }
+}
+
+// The events, five words each: 0, or the number of why none was served, and everything as it was.
+#[no_mangle]
+pub extern "C" fn okrozumba_events(
+    words: &mut [u32; STATE_WORDS],
+    messages: &mut [u32; 256],
+    events: &[i32],
+    codes: &mut [i32],
+    answers: &mut [u32],
+) -> u32
+    ensures { λ r. ⌜ BatchedTold (now (events .entry)) r (lent (now (words .entry)) (now (messages .entry)) (now (codes .entry)) (now (answers .entry))) (lent (now (words .exit)) (now (messages .exit)) (now (codes .exit)) (now (answers .exit))) ⌝ }
+{
+    batch_number(events::batch::events(words, messages, events, codes, answers))
+}
+
+// A setup's fault has a digit of 1 to 4.
+fn run_outcome(ran: Ran) -> Outcome
+    requires { ⌜ ranNumber ran ≤ 14 ⌝ }
+    ensures { λ r. ⌜ (r .number ≡ ranNumber ran) × (r .place ≡ ranPlace ran) ⌝ }
+{
+    match ran {
+        Ran::Done => Outcome {
+            number: 0,
+            place: 0,
+        },
+        Ran::Unfit(b) => Outcome {
+            number: batch_number(b),
+            place: 0,
+        },
+        Ran::Refused(digit, place) => Outcome {
+            number: 10 + digit,
+            place,
+        },
+    }
+}
+
+// A fresh kernel, then the events: the same numbers, then 10 more than the digit of the setup's fault, with the place.
+#[no_mangle]
+pub extern "C" fn okrozumba_run(
+    setup: &[u8],
+    words: &mut [u32; STATE_WORDS],
+    messages: &mut [u32; 256],
+    events: &[i32],
+    codes: &mut [i32],
+    answers: &mut [u32],
+) -> Outcome
+    ensures { λ r. ⌜ RunsTold (now (setup .entry)) (now (events .entry)) (r .number) (r .place) (lent (now (words .entry)) (now (messages .entry)) (now (codes .entry)) (now (answers .entry))) (lent (now (words .exit)) (now (messages .exit)) (now (codes .exit)) (now (answers .exit))) ⌝ }
+{
+    run_outcome(events::batch::run(setup, words, messages, events, codes, answers))
+}
+
+// ---- recorded runs
+
+// The number of a `Played`, and the text's length.
+#[repr(C)]
+pub struct Told {
+    pub number: u32,
+    pub length: usize,
+}
+
+fn played_told(played: Played) -> Told
+    ensures { λ r. ⌜ (r .number ≡ playedNumber played) × (r .length ≡ playedLength played) ⌝ }
+{
+    match played {
+        Played::Written(length) => Told { number: 0, length },
+        Played::Short(length) => Told { number: 1, length },
+    }
+}
+
+// The text of a file: 0 and its length; or 1 and its length if the output is too short, and the output as it was.
+#[no_mangle]
+pub extern "C" fn okrozumba_play(file: &[u8], text: &mut [u8]) -> Told
+    ensures { λ r. ⌜ ShownTold (textOf (now (file .entry))) (r .number) (r .length) (now (text .entry)) (now (text .exit)) ⌝ }
+{
+    played_told(playback::play(file, text))
+}
