@@ -7,6 +7,7 @@ use second::recording::{self, Recording};
 use second::script::{Size, SIZES};
 use second::setup;
 use std::fs;
+use std::path::Path;
 
 const FILES: u64 = 500;
 /// Damaged copies of each.
@@ -31,6 +32,7 @@ struct Tally {
     /// Refused with S1 to S4.
     faults: [u64; 4],
     by_program: u64,
+    shipped: u64,
     longest_text: usize,
 }
 
@@ -169,14 +171,26 @@ fn edges(tally: &mut Tally) -> Result<(), String> {
     tally.judge(&run.bytes())
 }
 
-/// The runs that the repository ships.
+fn read(path: &Path) -> Result<Vec<u8>, String> {
+    fs::read(path).map_err(|e| format!("{}: {e}", path.display()))
+}
+
+/// The runs that the repository ships, each beside its text.
 fn shipped(tally: &mut Tally) -> Result<(), String> {
     let folder = concat!(env!("CARGO_MANIFEST_DIR"), "/../examples/runs");
-    for entry in fs::read_dir(folder).map_err(|e| format!("{folder}: {e}"))? {
+    let entries = fs::read_dir(folder).map_err(|e| format!("{folder}: {e}"))?;
+    for entry in entries {
         let path = entry.map_err(|e| format!("{folder}: {e}"))?.path();
-        let file = fs::read(&path).map_err(|e| format!("{}: {e}", path.display()))?;
+        if path.extension().is_none_or(|ending| ending != "run") {
+            continue;
+        }
+        let file = read(&path)?;
+        if recording::text(&file).as_bytes() != read(&path.with_extension("txt"))? {
+            return Err(format!("{}: not the text beside it", path.display()));
+        }
         tally.judge(&file)?;
-        tally.run_program(&file, file.len())?;
+        tally.run_program(&file, 100)?;
+        tally.shipped += 1;
     }
     Ok(())
 }
@@ -197,12 +211,13 @@ pub fn check() -> Verdict {
     random_files(&mut tally)?;
     longest(&mut tally)?;
     edges(&mut tally)?;
-    if tally.faults.contains(&0) {
-        return Err(format!("too little tested: {:?}", tally.faults));
+    if tally.faults.contains(&0) || tally.shipped == 0 {
+        let counts = (tally.faults, tally.shipped);
+        return Err(format!("too little tested: {counts:?}"));
     }
     let [s1, s2, s3, s4] = tally.faults;
     Ok(format!(
-        "{} files ran, {} lines; {s1} S1, {s2} S2, {s3} S3, {s4} S4; {} files by the program; the longest text had {} bytes",
-        tally.ran, tally.lines, tally.by_program, tally.longest_text
+        "{} files ran, {} lines; {s1} S1, {s2} S2, {s3} S3, {s4} S4; {} files by the program, {} of them shipped; the longest text had {} bytes",
+        tally.ran, tally.lines, tally.by_program, tally.shipped, tally.longest_text
     ))
 }
