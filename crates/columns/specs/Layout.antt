@@ -1,9 +1,7 @@
 -- The layout of the kernel's memory: one table of columns. A column is a run of words: one field of all tasks, of all objects or of all
 -- nodes of the rings, indexed by id; entry 0 is unused. Nothing else knows an offset.
-use mathlib.Core.Bool.{Bool, true, false, _&&_}
 use mathlib.Core.List.{List, [], _∷_}
-use Prim.Native.Nat.{ℕ, _+_}
-use lib.Dec.{eqb}
+use Prim.Native.Nat.{ℕ}
 use lib.ListN.{getD}
 use Rattle.rings.specs.Columns.{col, store}
 

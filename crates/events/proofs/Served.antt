@@ -14,12 +14,11 @@ use mir.Val.{SFits, toZ, ofZ}
 use mir.Facts.{toZ-ofZ}
 use Rattle.rules.specs.Codes.{Code, number, negative, H-CALL}
 use Rattle.rules.specs.Events.{Event, tick, call, eventOf, Word, Words, nat, above}
-use Rattle.rules.specs.Acts.{Act}
 use Rattle.rules.specs.View.{View, running}
 use Rattle.rules.specs.Verdicts.{Verdict, refuse}
-use Rattle.rules.specs.Answers.{Answer, answer, releasedCount}
+use Rattle.rules.specs.Answers.{answer, releasedCount}
 use Rattle.rules.specs.Releases.{releases}
-use Rattle.rules.specs.Table.{judge, caller, called, handler}
+use Rattle.rules.specs.Table.{judge, called}
 use Rattle.rules.specs.Kernel.{Outcome, event, next, served}
 use Rattle.rules.proofs.Events.{event-served}
 use Rattle.rules.proofs.Released.{released-by-acts}

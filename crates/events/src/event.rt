@@ -7,11 +7,9 @@ use guard::check::accepts;
 use guard::running::running_task;
 ghost use mathlib.Core.Path.{_≡_};
 ghost use mathlib.Core.Bool.{cond};
-ghost use lib.IntN.{ℤ};
-ghost use Rattle.rules.specs.Codes.{number, H-CALL};
+ghost use Rattle.rules.specs.Codes.{number};
 ghost use Rattle.rules.specs.Events as Events;
 ghost use Rattle.rules.specs.Events.{eventOf};
-ghost use Rattle.guard.specs.Running.{runningOf};
 ghost use Rattle.events.specs.Steps.{reply, unsound, Step};
 ghost use Rattle.events.specs.Serving.{Serves};
 

@@ -1,6 +1,6 @@
 -- The running task as the code finds it, for any words: a word of one-bit marks, one for each nonempty ready queue, is searched for its
 -- lowest bit.
-use mathlib.Core.Bool.{Bool, true, false, cond}
+use mathlib.Core.Bool.{cond}
 use mathlib.Core.List.{List}
 use Prim.Native.Nat.{ℕ, zero, suc, pred, _/_, _%_, _^_}
 use lib.Bits.{bitOr}

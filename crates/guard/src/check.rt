@@ -26,7 +26,7 @@ use state::queues::mail_links;
 use state::queues::ready_anchor;
 use state::queues::wait_anchor;
 ghost use mathlib.Core.Path.{_≡_};
-ghost use mathlib.Core.Bool.{Bool, true};
+ghost use mathlib.Core.Bool.{true};
 ghost use mathlib.Core.Logic.{_↔_};
 ghost use Prim.Native.Nat.{_≤_};
 ghost use lib.ListN.{getD};

@@ -7,7 +7,6 @@ use lib.ListN as ListN
 use Rattle.boot.specs.Starting.{Starts}
 use Rattle.boot.specs.declared.Started.{Started}
 use Rattle.boot.specs.declared.Started.the-variants as Started
-use Rattle.events.specs.declared.batch.Batch.{Batch}
 use Rattle.events.specs.declared.batch.Ran.{Ran}
 use Rattle.events.specs.declared.batch.Ran.the-variants as Ran
 use Rattle.events.specs.Batches.{batchNumber, Lent, Batched, RunsFrom}

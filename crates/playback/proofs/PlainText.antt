@@ -1,18 +1,17 @@
 -- The text of a file is the one that the plain kernel gives: the rules' demand 3, for the runs of files. A file's words are read within the range of 32-bit
 -- words, so nothing is asked of it. Assumes nothing.
 use mathlib.Core.Bool.{Bool, true, false, cond}
-use mathlib.Core.List.{List, [], _∷_, _++_, map}
+use mathlib.Core.List.{List, [], _∷_, map}
 use mathlib.Core.Path.{_≡_, refl, sym, ap, _∙_}
-use Prim.Native.Nat.{ℕ, zero, suc, _+_, _-_, _^_, _≤_}
+use Prim.Native.Nat.{ℕ, zero, suc, _-_, _^_, _≤_}
 use native.Mathlib.Omega.{arith}
 use lib.Dec.{leb, ltb}
 use lib.IntN.{ℤ, pos, negsuc}
 use lib.ListN.{length, take}
 use borrow.Author.Tests.{ltb-true, ltb-false}
-use Rattle.rules.specs.Setup.{S4, Read, got, refused, and-then, Setup, readSection, readSetup, at-end}
+use Rattle.rules.specs.Setup.{S4, Read, got, refused, Setup, readSection, readSetup, at-end}
 use Rattle.rules.specs.Events.{Event, eventOf, eventsOf, Word, Words, AllWords}
 use Rattle.rules.specs.View.{View, running}
-use Rattle.rules.specs.Answers.{Answer}
 use Rattle.rules.specs.Kernel.{event, fresh}
 use Rattle.rules.specs.Plain.{Plain, viewOf, plainFresh, plainNext}
 use Rattle.rules.specs.Runs.{answers, plainAnswers}

@@ -19,7 +19,7 @@ use Rattle.rules.proofs.Lines.{tabulate-same}
 use Rattle.rules.proofs.Events.{fresh-sound}
 use Rattle.columns.specs.Layout as Layout
 use Rattle.rings.specs.Rings.{lineOf, Linked}
-use Rattle.state.specs.Picture.{storeShown, anchor, lineShown, viewShown, UsedByTasks, UsedByMail, Whole, Accepted}
+use Rattle.state.specs.Picture.{storeShown, anchor, lineShown, viewShown, Whole, Accepted}
 use Rattle.state.specs.Form.{Fits32, maskOf, boxNumber, systemWords, parts, formOf, marksOf}
 use Rattle.state.proofs.FormPile.{length-run, run-all, length-pile, pile-all, table-is}
 use Rattle.state.proofs.FormWords.{mask-small, message-small, Small, task-small, nobody-small}

@@ -1,8 +1,8 @@
 -- What each function of src/ does to the words, for any words. The numbers of states are those of tsk_sts (0 DORMANT, 1 READY, 3 WAIT,
 -- 4 SUSPEND, 5 WAIT-SUSPEND; 2, RUN, is not kept). The kinds of a wait: 0 asleep, 1 timed, 2 semaphore, 3 flag, 4 mailbox, 5 pool.
 use mathlib.Core.Bool.{Bool, true, false, cond, _&&_, _||_}
-use mathlib.Core.List.{List, [], _∷_}
-use Prim.Native.Nat.{ℕ, zero, suc, pred, _+_, _-_, _*_, _/_, _%_, _^_}
+use mathlib.Core.List.{List}
+use Prim.Native.Nat.{ℕ, zero, suc, pred, _+_, _-_, _*_, _%_, _^_}
 use lib.Bits.{bitAnd, bitOr}
 use lib.Dec.{eqb, leb}
 use Rattle.rings.specs.Columns.{splice}

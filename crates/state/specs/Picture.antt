@@ -1,6 +1,6 @@
 -- What any memory shows (the paper's picture), as a total function: the body from the columns, the lines by bounded walks along the links.
 -- A word that is no code, status, kind or mask shows what no sound state has.
-use mathlib.Core.Bool.{Bool, true, false, cond}
+use mathlib.Core.Bool.{Bool, cond}
 use mathlib.Core.List.{List, [], _∷_, map}
 use mathlib.Core.Option.{Option, none, some}
 use mathlib.Core.Path.{_≡_}

@@ -1,7 +1,6 @@
 -- `bench_sheet::play` ends: each line begins behind the one before.
 use Prim.Native.Nat.{_≤_, _-_}
 use lib.ListN.{length}
-use native.Mathlib.Omega.{arith}
 use borrow.Author.Needs.{needs}
 use Rattle.bench_sheet.proofs.play.Statement.{statement}
 use Rattle.bench_sheet.proofs.play.Tie as tie

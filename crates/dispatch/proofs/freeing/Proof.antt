@@ -1,5 +1,5 @@
 -- `dispatch::freeing` meets its contract: each arm is its row of the table, and counts what its acts release. Assumes nothing.
-use mathlib.Core.Path.{_∙_, refl}
+use mathlib.Core.Path.{refl}
 use mir.Facts.{toZ-ofZ}
 use Rattle.rules.specs.State.{semaphore, mailbox, pool}
 use Rattle.objects.specs.Objects.{SigSem, RelBlk}

@@ -1,5 +1,4 @@
 -- `dispatch::is_waited_on` meets its contract. By the first waiter. Assumes nothing.
-use mathlib.Core.Path.{refl}
 use mir.Facts.{toZ-ofZ}
 use borrow.Author.Needs.{needs}
 use Rattle.dispatch.proofs.is_waited_on.Statement.{statement}

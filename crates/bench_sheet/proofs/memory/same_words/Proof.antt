@@ -1,7 +1,6 @@
 -- `bench_sheet::memory::same_words` ends.
 use Prim.Native.Nat.{_≤_, _-_}
 use lib.ListN.{length}
-use native.Mathlib.Omega.{arith}
 use borrow.Author.Needs.{needs}
 use Rattle.bench_sheet.proofs.memory.same_words.Statement.{statement}
 use Rattle.bench_sheet.proofs.memory.same_words.Tie as tie

@@ -1,6 +1,5 @@
 -- `bench_sheet::text::found` negates a number below 2^31.
 use Prim.Native.Nat.{ℕ, zero, suc, _≤_}
-use mathlib.Core.Path.{_≡_}
 use native.Mathlib.Omega.{arith}
 use lib.IntN.{pos, negsuc, _-ℤ_, +ℤ-idl}
 use mir.Syntax.{w32}

@@ -1,7 +1,6 @@
 -- `bench_sheet::text::nth` ends.
 use Prim.Native.Nat.{_≤_, _-_}
 use lib.ListN.{length}
-use native.Mathlib.Omega.{arith}
 use borrow.Author.Needs.{needs}
 use Rattle.bench_sheet.proofs.text.nth.Statement.{statement}
 use Rattle.bench_sheet.proofs.text.nth.Tie as tie

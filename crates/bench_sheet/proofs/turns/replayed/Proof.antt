@@ -1,6 +1,5 @@
 -- `bench_sheet::turns::replayed` ends.
 use Prim.Native.Nat.{_≤_, _-_}
-use native.Mathlib.Omega.{arith}
 use borrow.Author.Needs.{needs}
 use Rattle.bench_sheet.proofs.turns.replayed.Statement.{statement}
 use Rattle.bench_sheet.proofs.turns.replayed.Tie as tie
