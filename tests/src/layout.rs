@@ -58,8 +58,8 @@ const TASKS: (u32, u32) = (1, 32);
 const SEMAPHORES: (u32, u32) = (2, 16);
 const FLAGS: (u32, u32) = (3, 16);
 const MAILBOXES: (u32, u32) = (4, 16);
-const MAILS: (u32, u32) = (5, 256);
-const POOLS: (u32, u32) = (6, 8);
+const POOLS: (u32, u32) = (5, 8);
+const MAILS: (u32, u32) = (6, 256);
 const CLOCK_LOW: u32 = 7;
 const CLOCK_HIGH: u32 = 8;
 

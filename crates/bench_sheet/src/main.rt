@@ -32,8 +32,8 @@ use crate::turns::counted;
 use crate::turns::event;
 use crate::turns::keep;
 use crate::turns::stray;
-use columns::STATE_WORDS;
 use libc::STDIN_FILENO;
+use memory_columns::STATE_WORDS;
 ghost use Prim.Native.Nat.{_≤_};
 ghost use lib.ListN.{length};
 

@@ -4,9 +4,9 @@ use crate::text::say;
 use crate::text::signed;
 use crate::text::upto;
 use crate::text::word;
-use boot::Started;
-use columns::STATE_WORDS;
+use kernel_start::Started;
 use libc::STDOUT_FILENO;
+use memory_columns::STATE_WORDS;
 ghost use Prim.Native.Nat.{_≤_};
 
 // Word i of the setup.
@@ -40,7 +40,7 @@ pub fn look(words: &[u32; STATE_WORDS], messages: &[u32; 256]) {
     } else {
         say(b", damaged");
     }
-    field(b", runs ", kernel::cell::running(words, messages));
+    field(b", runs ", kernel_cells::running(words, messages));
     say(b"\n");
 }
 
@@ -50,7 +50,7 @@ pub fn start(line: &[u8], setup: &[u8], words: &mut [u32; STATE_WORDS], messages
     if setup.len() < n {
         return;
     }
-    match boot::start(&setup[0..n], words, messages) {
+    match kernel_start::start(&setup[0..n], words, messages) {
         Started::Fresh => say(b": fresh"),
         Started::Refused(digit, place) => fault(digit, place),
     }
@@ -58,7 +58,7 @@ pub fn start(line: &[u8], setup: &[u8], words: &mut [u32; STATE_WORDS], messages
 }
 
 pub fn cell(words: &[u32; STATE_WORDS], messages: &[u32; 256], task: i32) {
-    let cell = kernel::cell::cell(words, messages, task);
+    let cell = kernel_cells::cell(words, messages, task);
     say(b": ");
     signed(cell.code);
     field(b" ", cell.word);

@@ -13,7 +13,7 @@ pub fn number(x: u32) {
 }
 
 pub fn signed(x: i32) {
-    let bits = objects::flags::bits_of(x);
+    let bits = call_words::bits_of(x);
     if x < 0 {
         say(b"-");
         io::print_decimal(STDOUT_FILENO, 4294967296 - bits as u64);
@@ -105,7 +105,7 @@ pub fn nth(line: &[u8], k: u32) -> i32 {
 
 // The same as a word with the same bits.
 pub fn word(line: &[u8], k: u32) -> u32 {
-    objects::flags::bits_of(nth(line, k))
+    call_words::bits_of(nth(line, k))
 }
 
 // The same as a place or a length: at most `most`.

@@ -5,10 +5,10 @@ use crate::text::field;
 use crate::text::say;
 use crate::text::signed;
 use crate::text::upto;
-use columns::STATE_WORDS;
-use events::batch::Batch;
-use events::batch::Ran;
-use events::event::Answer;
+use kernel_batches::Batch;
+use kernel_batches::Ran;
+use kernel_events::Answer;
+use memory_columns::STATE_WORDS;
 
 // ---- one by one
 
@@ -51,9 +51,9 @@ fn served(
     let at = 5 * i;
     let kind = list[at];
     if kind == 2 {
-        return events::event::tick(words, messages);
+        return kernel_events::tick(words, messages);
     }
-    events::event::call(
+    kernel_events::call(
         words,
         messages,
         kind,
@@ -103,7 +103,7 @@ pub fn event(
 pub fn stray(words: &mut [u32; STATE_WORDS], messages: &mut [u32; 256], number: i32, a: i32) {
     let old_words = *words;
     let old_messages = *messages;
-    let r = events::event::call(words, messages, 2, number, a, 0, 0);
+    let r = kernel_events::call(words, messages, 2, number, a, 0, 0);
     tell(r, same_memory(words, messages, &old_words, &old_messages));
 }
 
@@ -221,7 +221,7 @@ fn batch(
         return false;
     }
     if by_run {
-        return ran(events::batch::run(
+        return ran(kernel_batches::run(
             &setup[0..bytes],
             words,
             messages,
@@ -230,7 +230,7 @@ fn batch(
             &mut answers[0..a],
         ));
     }
-    done(events::batch::events(
+    done(kernel_batches::events(
         words,
         messages,
         &list[0..e],

@@ -7,26 +7,25 @@ use Prim.Native.Nat.{ℕ, _≤_}
 use native.Mathlib.Omega.{arith}
 use lib.ListN.{length}
 use borrow.Author.Tests.{le-leb}
-use Rattle.rules.specs.Ids.{ids, In}
+use Rattle.rules.specs.Ids.{ids, first, In}
 use Rattle.rules.specs.State.{Body, waitOf}
 use Rattle.rules.specs.Places.{Place, readyAt, waiters, mail, many, belongs, Exists, tabulate}
-use Rattle.rules.specs.View.{line, running}
-use Rattle.rules.specs.Sound.{Unserved, SoundTask, SoundBody, Queue}
+use Rattle.rules.specs.View.{line, best, running}
+use Rattle.rules.specs.Sound.{Unserved, AllUnserved, SoundTask, SoundBody, Queue}
 use Rattle.rules.proofs.Ids.{length-ids}
 use Rattle.rules.proofs.Lines.{line-tabulate, shape-tabulate}
-use Rattle.rings.specs.Links.{firstOf}
-use Rattle.rings.specs.Rings.{lineOf}
-use Rattle.rings.proofs.Laws.{first-law}
-use Rattle.columns.specs.Layout as Layout
-use Rattle.columns.specs.Layout.{stateWords, words}
-use Rattle.columns.specs.Layout.{entry}
-use Rattle.state.specs.Moves.{readyAnchor}
-use Rattle.state.specs.Picture.{taskShown, tasksShown, messagesShown, storeShown, bodyShown, anchor, lineShown, viewShown, ready-queue, Whole, Accepted}
-use Rattle.state.proofs.FormHomes.{TaskQueue, MailQueue, task-exists, mail-exists, task-many, mail-many}
+use Rattle.memory_rings.specs.Links.{firstOf}
+use Rattle.memory_rings.specs.Rings.{lineOf}
+use Rattle.memory_rings.proofs.Laws.{first-law}
+use Rattle.memory_columns.specs.Layout as Layout
+use Rattle.memory_columns.specs.Layout.{stateWords, maxPriorities, maxMessages, words, entry}
+use Rattle.memory_queues.specs.Moves.{readyAnchor}
+use Rattle.memory_picture.specs.Picture.{taskShown, tasksShown, messagesShown, storeShown, bodyShown, anchor, lineShown, viewShown, ready-queue, Whole, Accepted}
+use Rattle.memory_picture.proofs.FormHomes.{TaskQueue, MailQueue, task-exists, mail-exists, task-many, mail-many}
 use Rattle.guard.specs.Tests.{accepts}
-use Rattle.guard.specs.Running.{headAt, runningOf}
+use Rattle.guard.specs.Running.{headAt, bestOf, runningOf}
 use Rattle.guard.proofs.Decisions.{decides-as, decides-and}
-use Rattle.guard.proofs.Ranges.{Ranges, sound-task, task-numbers, ranges-law}
+use Rattle.guard.proofs.Ranges.{Ranges, ranges-law}
 use Rattle.guard.proofs.Homes.{Keeps}
 use Rattle.guard.proofs.Queued.{task-is, tasks-law, mails-law}
 use Rattle.guard.proofs.Unserved.{unserved-law}
@@ -103,31 +102,35 @@ module _ (b msgs : List ℕ) where
   unfolding bodyShown
   recount i h = subst (In i) (sym (length-ids (taskShown b) (tasksShown b))) h
 
-  body-sound : Ranges b msgs → NobodyServed → SoundBody (bodyShown b msgs)
+  body-sound : Ranges b msgs → SoundBody (bodyShown b msgs)
   unfolding bodyShown
-  body-sound R f = record {
+  body-sound R = record {
     sizes = R .sizes;
     store = R .store;
-    tasks = λ i h. subst (SoundTask (storeShown b msgs)) (sym (task-is b msgs i (count i h))) (sound-task (storeShown b msgs) (taskShown b i) (R .tasks i (count i h)) (f i (count i h)));
+    tasks = λ i h. subst (SoundTask (storeShown b msgs)) (sym (task-is b msgs i (count i h))) (R .tasks i (count i h));
   }
 
   sound-shown : SoundBody (bodyShown b msgs) → (i : ℕ) → In i (tasksShown b) → SoundTask (storeShown b msgs) (taskShown b i)
   unfolding bodyShown
   sound-shown S i h = subst (SoundTask (storeShown b msgs)) (task-is b msgs i h) (S .tasks i (recount i h))
 
+  all-unserved : NobodyServed → AllUnserved (bodyShown b msgs)
+  unfolding bodyShown
+  all-unserved f i h = subst (λ t. Unserved (storeShown b msgs) (waitOf (t .state))) (sym (task-is b msgs i (count i h))) (f i (count i h))
+
   -- ---- the check
 
   accepted-of : Whole b msgs → Ranges b msgs → NobodyServed → TasksKept → MailsKept → Accepted b msgs
   unfolding viewShown bodyShown
-  accepted-of W R f t m = record { whole = W; sound = record { body = body-sound R f; shape = shape-tabulate (storeShown b msgs) (lineShown b); queues = queues t m } }
+  accepted-of W R f t m = record { whole = W; sound = record { body = body-sound R; shape = shape-tabulate (storeShown b msgs) (lineShown b); queues = queues t m; unserved = all-unserved f } }
 
   ranges-of : Accepted b msgs → Ranges b msgs
   unfolding viewShown bodyShown
-  ranges-of A = let S = A .sound .body in record { sizes = S .sizes; low = A .whole .low; store = S .store; tasks = λ i h. task-numbers (storeShown b msgs) (taskShown b i) (sound-shown S i h) }
+  ranges-of A = let S = A .sound .body in record { sizes = S .sizes; low = A .whole .low; store = S .store; tasks = sound-shown S }
 
   nobody-of : Accepted b msgs → NobodyServed
   unfolding viewShown
-  nobody-of A i h = sound-shown (A .sound .body) i h .unserved
+  nobody-of A i h = subst (λ t. Unserved (storeShown b msgs) (waitOf (t .state))) (task-is b msgs i h) (unfold bodyShown in A .sound .unserved i (recount i h))
 
   queues-of : Accepted b msgs → (q : Place) → Exists (storeShown b msgs) q → Queue (bodyShown b msgs) q (line (viewShown b msgs) q)
   unfolding viewShown bodyShown
@@ -135,23 +138,27 @@ module _ (b msgs : List ℕ) where
 
 -- THE THEOREMS
 
-pub accepts-law : (b msgs : List ℕ) → length b ≡ stateWords → length msgs ≡ 256 → (accepts b msgs ≡ true) ↔ Accepted b msgs
+pub accepts-law : (b msgs : List ℕ) → length b ≡ stateWords → length msgs ≡ maxMessages → (accepts b msgs ≡ true) ↔ Accepted b msgs
 unfolding accepts
 accepts-law b msgs size marks = decides-as
     (decides-and (ranges-law b msgs) (λ R. decides-and (tasks-law b msgs size R) (λ T. decides-and (mails-law b msgs size R) (λ M. unserved-law b msgs size R (M .0) (M .1)))))
     (λ h. accepted-of b msgs (record { size = size; marks = marks; low = h .0 .low; tasks = h .1 .0 .0; mails = h .1 .1 .0 .0 }) (h .0) (h .1 .1 .1) (h .1 .0 .1) (h .1 .1 .0 .1))
     (λ A. (ranges-of b msgs A, ((A .whole .tasks, tasks-kept b msgs (queues-of b msgs A)), ((A .whole .mails, mails-kept b msgs (queues-of b msgs A)), nobody-of b msgs A))))
 
-pub running-law : (b msgs : List ℕ) → Accepted b msgs → runningOf b ≡ running (viewShown b msgs)
-unfolding runningOf running viewShown tabulate ids storeShown bodyShown lineShown anchor
-running-law b msgs A = rw (le-leb (entry Layout.system b 0) 16 few) (lowest-first b (λ p. lineShown b (readyAt p)) (entry Layout.system b 0) few head)
+pub best-law : (b msgs : List ℕ) → Accepted b msgs → bestOf b ≡ first (best (viewShown b msgs))
+unfolding bestOf viewShown tabulate ids storeShown bodyShown lineShown anchor
+best-law b msgs A = rw (le-leb (entry Layout.system b Layout.priorities) maxPriorities few) (lowest-first b (λ p. lineShown b (readyAt p)) (entry Layout.system b Layout.priorities) few head)
   where
-    few : entry Layout.system b 0 ≤ 16
+    few : entry Layout.system b Layout.priorities ≤ maxPriorities
     few = A .sound .body .sizes .priorities .1
 
-    head : (p : ℕ) → 1 ≤ p → p ≤ entry Layout.system b 0 → HeadOf (headAt b p) (lineShown b (readyAt p))
+    head : (p : ℕ) → 1 ≤ p → p ≤ entry Layout.system b Layout.priorities → HeadOf (headAt b p) (lineShown b (readyAt p))
     head p h k = head-of (tasksShown b) (headAt b p) (lineShown b (readyAt p)) (ap (firstOf (words Layout.next b)) at ∙ first-law (A .whole .tasks) (anchor (readyAt p)) (ready-queue p (h, k)))
         (A .whole .tasks .ring (anchor (readyAt p)) (ready-queue p (h, k)) .ids)
       where
         at : readyAnchor p ≡ anchor (readyAt p)
-        at = rw (le-leb p 16 (omega (arith, few)))
+        at = rw (le-leb p maxPriorities (omega (arith, few)))
+
+pub running-law : (b msgs : List ℕ) → Accepted b msgs → runningOf b ≡ running (viewShown b msgs)
+unfolding runningOf running
+running-law b msgs A = best-law b msgs A

@@ -5,7 +5,7 @@ use Prim.Native.Nat.{ℕ}
 use lib.Dec.{eqb}
 use borrow.Author.Tests.{eqb-true}
 use Rattle.rules.specs.State.{Kind, semaphore, flag, mailbox, pool, Wait, asleep, timed, on, State, dormant, ready, suspended, waiting, waiting-suspended}
-use Rattle.state.specs.Picture.{noWait, waitShown, stateShown, kindNumber}
+use Rattle.memory_picture.specs.Picture.{noWait, waitShown, stateShown, kindNumber}
 
 -- pattern and mode are a flag wait's alone
 abbrev pub asked : Kind → ℕ → ℕ

@@ -13,14 +13,14 @@ use borrow.Author.Tests.{eq-eqb, ne-eqb}
 use Rattle.rules.specs.Ids.{In, once, times}
 use Rattle.rules.specs.Places.{Place}
 use Rattle.rules.specs.Sound.{Known}
-use Rattle.rings.specs.Links.{nexts, prevs}
-use Rattle.rings.specs.Rings.{IsId, All, Out, Stands, Distinct, lineOf, Linked}
-use Rattle.rings.specs.Survey.{Survey, surveyed, from, ranged, loose, Marks}
-use Rattle.rings.proofs.Lists.{stands-or-out, stands-out, stands-left, stands-right, stands-cases, dist-join, all-of}
-use Rattle.rings.proofs.Laws.{once-law, linked-use}
-use Rattle.rings.proofs.Surveys.{survey-append, marks-law, check-law, from-stands, from-distinct, ranged-is}
-use Rattle.state.specs.Picture.{anchor}
-use Rattle.state.proofs.FormHomes.{stands-times, times-stands}
+use Rattle.memory_rings.specs.Links.{nexts, prevs}
+use Rattle.memory_rings.specs.Rings.{IsId, All, Out, Stands, Distinct, lineOf, Linked}
+use Rattle.check_links.specs.Survey.{Survey, surveyed, from, ranged, loose, Marks}
+use Rattle.memory_rings.proofs.Lists.{stands-or-out, stands-out, stands-left, stands-right, stands-cases, dist-join, all-of}
+use Rattle.memory_rings.proofs.Laws.{once-law, linked-use}
+use Rattle.check_links.proofs.Surveys.{survey-append, marks-law, check-law, from-stands, from-distinct, ranged-is}
+use Rattle.memory_picture.specs.Picture.{anchor}
+use Rattle.memory_picture.proofs.FormHomes.{stands-times, times-stands}
 use Rattle.guard.specs.Tests.{every, ranges}
 use Rattle.guard.proofs.Decisions.{Decides, decides-as, decides-and, decides-eq, decides-every}
 

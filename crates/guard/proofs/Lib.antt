@@ -7,6 +7,5 @@ pub mod Queued
 pub mod Unserved
 pub mod Lowest
 pub mod Accepts
-pub mod Signed
 pub mod Steps
 pub mod Loops

@@ -10,14 +10,13 @@ use native.Mathlib.Decide.{decLe}
 use lib.Bits.{bitOr}
 use lib.Count.{under, trailingZeros}
 use lib.Dec.{eqb}
-use Rattle.rings.specs.Links.{firstOf}
-use Rattle.columns.specs.Layout as Layout
-use Rattle.columns.specs.Layout.{words}
-use Rattle.columns.specs.Layout.{entry}
-use Rattle.state.specs.Moves.{readyAnchor}
-use Rattle.state.proofs.Steps.{one-bit}
+use Rattle.memory_rings.specs.Links.{firstOf}
+use Rattle.memory_columns.specs.Layout as Layout
+use Rattle.memory_columns.specs.Layout.{maxPriorities, words, entry, atMost}
+use Rattle.memory_queues.specs.Moves.{readyAnchor}
+use Rattle.memory_objects.proofs.Steps.{one-bit}
 use Rattle.guard.proofs.Steps.{failed}
-use Rattle.guard.specs.Running.{atMost, headAt, marksOf, lowestMark, runningOf}
+use Rattle.guard.specs.Running.{headAt, marksOf, lowestMark, bestOf}
 use Rattle.guard.specs.Tests.{every}
 
 -- the ids from i on, `left` of them, decide as all n do
@@ -105,14 +104,14 @@ module _ (p w : ℕ) (b : List ℕ) where
     marks-set zero h z k e = absurd (omega arith)
     marks-set (suc left) h z k e = rw (e, one-bit (p - 1) k, sub-one p, sub-one, add-one, ← head, ne-eqb r 0 z)
 
-module _ (b : List ℕ) {s n m p : ℕ} (es : s ≡ entry Layout.system b 0) (en : n ≡ atMost s 16) (em : m ≡ marksOf 16 1 0 b) (ep : p ≡ lowestMark n 1 m) where
-  found : p ≡ lowestMark (atMost (entry Layout.system b 0) 16) 1 (marksOf 16 1 0 b)
+module _ (b : List ℕ) {s n m p : ℕ} (es : s ≡ entry Layout.system b Layout.priorities) (en : n ≡ atMost s maxPriorities) (em : m ≡ marksOf maxPriorities 1 0 b) (ep : p ≡ lowestMark n 1 m) where
+  found : p ≡ lowestMark (atMost (entry Layout.system b Layout.priorities) maxPriorities) 1 (marksOf maxPriorities 1 0 b)
   found = ep ∙ rw (em, en, es)
 
-  pub runs-none : p ≡ 0 → 0 ≡ runningOf b
-  unfolding runningOf
-  runs-none h = rw (← found, h)
+  pub best-none : p ≡ 0 → 0 ≡ bestOf b
+  unfolding bestOf
+  best-none h = rw (← found, h)
 
-  pub runs-first : {a r : ℕ} → (p ≡ 0 → ⊥) → a ≡ readyAnchor p → r ≡ firstOf (words Layout.next b) a → r ≡ runningOf b
-  unfolding runningOf
-  runs-first h ea er = er ∙ rw (ea, ← found, ne-eqb p 0 h)
+  pub best-first : {a r : ℕ} → (p ≡ 0 → ⊥) → a ≡ readyAnchor p → r ≡ firstOf (words Layout.next b) a → r ≡ bestOf b
+  unfolding bestOf
+  best-first h ea er = er ∙ rw (ea, ← found, ne-eqb p 0 h)

@@ -10,7 +10,8 @@ use lib.Dec.{eqb}
 use borrow.Author.Tests.{eq-eqb, ne-eqb}
 use Rattle.rules.specs.Ids.{from, first}
 use Rattle.rules.specs.View.{nonempty}
-use Rattle.rings.specs.Rings.{IsId, All, headOf}
+use Rattle.memory_rings.specs.Rings.{IsId, All, headOf}
+use Rattle.memory_columns.specs.Layout.{maxPriorities}
 use Rattle.guard.specs.Running.{headAt, marksOf, lowestMark}
 
 module _ (b : List ℕ) where
@@ -74,6 +75,6 @@ module _ (b : List ℕ) (L : ℕ → List ℕ) where
       go (x ∷ l) e v r = rw (e, ne-eqb (headAt b (suc p)) 0 (λ z. omega (arith, v .0, v .1)), eq-eqb ((1 + 2 * W) % 2) 1 (omega arith), ne-eqb (suc p) 0 (λ z. omega arith)) (v .0)
 
   -- the marks of all priorities, searched for those from 1 to n
-  pub lowest-first : (n : ℕ) → n ≤ 16 → ((q : ℕ) → 1 ≤ q → q ≤ n → HeadOf (headAt b q) (L q))
-      → cond (eqb (lowestMark n 1 (marksOf 16 1 0 b)) 0) 0 (headAt b (lowestMark n 1 (marksOf 16 1 0 b))) ≡ first (nonempty (map L (from 1 n)))
-  lowest-first n h f = rw (marks-word b 16 0 0 (omega arith), one-mul (word b 16 1), zero-add (word b 16 1)) (lowest-word n 16 0 h (λ q a c. f q a (omega arith)))
+  pub lowest-first : (n : ℕ) → n ≤ maxPriorities → ((q : ℕ) → 1 ≤ q → q ≤ n → HeadOf (headAt b q) (L q))
+      → cond (eqb (lowestMark n 1 (marksOf maxPriorities 1 0 b)) 0) 0 (headAt b (lowestMark n 1 (marksOf maxPriorities 1 0 b))) ≡ first (nonempty (map L (from 1 n)))
+  lowest-first n h f = rw (marks-word b maxPriorities 0 0 (omega arith), one-mul (word b maxPriorities 1), zero-add (word b maxPriorities 1)) (lowest-word n maxPriorities 0 h (λ q a c. f q a (omega arith)))

@@ -12,12 +12,12 @@ use borrow.Author.Tests.{eqb-true, eqb-false}
 use Rattle.rules.specs.Ids.{of, ids, In}
 use Rattle.rules.specs.Codes.{Code, OK, H-STATE, E-TMOUT, E-RLWAI}
 use Rattle.rules.specs.State.{Kind, semaphore, flag, mailbox, pool, Wait, on, State, dormant, Task, Store, objects, waitOf, isDormant, sleeps}
-use Rattle.rules.specs.Sound.{Sizes, LiesWell, StoreNumbers, CellNumbers, WishNumbers, WaitNumbers, Unserved, SoundTask}
+use Rattle.rules.specs.Sound.{Sizes, LiesWell, StoreNumbers, CellNumbers, WishNumbers, WaitNumbers, SoundTask}
 use Rattle.rules.proofs.Ids.{of-ids, length-ids}
-use Rattle.columns.specs.Layout as Layout
-use Rattle.columns.specs.Layout.{entry}
-use Rattle.state.specs.Perform.{codeKept}
-use Rattle.state.specs.Picture.{codeOf, waitShown, stateShown, taskShown, messageShown, bitsOf, poolShown, tasksShown, storeShown, bodyShown}
+use Rattle.memory_columns.specs.Layout as Layout
+use Rattle.memory_columns.specs.Layout.{maxPriorities, maxTasks, maxObjects, maxMessages, maxPools, maxBlocks, entry}
+use Rattle.memory_picture.specs.Perform.{codeKept}
+use Rattle.memory_picture.specs.Picture.{codeOf, waitShown, stateShown, taskShown, messageShown, bitsOf, poolShown, tasksShown, storeShown, bodyShown}
 use Rattle.guard.specs.Tests.{every, within, many, sizesOk, cellOk, wishOk, ticksOk, flagWaitOk, waitOk, waitAt, stateOk, taskOk, semaphoreOk, flagOk, poolOk, messageOk, rangesOk}
 use Rattle.guard.proofs.Decisions.{Decides, decides-as, decides-no, decides-yes, decides-and, decides-cond, decides-eq, decides-ne, decides-le, decides-lt, decides-in, decides-every}
 
@@ -52,29 +52,12 @@ cell-law c w = decides-cond P (eqb c 0) served (decides-cond P (eqb c 1) (ended 
 
 -- ---- a task
 
--- every rule of a task but that nothing would serve it
-pub record TaskNumbers (u : Store) (t : Task) : Type 0 where
-  pub priority : In (t .priority) (u .priorities)
-  pub start : In (t .start) (u .priorities)
-  pub wakeups : t .wakeups ≤ 15
-  pub cell : CellNumbers (t .cell)
-  pub wait : WaitNumbers u (waitOf (t .state))
-  pub sleeper : sleeps (waitOf (t .state)) ≡ true → t .wakeups ≡ 0
-  pub dormant : isDormant (t .state) ≡ true → t .wakeups ≡ 0
-  pub rest : isDormant (t .state) ≡ true → t .priority ≡ t .start
-
-pub sound-task : (u : Store) (t : Task) → TaskNumbers u t → Unserved u (waitOf (t .state)) → SoundTask u t
-sound-task u t h f = record { priority = h .priority; start = h .start; wakeups = h .wakeups; cell = h .cell; wait = h .wait; unserved = f; sleeper = h .sleeper; dormant = h .dormant; rest = h .rest }
-
-pub task-numbers : (u : Store) (t : Task) → SoundTask u t → TaskNumbers u t
-task-numbers u t h = record { priority = h .priority; start = h .start; wakeups = h .wakeups; cell = h .cell; wait = h .wait; sleeper = h .sleeper; dormant = h .dormant; rest = h .rest }
-
 -- how many objects of a kind there are
 abbrev pub manyOf : List ℕ → Kind → ℕ
-manyOf b semaphore = many b 2
-manyOf b flag = many b 3
-manyOf b mailbox = many b 4
-manyOf b pool = many b 6
+manyOf b semaphore = many b Layout.semaphores
+manyOf b flag = many b Layout.flags
+manyOf b mailbox = many b Layout.mailboxes
+manyOf b pool = many b Layout.pools
 
 module _ (b msgs : List ℕ) where
   abbrev u : Store
@@ -110,7 +93,7 @@ module _ (b msgs : List ℕ) where
       decides-cond (WaitGood n) (eqb k 0) (decides-as (decides-eq n 0) (λ h. (tt, λ _. h)) (λ h. h .1 refl))
       (decides-cond (WaitGood n) (eqb k 1) (decides-as (decides-and (decides-eq n 0) (λ _. decides-in t 2147483647)) (λ h. (h .1, λ _. h .0)) (λ h. (h .1 refl, h .0)))
       (decides-cond (WaitGood n) (eqb k 2) (plain-law semaphore n o (refl, refl))
-      (decides-cond (WaitGood n) (eqb k 3) (on-law flag n o p m (decides-and (decides-in o (many b 3)) (λ _. wish-law p m)))
+      (decides-cond (WaitGood n) (eqb k 3) (on-law flag n o p m (decides-and (decides-in o (many b Layout.flags)) (λ _. wish-law p m)))
       (decides-cond (WaitGood n) (eqb k 4) (plain-law mailbox n o (refl, refl))
       (decides-cond (WaitGood n) (eqb k 5) (plain-law pool n o (refl, refl))
       (decides-no (λ h. omega (arith, h .0 .0))))))))
@@ -153,10 +136,10 @@ module _ (b msgs : List ℕ) where
       waits : Decides (waitAt b i) (WaitNumbers u (some w) × (sleeps (some w) ≡ true → n ≡ 0) × (false ≡ true → n ≡ 0) × (false ≡ true → p ≡ q))
       waits = decides-as (wait-law n _ _ _ _ _) (λ h. (h .0, h .1, (λ e. absurd (false≢true e)), (λ e. absurd (false≢true e)))) (λ h. (h .0, h .1))
 
-  task-law : (i : ℕ) → Decides (taskOk b i) (TaskNumbers u (taskShown b i))
+  task-law : (i : ℕ) → Decides (taskOk b i) (SoundTask u (taskShown b i))
   unfolding taskOk taskShown storeShown
   task-law i = decides-as
-      (decides-and (decides-in (entry Layout.priority b i) (many b 0)) (λ _. decides-and (decides-in (entry Layout.start b i) (many b 0)) (λ _. decides-and (decides-le (entry Layout.wakeups b i) 15)
+      (decides-and (decides-in (entry Layout.priority b i) (many b Layout.priorities)) (λ _. decides-and (decides-in (entry Layout.start b i) (many b Layout.priorities)) (λ _. decides-and (decides-le (entry Layout.wakeups b i) 15)
       (λ _. decides-and (cell-law (entry Layout.code b i) (entry Layout.word b i)) (λ _. state-law i)))))
       (λ h. record { priority = h .0; start = h .1 .0; wakeups = h .1 .1 .0; cell = h .1 .1 .1 .0; wait = h .1 .1 .1 .1 .0; sleeper = h .1 .1 .1 .1 .1; dormant = h .1 .1 .1 .1 .2; rest = h .1 .1 .1 .1 .3 })
       (λ h. (h .priority, (h .start, (h .wakeups, (h .cell, (h .wait, h .sleeper, h .dormant, h .rest))))))
@@ -182,7 +165,7 @@ unfolding bitsOf
 length-bits zero m = refl
 length-bits (suc k) m = ap suc (length-bits k (m / 2))
 
-pool-law : (b : List ℕ) (i : ℕ) → Decides (poolOk b i) (In (length (poolShown (entry Layout.size b i) (entry Layout.free b i))) 32)
+pool-law : (b : List ℕ) (i : ℕ) → Decides (poolOk b i) (In (length (poolShown (entry Layout.size b i) (entry Layout.free b i))) maxBlocks)
 unfolding poolOk poolShown
 pool-law b i = go (eqb (m / 2 ^ k) 0)
   where
@@ -192,22 +175,22 @@ pool-law b i = go (eqb (m / 2 ^ k) 0)
     m : ℕ
     m = entry Layout.free b i
 
-    go : (t : Bool) → Decides (within k 32 && t) (In (length (cond t (bitsOf k m) [])) 32)
-    go true = decides-as (decides-and {B = Unit {0}} (decides-in k 32) (λ _. decides-yes tt)) (λ h. rw (length-bits k m) (h .0)) (λ h. (rw (length-bits k m) at h, tt))
-    go false = decides-as (decides-and {B = ⊥} (decides-in k 32) (λ _. decides-no (λ x. x))) (λ h. absurd (h .1)) (λ h. absurd (omega (arith, h .0)))
+    go : (t : Bool) → Decides (within k maxBlocks && t) (In (length (cond t (bitsOf k m) [])) maxBlocks)
+    go true = decides-as (decides-and {B = Unit {0}} (decides-in k maxBlocks) (λ _. decides-yes tt)) (λ h. rw (length-bits k m) (h .0)) (λ h. (rw (length-bits k m) at h, tt))
+    go false = decides-as (decides-and {B = ⊥} (decides-in k maxBlocks) (λ _. decides-no (λ x. x))) (λ h. absurd (h .1)) (λ h. absurd (omega (arith, h .0)))
 
 -- ---- the sizes
 
-sizes-law : (b msgs : List ℕ) → Decides (sizesOk b) (Sizes (bodyShown b msgs) × (entry Layout.system b 7 < 2 ^ 32) × (storeShown b msgs .clock < 2 ^ 48))
+sizes-law : (b msgs : List ℕ) → Decides (sizesOk b) (Sizes (bodyShown b msgs) × (entry Layout.system b Layout.clockLow < 2 ^ 32) × (storeShown b msgs .clock < 2 ^ 48))
 unfolding sizesOk bodyShown storeShown
 sizes-law b msgs = decides-as
-    (decides-and (decides-in (many b 0) 16) (λ _. decides-and (decides-in (many b 1) 32) (λ _. decides-and (decides-le (many b 2) 16) (λ _. decides-and (decides-le (many b 3) 16)
-    (λ _. decides-and (decides-le (many b 4) 16) (λ _. decides-and (decides-le (many b 5) 256) (λ _. decides-and (decides-le (many b 6) 8)
-    (λ _. decides-and (decides-lt (many b 7) (2 ^ 32)) (λ _. decides-lt (many b 8) (2 ^ 16))))))))))
+    (decides-and (decides-in (many b Layout.priorities) maxPriorities) (λ _. decides-and (decides-in (many b Layout.tasks) maxTasks) (λ _. decides-and (decides-le (many b Layout.semaphores) maxObjects) (λ _. decides-and (decides-le (many b Layout.flags) maxObjects)
+    (λ _. decides-and (decides-le (many b Layout.mailboxes) maxObjects) (λ _. decides-and (decides-le (many b Layout.messages) maxMessages) (λ _. decides-and (decides-le (many b Layout.pools) maxPools)
+    (λ _. decides-and (decides-lt (many b Layout.clockLow) (2 ^ 32)) (λ _. decides-lt (many b Layout.clockHigh) (2 ^ 16))))))))))
     (λ h. let r = h .1 .1 .1 .1 .1 .1 in (
       record {
         priorities = h .0;
-        tasks = subst (λ (n : ℕ). In n 32) (sym (length-ids _ _)) (h .1 .0);
+        tasks = subst (λ (n : ℕ). In n maxTasks) (sym (length-ids _ _)) (h .1 .0);
         semaphores = rw length-ids (h .1 .1 .0);
         flags = rw length-ids (h .1 .1 .1 .0);
         mailboxes = h .1 .1 .1 .1 .0;
@@ -220,7 +203,7 @@ sizes-law b msgs = decides-as
     (λ h. let s = h .0 in (
       s .priorities,
       (
-        subst (λ (n : ℕ). In n 32) (length-ids _ _) (s .tasks),
+        subst (λ (n : ℕ). In n maxTasks) (length-ids _ _) (s .tasks),
         (
           rw length-ids at (s .semaphores),
           (
@@ -241,18 +224,18 @@ sizes-law b msgs = decides-as
 
 pub record Ranges (b msgs : List ℕ) : Type 0 where
   pub sizes : Sizes (bodyShown b msgs)
-  pub low : entry Layout.system b 7 < 2 ^ 32
+  pub low : entry Layout.system b Layout.clockLow < 2 ^ 32
   pub store : StoreNumbers (storeShown b msgs)
-  pub tasks : (i : ℕ) → In i (tasksShown b) → TaskNumbers (storeShown b msgs) (taskShown b i)
+  pub tasks : (i : ℕ) → In i (tasksShown b) → SoundTask (storeShown b msgs) (taskShown b i)
 
 pub ranges-law : (b msgs : List ℕ) → Decides (rangesOk b msgs) (Ranges b msgs)
 unfolding rangesOk storeShown
 ranges-law b msgs = decides-as
-    (decides-and (sizes-law b msgs) (λ _. decides-and (decides-every (many b 1) (taskOk b) (λ i _. task-law b msgs i))
-    (λ _. decides-and (table-law (λ n. n ≤ 65535) (many b 2) (semaphoreOk b) (entry Layout.semaphore b) 0 (λ i. decides-le _ 65535))
-    (λ _. decides-and (table-law (λ n. n < 2 ^ 32) (many b 3) (flagOk b) (entry Layout.flag b) 0 (λ i. decides-as (decides-le (entry Layout.flag b i) 4294967295) (λ h. omega arith) (λ h. omega arith)))
-    (λ _. decides-and (table-law (λ l. In (length l) 32) (many b 6) (poolOk b) (λ p. poolShown (entry Layout.size b p) (entry Layout.free b p)) [] (pool-law b))
-    (λ _. table-law (LiesWell (many b 4)) (many b 5) (messageOk b msgs) (λ j. messageShown (of msgs j 0)) none (λ j. message-law (many b 4) (of msgs j 0))))))))
+    (decides-and (sizes-law b msgs) (λ _. decides-and (decides-every (many b Layout.tasks) (taskOk b) (λ i _. task-law b msgs i))
+    (λ _. decides-and (table-law (λ n. n ≤ 65535) (many b Layout.semaphores) (semaphoreOk b) (entry Layout.semaphore b) 0 (λ i. decides-le _ 65535))
+    (λ _. decides-and (table-law (λ n. n < 2 ^ 32) (many b Layout.flags) (flagOk b) (entry Layout.flag b) 0 (λ i. decides-as (decides-le (entry Layout.flag b i) 4294967295) (λ h. omega arith) (λ h. omega arith)))
+    (λ _. decides-and (table-law (λ l. In (length l) maxBlocks) (many b Layout.pools) (poolOk b) (λ p. poolShown (entry Layout.size b p) (entry Layout.free b p)) [] (pool-law b))
+    (λ _. table-law (LiesWell (many b Layout.mailboxes)) (many b Layout.messages) (messageOk b msgs) (λ j. messageShown (of msgs j 0)) none (λ j. message-law (many b Layout.mailboxes) (of msgs j 0))))))))
     (λ h. record {
       sizes = h .0 .0;
       low = h .0 .1;

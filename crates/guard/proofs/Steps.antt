@@ -7,10 +7,10 @@ use native.Mathlib.Decide.{ℕ-discrete, decLe}
 use native.Mathlib.Omega.{arith}
 use lib.Dec.{eqb, leb, ltb}
 use borrow.Author.Tests.{not-true, not-false, le-leb, lt-leb, lt-ltb, le-ltb, eq-eqb, ne-eqb}
-use Rattle.rings.specs.Survey.{Survey, ranged, loose}
-use Rattle.rings.specs.Survey as survey
-use Rattle.columns.specs.Layout as Layout
-use Rattle.columns.specs.Layout.{entry}
+use Rattle.check_links.specs.Survey.{Survey, ranged, loose}
+use Rattle.check_links.specs.Survey as survey
+use Rattle.memory_columns.specs.Layout as Layout
+use Rattle.memory_columns.specs.Layout.{maxTasks, maxObjects, maxMessages, maxPools, maxBlocks, entry}
 use Rattle.guard.specs.Tests.{every, within, many, sizesOk, cellOk, poolOk, rangesOk, ranges}
 
 pub failed : {r t : Bool} → r ≡ t → not r ≡ true → t ≡ false
@@ -56,20 +56,20 @@ module _ (b : List ℕ) where
   ]
 
   pub record Few : Type 0 where
-    pub tasks : many b 1 ≤ 32
-    pub semaphores : many b 2 ≤ 16
-    pub flags : many b 3 ≤ 16
-    pub messages : many b 5 ≤ 256
-    pub pools : many b 6 ≤ 8
+    pub tasks : many b Layout.tasks ≤ maxTasks
+    pub semaphores : many b Layout.semaphores ≤ maxObjects
+    pub flags : many b Layout.flags ≤ maxObjects
+    pub messages : many b Layout.messages ≤ maxMessages
+    pub pools : many b Layout.pools ≤ maxPools
 
   pub few : sizesOk b ≡ true → Few
   unfolding sizesOk
   few e = record {
-    tasks = fact 1 32 (λ z. simp (z, and-false)) e;
-    semaphores = fact 2 16 (λ z. simp (z, and-false)) e;
-    flags = fact 3 16 (λ z. simp (z, and-false)) e;
-    messages = fact 5 256 (λ z. simp (z, and-false)) e;
-    pools = fact 6 8 (λ z. simp (z, and-false)) e;
+    tasks = fact Layout.tasks maxTasks (λ z. simp (z, and-false)) e;
+    semaphores = fact Layout.semaphores maxObjects (λ z. simp (z, and-false)) e;
+    flags = fact Layout.flags maxObjects (λ z. simp (z, and-false)) e;
+    messages = fact Layout.messages maxMessages (λ z. simp (z, and-false)) e;
+    pools = fact Layout.pools maxPools (λ z. simp (z, and-false)) e;
   }
 
   pub few-ranges : (msgs : List ℕ) → rangesOk b msgs ≡ true → Few
@@ -127,7 +127,7 @@ module _ (s : Survey) (n : ℕ) (nx : List ℕ) (g : List ℕ → ℕ → Bool) 
 
 pub pool-full : (b : List ℕ) (p : ℕ) {k m : ℕ} → k ≡ entry Layout.size b p → m ≡ entry Layout.free b p → m < 2 ^ 32 → 32 ≤ k → eqb k 32 ≡ poolOk b p
 unfolding poolOk
-pool-full b p {k} {m} ek em f h = elim (ℕ-discrete k 32) [
+pool-full b p {k} {m} ek em f h = elim (ℕ-discrete k maxBlocks) [
   | yes e ↦ rw (← ek, ← em, e) (sym (eq-eqb (m / 2 ^ 32) 0 (omega arith)))
-  | no ne ↦ rw (← ek, ne-eqb k 32 ne, le-leb 1 k (omega arith), lt-leb k 32 (omega arith))
+  | no ne ↦ rw (← ek, ne-eqb k maxBlocks ne, le-leb 1 k (omega arith), lt-leb k maxBlocks (omega arith))
 ]

@@ -17,15 +17,14 @@ use Rattle.rules.specs.Objects.{free}
 use Rattle.rules.specs.Sound.{WaitNumbers, anyLies, would-serve, Unserved}
 use Rattle.rules.proofs.Ids.{of-ids, length-ids}
 use Rattle.rules.proofs.Waits.{neither}
-use Rattle.rings.specs.Links.{firstOf}
-use Rattle.rings.specs.Rings.{headOf, lineOf, Linked}
-use Rattle.rings.proofs.Laws.{first-law}
-use Rattle.columns.specs.Layout as Layout
-use Rattle.columns.specs.Layout.{stateWords, words}
-use Rattle.columns.specs.Layout.{entry}
-use Rattle.state.specs.Moves.{mailAnchor}
-use Rattle.state.specs.Picture.{waitShown, stateShown, taskShown, bitsOf, poolShown, tasksShown, messagesShown, storeShown, bodyShown, kindNumber, anchor, UsedByMail, mailbox-queue}
-use Rattle.state.proofs.FormHomes.{MailQueue}
+use Rattle.memory_rings.specs.Links.{firstOf}
+use Rattle.memory_rings.specs.Rings.{headOf, lineOf, Linked}
+use Rattle.memory_rings.proofs.Laws.{first-law}
+use Rattle.memory_columns.specs.Layout as Layout
+use Rattle.memory_columns.specs.Layout.{stateWords, maxObjects, maxBlocks, words, entry}
+use Rattle.memory_queues.specs.Moves.{mailAnchor}
+use Rattle.memory_picture.specs.Picture.{waitShown, stateShown, taskShown, bitsOf, poolShown, tasksShown, messagesShown, storeShown, bodyShown, kindNumber, anchor, UsedByMail, mailbox-queue}
+use Rattle.memory_picture.proofs.FormHomes.{MailQueue}
 use Rattle.guard.specs.Tests.{every, many, waitFree, waitFreeAt, unservedOk}
 use Rattle.guard.proofs.Decisions.{Decides, decides-as, decides-yes, decides-eq, decides-not, decides-every}
 use Rattle.guard.proofs.Cases.{asked, kind-cases, status-cases}
@@ -49,11 +48,11 @@ bits-free (suc k) m h = go (eqb (m % 2) 1) refl (bits-free k (m / 2) (div-div-eq
     go true e r = let o : m % 2 ≡ 1 = eqb-true (m % 2) 1 e in ((λ z. absurd (omega arith)), (λ z. absurd (omega arith)))
     go false e r = let o = eqb-false (m % 2) 1 e in ((λ z. r .0 (omega arith)), (λ z. let y : m / 2 ≡ 0 = r .1 z in omega arith))
 
-pool-free : (k m : ℕ) → In (length (poolShown k m)) 32 → (m ≡ 0) ↔ (free (poolShown k m) ≡ 0)
+pool-free : (k m : ℕ) → In (length (poolShown k m)) maxBlocks → (m ≡ 0) ↔ (free (poolShown k m) ≡ 0)
 unfolding poolShown
 pool-free k m = go (eqb (m / 2 ^ k) 0) refl
   where
-    go : (t : Bool) → eqb (m / 2 ^ k) 0 ≡ t → In (length (cond t (bitsOf k m) [])) 32 → (m ≡ 0) ↔ (free (cond t (bitsOf k m) []) ≡ 0)
+    go : (t : Bool) → eqb (m / 2 ^ k) 0 ≡ t → In (length (cond t (bitsOf k m) [])) maxBlocks → (m ≡ 0) ↔ (free (cond t (bitsOf k m) []) ≡ 0)
     go true e h = bits-free k m (eqb-true (m / 2 ^ k) 0 e)
     go false e h = absurd (omega (arith, h .0))
 
@@ -95,7 +94,7 @@ module _ (b msgs : List ℕ) (size : length b ≡ stateWords) (R : Ranges b msgs
   abbrev u : Store
   u = storeShown b msgs
 
-  mailbox-law : (o : ℕ) → In o (many b 4) → Decides (eqb (firstOf (words Layout.mailNext b) (mailAnchor o)) 0) (anyLies (u .messages) o ≡ false)
+  mailbox-law : (o : ℕ) → In o (many b Layout.mailboxes) → Decides (eqb (firstOf (words Layout.mailNext b) (mailAnchor o)) 0) (anyLies (u .messages) o ≡ false)
   unfolding storeShown belongs bodyShown
   mailbox-law o h = decides-as (decides-eq _ 0)
       (λ e. nowhere (u .messages) o .1 (λ j r. empty .0 (sym first ∙ e) j (subst (In j) (length-ids _ _) r)))
@@ -105,7 +104,7 @@ module _ (b msgs : List ℕ) (size : length b ≡ stateWords) (R : Ranges b msgs
       line = lineOf (messagesShown b) (words Layout.mailNext b) (anchor (mail o))
 
       at : mailAnchor o ≡ anchor (mail o)
-      at = rw (le-leb o 16 (omega (arith, h .1, objects-few b msgs size R mailbox))) (unfold anchor in refl)
+      at = rw (le-leb o maxObjects (omega (arith, h .1, objects-few b msgs size R mailbox))) (unfold anchor in refl)
 
       first : firstOf (words Layout.mailNext b) (mailAnchor o) ≡ headOf line 0
       first = ap (firstOf (words Layout.mailNext b)) at ∙ first-law M (anchor (mail o)) (mailbox-queue o h)
@@ -113,20 +112,20 @@ module _ (b msgs : List ℕ) (size : length b ≡ stateWords) (R : Ranges b msgs
       empty : (headOf line 0 ≡ 0) ↔ ((j : ℕ) → In j (messagesShown b) → belongs (bodyShown b msgs) (mail o) j ≡ false)
       empty = none-belongs (messagesShown b) (belongs (bodyShown b msgs) (mail o)) line (K (mail o) h)
 
-  pool-law : (o : ℕ) → In o (many b 6) → Decides (eqb (entry Layout.free b o) 0) (not (eqb (free (of (u .pools) o [])) 0) ≡ false)
+  pool-law : (o : ℕ) → In o (many b Layout.pools) → Decides (eqb (entry Layout.free b o) 0) (not (eqb (free (of (u .pools) o [])) 0) ≡ false)
   unfolding storeShown
   pool-law o h = decides-as (decides-eq (entry Layout.free b o) 0) (λ e. decides-not-not _ .0 (eq-eqb _ 0 (same .0 e))) (λ e. same .1 (eqb-true _ 0 (decides-not-not _ .1 e)))
     where
       at : of (u .pools) o [] ≡ poolShown (entry Layout.size b o) (entry Layout.free b o)
-      at = of-ids (λ p. poolShown (entry Layout.size b p) (entry Layout.free b p)) (many b 6) o [] h
+      at = of-ids (λ p. poolShown (entry Layout.size b p) (entry Layout.free b p)) (many b Layout.pools) o [] h
 
       same : (entry Layout.free b o ≡ 0) ↔ (free (of (u .pools) o []) ≡ 0)
-      same = rw at (pool-free (entry Layout.size b o) (entry Layout.free b o) (subst (λ (l : List Bool). In (length l) 32) at (R .store .pools o (subst (In o) (sym (length-ids _ _)) h))))
+      same = rw at (pool-free (entry Layout.size b o) (entry Layout.free b o) (subst (λ (l : List Bool). In (length l) maxBlocks) at (R .store .pools o (subst (In o) (sym (length-ids _ _)) h))))
 
   object-law : (c : Kind) (n o p m : ℕ) → n ≡ kindNumber c → In o (manyOf b c) → Decides (waitFree b n o p m) (would-serve u c o (asked c p) (asked c m) ≡ false)
   unfolding waitFree storeShown
-  object-law semaphore n o p m e h = rw (e, of-ids (entry Layout.semaphore b) (many b 2) o 0 h) (decides-not-not _)
-  object-law flag n o p m e h = rw (e, of-ids (entry Layout.flag b) (many b 3) o 0 h) (decides-not _)
+  object-law semaphore n o p m e h = rw (e, of-ids (entry Layout.semaphore b) (many b Layout.semaphores) o 0 h) (decides-not-not _)
+  object-law flag n o p m e h = rw (e, of-ids (entry Layout.flag b) (many b Layout.flags) o 0 h) (decides-not _)
   object-law mailbox n o p m e h = rw e (mailbox-law o h)
   object-law pool n o p m e h = rw e (pool-law o h)
 
@@ -140,6 +139,6 @@ module _ (b msgs : List ℕ) (size : length b ≡ stateWords) (R : Ranges b msgs
   state-law s w t f = status-cases s w (λ x. WaitNumbers u (waitOf x) → Decides (cond (eqb s 3 || eqb s 5) t true) (Unserved u (waitOf x)))
       (λ e h. rw e (decides-yes tt)) (λ e h. rw e (decides-yes tt)) (λ e h. rw e (f h)) (λ e h. rw e (decides-yes tt)) (λ e h. rw e (f h)) (λ h. absurd (omega (arith, h .0)))
 
-  pub unserved-law : Decides (every (many b 1) 1 (unservedOk b)) ((i : ℕ) → In i (tasksShown b) → Unserved (storeShown b msgs) (waitOf (taskShown b i .state)))
+  pub unserved-law : Decides (every (many b Layout.tasks) 1 (unservedOk b)) ((i : ℕ) → In i (tasksShown b) → Unserved (storeShown b msgs) (waitOf (taskShown b i .state)))
   unfolding unservedOk taskShown
-  unserved-law = decides-every (many b 1) (unservedOk b) (λ i h. state-law (entry Layout.status b i) _ (waitFreeAt b i) (wait-law _ _ _ _ _) (R .tasks i h .wait))
+  unserved-law = decides-every (many b Layout.tasks) (unservedOk b) (λ i h. state-law (entry Layout.status b i) _ (waitFreeAt b i) (wait-law _ _ _ _ _) (R .tasks i h .wait))

@@ -1,3 +1,3 @@
--- The check's tests, and the running task as the code finds it.
+-- The check's tests, and the best task and the running task as the code finds them.
 pub mod Running
 pub mod Tests

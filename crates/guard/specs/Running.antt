@@ -1,19 +1,14 @@
--- The running task as the code finds it, for any words: a word of one-bit marks, one for each nonempty ready queue, is searched for its
--- lowest bit.
+-- The best task and the running task as the code finds them, for any words: a word of one-bit marks, one for each nonempty ready queue, is
+-- searched for its lowest bit.
 use mathlib.Core.Bool.{cond}
 use mathlib.Core.List.{List}
 use Prim.Native.Nat.{ℕ, zero, suc, pred, _/_, _%_, _^_}
 use lib.Bits.{bitOr}
-use lib.Dec.{eqb, leb}
-use Rattle.rings.specs.Links.{firstOf}
-use Rattle.columns.specs.Layout as Layout
-use Rattle.columns.specs.Layout.{words}
-use Rattle.columns.specs.Layout.{entry}
-use Rattle.state.specs.Moves.{readyAnchor}
-
--- a count that is too large to be one reads 0
-abbrev pub atMost : ℕ → ℕ → ℕ
-atMost n most = cond (leb n most) n 0
+use lib.Dec.{eqb}
+use Rattle.memory_rings.specs.Links.{firstOf}
+use Rattle.memory_columns.specs.Layout as Layout
+use Rattle.memory_columns.specs.Layout.{maxPriorities, words, entry, atMost}
+use Rattle.memory_queues.specs.Moves.{readyAnchor}
 
 -- the first of the ready queue of a priority, 0 if it is empty
 abbrev pub headAt : List ℕ → ℕ → ℕ
@@ -29,8 +24,12 @@ unfoldable pub lowestMark : ℕ → ℕ → ℕ → ℕ
 lowestMark zero p w = 0
 lowestMark (suc k) p w = cond (eqb (w % 2) 1) p (lowestMark k (suc p) (w / 2))
 
--- all 16 priorities are marked, those that the state has are searched
-unfoldable pub runningOf : List ℕ → ℕ
-runningOf b =
-    let p : ℕ = lowestMark (atMost (entry Layout.system b 0) 16) 1 (marksOf 16 1 0 b) in
+-- the head of the best ready queue: all priorities are marked, those that the state has are searched
+unfoldable pub bestOf : List ℕ → ℕ
+bestOf b =
+    let p : ℕ = lowestMark (atMost (entry Layout.system b Layout.priorities) maxPriorities) 1 (marksOf maxPriorities 1 0 b) in
     cond (eqb p 0) 0 (headAt b p)
+
+-- the running task is the best
+unfoldable pub runningOf : List ℕ → ℕ
+runningOf b = bestOf b

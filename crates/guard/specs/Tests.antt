@@ -3,17 +3,14 @@ use mathlib.Core.Bool.{Bool, true, false, cond, not, _&&_, _||_}
 use mathlib.Core.List.{List, [], _∷_}
 use Prim.Native.Nat.{ℕ, zero, suc, _/_, _^_}
 use lib.Dec.{eqb, leb, ltb}
-use lib.IntN.{ℤ}
 use lib.ListN.{getD, replicate}
 use Rattle.rules.specs.Ids.{of}
-use Rattle.rules.specs.Events.{outside}
 use Rattle.rules.specs.Objects.{met}
-use Rattle.rings.specs.Links.{firstOf, nexts}
-use Rattle.rings.specs.Survey.{Survey, passed, ranged, loose}
-use Rattle.columns.specs.Layout as Layout
-use Rattle.columns.specs.Layout.{words}
-use Rattle.columns.specs.Layout.{entry}
-use Rattle.state.specs.Moves.{readyAnchor, waitAnchor, mailAnchor}
+use Rattle.memory_rings.specs.Links.{firstOf, nexts}
+use Rattle.check_links.specs.Survey.{Survey, passed, ranged, loose}
+use Rattle.memory_columns.specs.Layout as Layout
+use Rattle.memory_columns.specs.Layout.{maxPriorities, maxTasks, maxObjects, maxMessages, maxPools, maxBlocks, readyNode, waitNode, mailNode, words, entry}
+use Rattle.memory_queues.specs.Moves.{readyAnchor, waitAnchor, mailAnchor}
 
 -- the ids i, i + 1, … , n of them, all pass
 unfoldable pub every : ℕ → ℕ → (ℕ → Bool) → Bool
@@ -24,11 +21,7 @@ every (suc n) i f = f i && every n (suc i) f
 abbrev pub within : ℕ → ℕ → Bool
 within i n = leb 1 i && leb i n
 
--- the same of a call's word
-abbrev pub isTask : ℤ → ℕ → Bool
-isTask a n = not (outside a n)
-
--- how many: 0 priorities, 1 tasks, 2 semaphores, 3 flags, 4 mailboxes, 5 messages, 6 pools
+-- how many, by the entry of the system's column
 abbrev pub many : List ℕ → ℕ → ℕ
 many b k = entry Layout.system b k
 
@@ -36,8 +29,8 @@ many b k = entry Layout.system b k
 
 unfoldable pub sizesOk : List ℕ → Bool
 sizesOk b =
-    within (many b 0) 16 && (within (many b 1) 32 && (leb (many b 2) 16 && (leb (many b 3) 16 && (leb (many b 4) 16 && (leb (many b 5) 256
-    && (leb (many b 6) 8 && (ltb (many b 7) (2 ^ 32) && ltb (many b 8) (2 ^ 16))))))))
+    within (many b Layout.priorities) maxPriorities && (within (many b Layout.tasks) maxTasks && (leb (many b Layout.semaphores) maxObjects && (leb (many b Layout.flags) maxObjects && (leb (many b Layout.mailboxes) maxObjects && (leb (many b Layout.messages) maxMessages
+    && (leb (many b Layout.pools) maxPools && (ltb (many b Layout.clockLow) (2 ^ 32) && ltb (many b Layout.clockHigh) (2 ^ 16))))))))
 
 -- a cell: code 0 with any word of 32 bits, E_TMOUT or E_RLWAI with 0
 unfoldable pub cellOk : ℕ → ℕ → Bool
@@ -56,8 +49,8 @@ flagWaitOk o n p m = within o n && wishOk p m
 unfoldable pub waitOk : List ℕ → ℕ → ℕ → ℕ → ℕ → ℕ → ℕ → Bool
 waitOk b n k o p m t =
     cond (eqb k 0) (eqb n 0) (cond (eqb k 1) (ticksOk n t)
-    (cond (eqb k 2) (within o (many b 2)) (cond (eqb k 3) (flagWaitOk o (many b 3) p m)
-    (cond (eqb k 4) (within o (many b 4)) (cond (eqb k 5) (within o (many b 6)) false)))))
+    (cond (eqb k 2) (within o (many b Layout.semaphores)) (cond (eqb k 3) (flagWaitOk o (many b Layout.flags) p m)
+    (cond (eqb k 4) (within o (many b Layout.mailboxes)) (cond (eqb k 5) (within o (many b Layout.pools)) false)))))
 
 abbrev pub waitAt : List ℕ → ℕ → Bool
 waitAt b i = waitOk b (entry Layout.wakeups b i) (entry Layout.kind b i) (entry Layout.object b i) (entry Layout.wish b i) (entry Layout.mode b i) (entry Layout.ticks b i)
@@ -72,7 +65,7 @@ stateOk b i =
 
 unfoldable pub taskOk : List ℕ → ℕ → Bool
 taskOk b i =
-    within (entry Layout.priority b i) (many b 0) && (within (entry Layout.start b i) (many b 0) && (leb (entry Layout.wakeups b i) 15
+    within (entry Layout.priority b i) (many b Layout.priorities) && (within (entry Layout.start b i) (many b Layout.priorities) && (leb (entry Layout.wakeups b i) 15
     && (cellOk (entry Layout.code b i) (entry Layout.word b i) && stateOk b i)))
 
 abbrev pub semaphoreOk : List ℕ → ℕ → Bool
@@ -82,14 +75,14 @@ abbrev pub flagOk : List ℕ → ℕ → Bool
 flagOk b i = leb (entry Layout.flag b i) 4294967295
 
 unfoldable pub poolOk : List ℕ → ℕ → Bool
-poolOk b i = within (entry Layout.size b i) 32 && eqb (entry Layout.free b i / 2 ^ entry Layout.size b i) 0
+poolOk b i = within (entry Layout.size b i) maxBlocks && eqb (entry Layout.free b i / 2 ^ entry Layout.size b i) 0
 
 abbrev pub messageOk : List ℕ → List ℕ → ℕ → Bool
-messageOk b msgs j = leb (of msgs j 0) (many b 4)
+messageOk b msgs j = leb (of msgs j 0) (many b Layout.mailboxes)
 
 unfoldable pub rangesOk : List ℕ → List ℕ → Bool
 rangesOk b msgs =
-    sizesOk b && (every (many b 1) 1 (taskOk b) && (every (many b 2) 1 (semaphoreOk b) && (every (many b 3) 1 (flagOk b) && (every (many b 6) 1 (poolOk b) && every (many b 5) 1 (messageOk b msgs)))))
+    sizesOk b && (every (many b Layout.tasks) 1 (taskOk b) && (every (many b Layout.semaphores) 1 (semaphoreOk b) && (every (many b Layout.flags) 1 (flagOk b) && (every (many b Layout.pools) 1 (poolOk b) && every (many b Layout.messages) 1 (messageOk b msgs)))))
 
 -- ---- Queues: each task and message stands where it belongs, once, and nowhere else.
 
@@ -109,16 +102,18 @@ ranges n l (r ∷ rs) m = cond (ranged n l (r .0) (r .1) m .ok) (ranges n l rs (
 
 -- ready queues, and wait queues by kind
 abbrev pub taskRanges : List ℕ → List (ℕ × ℕ)
-taskRanges b = (33, many b 0) ∷ (49, many b 2) ∷ (65, many b 3) ∷ (81, many b 4) ∷ (97, many b 6) ∷ []
+taskRanges b =
+    (readyNode 1, many b Layout.priorities) ∷ (waitNode Layout.semaphores 1, many b Layout.semaphores) ∷ (waitNode Layout.flags 1, many b Layout.flags)
+    ∷ (waitNode Layout.mailboxes 1, many b Layout.mailboxes) ∷ (waitNode Layout.pools 1, many b Layout.pools) ∷ []
 
 abbrev pub mailRanges : List ℕ → List (ℕ × ℕ)
-mailRanges b = (257, many b 4) ∷ []
+mailRanges b = (mailNode 1, many b Layout.mailboxes) ∷ []
 
 abbrev pub taskSurvey : List ℕ → Survey
-taskSurvey b = ranges (many b 1) (words Layout.links b) (taskRanges b) (replicate 33 0)
+taskSurvey b = ranges (many b Layout.tasks) (words Layout.links b) (taskRanges b) (replicate (suc maxTasks) 0)
 
 abbrev pub mailSurvey : List ℕ → Survey
-mailSurvey b = ranges (many b 5) (words Layout.mailLinks b) (mailRanges b) (replicate 257 0)
+mailSurvey b = ranges (many b Layout.messages) (words Layout.mailLinks b) (mailRanges b) (replicate (suc maxMessages) 0)
 
 -- id i is marked with the anchor of the queue to which it belongs
 unfoldable pub taskHome : List ℕ → List ℕ → ℕ → Bool
@@ -132,10 +127,10 @@ unfoldable pub mailHome : List ℕ → List ℕ → ℕ → Bool
 mailHome msgs m j = eqb (getD m j 0) (markAnchor (of msgs j 0))
 
 unfoldable pub tasksQueued : List ℕ → Bool
-tasksQueued b = taskSurvey b .ok && (loose (many b 1) (nexts (words Layout.links b)) (taskSurvey b .marks) && every (many b 1) 1 (taskHome b (taskSurvey b .marks)))
+tasksQueued b = taskSurvey b .ok && (loose (many b Layout.tasks) (nexts (words Layout.links b)) (taskSurvey b .marks) && every (many b Layout.tasks) 1 (taskHome b (taskSurvey b .marks)))
 
 unfoldable pub mailQueued : List ℕ → List ℕ → Bool
-mailQueued b msgs = mailSurvey b .ok && (loose (many b 5) (nexts (words Layout.mailLinks b)) (mailSurvey b .marks) && every (many b 5) 1 (mailHome msgs (mailSurvey b .marks)))
+mailQueued b msgs = mailSurvey b .ok && (loose (many b Layout.messages) (nexts (words Layout.mailLinks b)) (mailSurvey b .marks) && every (many b Layout.messages) 1 (mailHome msgs (mailSurvey b .marks)))
 
 -- ---- No waiter beside what would serve it.
 
@@ -155,4 +150,4 @@ unservedOk b i =
 -- ---- the check
 
 unfoldable pub accepts : List ℕ → List ℕ → Bool
-accepts b msgs = rangesOk b msgs && (tasksQueued b && (mailQueued b msgs && every (many b 1) 1 (unservedOk b)))
+accepts b msgs = rangesOk b msgs && (tasksQueued b && (mailQueued b msgs && every (many b Layout.tasks) 1 (unservedOk b)))

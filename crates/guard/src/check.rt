@@ -1,42 +1,83 @@
 // The check of a memory: is it a sound state? Rules are tried in order: ranges, queues, nobody beside what would serve him. It is
 // linear: each task, object and message that the counts name is looked at a few times, each ring is walked once.
-use crate::running::at_most;
-use columns::STATE_WORDS;
-use columns::code;
-use columns::flag;
-use columns::free;
-use columns::kind;
-use columns::mode;
-use columns::object;
-use columns::priority;
-use columns::semaphore;
-use columns::size;
-use columns::start;
-use columns::status;
-use columns::system;
-use columns::ticks;
-use columns::wakeups;
-use columns::wish;
-use columns::word;
-use state::marks::mark_of;
-use state::queues::links;
-use state::queues::mail_anchor;
-use state::queues::mail_first;
-use state::queues::mail_links;
-use state::queues::ready_anchor;
-use state::queues::wait_anchor;
+use memory_columns::ASLEEP;
+use memory_columns::CELL_OK;
+use memory_columns::CELL_RLWAI;
+use memory_columns::CELL_TMOUT;
+use memory_columns::CLOCK_HIGH;
+use memory_columns::CLOCK_LOW;
+use memory_columns::DORMANT;
+use memory_columns::FIRST_FLAG;
+use memory_columns::FIRST_MAIL;
+use memory_columns::FIRST_MAILBOX;
+use memory_columns::FIRST_POOL;
+use memory_columns::FIRST_READY;
+use memory_columns::FIRST_SEMAPHORE;
+use memory_columns::FLAG;
+use memory_columns::FLAGS;
+use memory_columns::MAILBOX;
+use memory_columns::MAILBOXES;
+use memory_columns::MAX_BLOCKS;
+use memory_columns::MAX_MESSAGES;
+use memory_columns::MAX_OBJECTS;
+use memory_columns::MAX_POOLS;
+use memory_columns::MAX_PRIORITIES;
+use memory_columns::MAX_TASKS;
+use memory_columns::MESSAGE_WORDS;
+use memory_columns::MESSAGES;
+use memory_columns::POOL;
+use memory_columns::POOLS;
+use memory_columns::PRIORITIES;
+use memory_columns::READY;
+use memory_columns::SEMAPHORE;
+use memory_columns::SEMAPHORES;
+use memory_columns::STATE_WORDS;
+use memory_columns::SUSPEND;
+use memory_columns::TASKS;
+use memory_columns::TIMED;
+use memory_columns::WAIT;
+use memory_columns::WAIT_SUSPEND;
+use memory_columns::at_most;
+use memory_columns::code;
+use memory_columns::flag;
+use memory_columns::free;
+use memory_columns::kind;
+use memory_columns::mode;
+use memory_columns::object;
+use memory_columns::priority;
+use memory_columns::semaphore;
+use memory_columns::size;
+use memory_columns::start;
+use memory_columns::status;
+use memory_columns::system;
+use memory_columns::ticks;
+use memory_columns::wakeups;
+use memory_columns::wish;
+use memory_columns::word;
+use memory_objects::flags::meets;
+use memory_objects::marks::mark_of;
+use memory_queues::links;
+use memory_queues::mail_anchor;
+use memory_queues::mail_first;
+use memory_queues::mail_links;
+use memory_queues::ready_anchor;
+use memory_queues::wait_anchor;
 ghost use mathlib.Core.Path.{_≡_};
 ghost use mathlib.Core.Bool.{true};
 ghost use mathlib.Core.Logic.{_↔_};
 ghost use Prim.Native.Nat.{_≤_};
 ghost use lib.ListN.{getD};
-ghost use Rattle.rings.specs.Survey.{ranged};
-ghost use Rattle.rules.specs.Objects.{met};
-ghost use Rattle.columns.specs.Layout as Layout;
-ghost use Rattle.columns.specs.Layout.{words as wordsOf};
-ghost use Rattle.state.specs.Picture.{Accepted};
+ghost use Rattle.check_links.specs.Survey.{ranged};
+ghost use Rattle.memory_columns.specs.Layout as Layout;
+ghost use Rattle.memory_columns.specs.Layout.{maxTasks, maxMessages, words as wordsOf};
+ghost use Rattle.memory_picture.specs.Picture.{Accepted};
 ghost use Rattle.guard.specs.Tests as Tests;
 ghost use Rattle.guard.specs.Tests.{every};
+
+// A mark for each task and each message; entry 0 is unused.
+const TASK_MARKS: usize = 33;
+
+const MESSAGE_MARKS: usize = 257;
 
 // One of 1 to n.
 fn within(i: u32, n: u32) -> bool
@@ -51,41 +92,41 @@ fn within(i: u32, n: u32) -> bool
 fn sizes_ok(words: &[u32; STATE_WORDS]) -> bool
     ensures { λ r. ⌜ r ≡ Tests.sizesOk (now (words .entry)) ⌝ }
 {
-    if !within(system(words, 0), 16) {
+    if !within(system(words, PRIORITIES), MAX_PRIORITIES) {
         return false;
     }
-    if !within(system(words, 1), 32) {
+    if !within(system(words, TASKS), MAX_TASKS) {
         return false;
     }
-    if 16 < system(words, 2) {
+    if MAX_OBJECTS < system(words, SEMAPHORES) {
         return false;
     }
-    if 16 < system(words, 3) {
+    if MAX_OBJECTS < system(words, FLAGS) {
         return false;
     }
-    if 16 < system(words, 4) {
+    if MAX_OBJECTS < system(words, MAILBOXES) {
         return false;
     }
-    if 256 < system(words, 5) {
+    if MAX_MESSAGES < system(words, MESSAGES) {
         return false;
     }
-    if 8 < system(words, 6) {
+    if MAX_POOLS < system(words, POOLS) {
         return false;
     }
     // Always so of a 32-bit word; said because a definition's number could be larger.
-    if 4294967295 < system(words, 7) {
+    if 4294967295 < system(words, CLOCK_LOW) {
         return false;
     }
-    system(words, 8) < 65536
+    system(words, CLOCK_HIGH) < 65536
 }
 
 fn cell_ok(code: u32, word: u32) -> bool
     ensures { λ r. ⌜ r ≡ Tests.cellOk code word ⌝ }
 {
     match code {
-        0 => true,
-        1 => word == 0,
-        2 => word == 0,
+        CELL_OK => true,
+        CELL_TMOUT => word == 0,
+        CELL_RLWAI => word == 0,
         _ => false,
     }
 }
@@ -122,17 +163,17 @@ fn wait_ok(words: &[u32; STATE_WORDS], t: u32) -> bool
 {
     let k = kind(words, t);
     match k {
-        0 => wakeups(words, t) == 0,
-        1 => ticks_ok(wakeups(words, t), ticks(words, t)),
-        2 => within(object(words, t), system(words, 2)),
-        3 => flag_wait_ok(
+        ASLEEP => wakeups(words, t) == 0,
+        TIMED => ticks_ok(wakeups(words, t), ticks(words, t)),
+        SEMAPHORE => within(object(words, t), system(words, SEMAPHORES)),
+        FLAG => flag_wait_ok(
             object(words, t),
-            system(words, 3),
+            system(words, FLAGS),
             wish(words, t),
             mode(words, t),
         ),
-        4 => within(object(words, t), system(words, 4)),
-        5 => within(object(words, t), system(words, 6)),
+        MAILBOX => within(object(words, t), system(words, MAILBOXES)),
+        POOL => within(object(words, t), system(words, POOLS)),
         _ => false,
     }
 }
@@ -152,11 +193,11 @@ fn state_ok(words: &[u32; STATE_WORDS], t: u32) -> bool
 {
     let s = status(words, t);
     match s {
-        0 => rest_ok(words, t),
-        1 => true,
-        3 => wait_ok(words, t),
-        4 => true,
-        5 => wait_ok(words, t),
+        DORMANT => rest_ok(words, t),
+        READY => true,
+        WAIT => wait_ok(words, t),
+        SUSPEND => true,
+        WAIT_SUSPEND => wait_ok(words, t),
         _ => false,
     }
 }
@@ -164,7 +205,7 @@ fn state_ok(words: &[u32; STATE_WORDS], t: u32) -> bool
 fn task_ok(words: &[u32; STATE_WORDS], t: u32) -> bool
     ensures { λ r. ⌜ r ≡ Tests.taskOk (now (words .entry)) t ⌝ }
 {
-    let most = system(words, 0);
+    let most = system(words, PRIORITIES);
     if !within(priority(words, t), most) {
         return false;
     }
@@ -181,7 +222,7 @@ fn task_ok(words: &[u32; STATE_WORDS], t: u32) -> bool
 }
 
 fn tasks_ok(words: &[u32; STATE_WORDS], n: u32) -> bool
-    requires { ⌜ n ≤ 256 ⌝ }
+    requires { ⌜ n ≤ maxMessages ⌝ }
     ensures { λ r. ⌜ r ≡ every n 1 (Tests.taskOk (now (words .entry))) ⌝ }
 {
     let mut i: u32 = 1;
@@ -197,7 +238,7 @@ fn tasks_ok(words: &[u32; STATE_WORDS], n: u32) -> bool
 }
 
 fn semaphores_ok(words: &[u32; STATE_WORDS], n: u32) -> bool
-    requires { ⌜ n ≤ 256 ⌝ }
+    requires { ⌜ n ≤ maxMessages ⌝ }
     ensures { λ r. ⌜ r ≡ every n 1 (Tests.semaphoreOk (now (words .entry))) ⌝ }
 {
     let mut i: u32 = 1;
@@ -214,7 +255,7 @@ fn semaphores_ok(words: &[u32; STATE_WORDS], n: u32) -> bool
 
 // Patterns are words of 32 bits.
 fn flags_ok(words: &[u32; STATE_WORDS], n: u32) -> bool
-    requires { ⌜ n ≤ 256 ⌝ }
+    requires { ⌜ n ≤ maxMessages ⌝ }
     ensures { λ r. ⌜ r ≡ every n 1 (Tests.flagOk (now (words .entry))) ⌝ }
 {
     let mut i: u32 = 1;
@@ -237,14 +278,14 @@ fn pool_ok(words: &[u32; STATE_WORDS], p: u32) -> bool
     if k == 0 {
         return false;
     }
-    if k < 32 {
+    if k < MAX_BLOCKS {
         return mask >> k == 0;
     }
-    k == 32
+    k == MAX_BLOCKS
 }
 
 fn pools_ok(words: &[u32; STATE_WORDS], n: u32) -> bool
-    requires { ⌜ n ≤ 256 ⌝ }
+    requires { ⌜ n ≤ maxMessages ⌝ }
     ensures { λ r. ⌜ r ≡ every n 1 (Tests.poolOk (now (words .entry))) ⌝ }
 {
     let mut i: u32 = 1;
@@ -259,11 +300,11 @@ fn pools_ok(words: &[u32; STATE_WORDS], n: u32) -> bool
     true
 }
 
-fn messages_ok(words: &[u32; STATE_WORDS], messages: &[u32; 256], n: u32) -> bool
-    requires { ⌜ n ≤ 256 ⌝ }
+fn messages_ok(words: &[u32; STATE_WORDS], messages: &[u32; MESSAGE_WORDS], n: u32) -> bool
+    requires { ⌜ n ≤ maxMessages ⌝ }
     ensures { λ r. ⌜ r ≡ every n 1 (Tests.messageOk (now (words .entry)) (now (messages .entry))) ⌝ }
 {
-    let mailboxes = system(words, 4);
+    let mailboxes = system(words, MAILBOXES);
     let mut j: u32 = 1;
     let mut left = n;
     while 0 < left {
@@ -277,25 +318,29 @@ fn messages_ok(words: &[u32; STATE_WORDS], messages: &[u32; 256], n: u32) -> boo
 }
 
 // All ranges. The counts have been judged before a loop is run over them.
-fn ranges_ok(words: &[u32; STATE_WORDS], messages: &[u32; 256]) -> bool
+fn ranges_ok(words: &[u32; STATE_WORDS], messages: &[u32; MESSAGE_WORDS]) -> bool
     ensures { λ r. ⌜ r ≡ Tests.rangesOk (now (words .entry)) (now (messages .entry)) ⌝ }
 {
     if !sizes_ok(words) {
         return false;
     }
-    if !tasks_ok(words, at_most(system(words, 1), 32)) {
+    if !tasks_ok(words, at_most(system(words, TASKS), MAX_TASKS)) {
         return false;
     }
-    if !semaphores_ok(words, at_most(system(words, 2), 16)) {
+    if !semaphores_ok(words, at_most(system(words, SEMAPHORES), MAX_OBJECTS)) {
         return false;
     }
-    if !flags_ok(words, at_most(system(words, 3), 16)) {
+    if !flags_ok(words, at_most(system(words, FLAGS), MAX_OBJECTS)) {
         return false;
     }
-    if !pools_ok(words, at_most(system(words, 6), 8)) {
+    if !pools_ok(words, at_most(system(words, POOLS), MAX_POOLS)) {
         return false;
     }
-    messages_ok(words, messages, at_most(system(words, 5), 256))
+    messages_ok(
+        words,
+        messages,
+        at_most(system(words, MESSAGES), MAX_MESSAGES),
+    )
 }
 
 // ---- queues
@@ -304,7 +349,7 @@ fn ranges_ok(words: &[u32; STATE_WORDS], messages: &[u32; 256]) -> bool
 fn wait_home(kind: u32, object: u32) -> u32
     ensures { λ r. ⌜ r ≡ Tests.waitHome kind object ⌝ }
 {
-    if 2 <= kind {
+    if SEMAPHORE <= kind {
         wait_anchor(kind, object)
     } else {
         0
@@ -316,13 +361,13 @@ fn home(words: &[u32; STATE_WORDS], t: u32) -> u32
     ensures { λ r. ⌜ r ≡ Tests.home (now (words .entry)) t ⌝ }
 {
     let s = status(words, t);
-    if s == 1 {
+    if s == READY {
         return ready_anchor(priority(words, t));
     }
-    if s == 3 {
+    if s == WAIT {
         return wait_home(kind(words, t), object(words, t));
     }
-    if s == 5 {
+    if s == WAIT_SUSPEND {
         return wait_home(kind(words, t), object(words, t));
     }
     0
@@ -330,12 +375,12 @@ fn home(words: &[u32; STATE_WORDS], t: u32) -> u32
 
 // Walks the rings of the anchors from `anchor` on, as many as the count k says, and marks each task with its ring's anchor.
 fn survey_queues(words: &[u32; STATE_WORDS], anchor: u32, k: u32, marks: &mut [u32]) -> bool
-    ensures { λ r. ⌜ r ≡ ranged (Tests.many (now (words .entry)) 1) (wordsOf Layout.links (now (words .entry))) anchor (Tests.many (now (words .entry)) k) (now (marks .entry)) .ok ⌝ }
-    ensures { λ _. ⌜ now (marks .exit) ≡ ranged (Tests.many (now (words .entry)) 1) (wordsOf Layout.links (now (words .entry))) anchor (Tests.many (now (words .entry)) k) (now (marks .entry)) .marks ⌝ }
+    ensures { λ r. ⌜ r ≡ ranged (Tests.many (now (words .entry)) Layout.tasks) (wordsOf Layout.links (now (words .entry))) anchor (Tests.many (now (words .entry)) k) (now (marks .entry)) .ok ⌝ }
+    ensures { λ _. ⌜ now (marks .exit) ≡ ranged (Tests.many (now (words .entry)) Layout.tasks) (wordsOf Layout.links (now (words .entry))) anchor (Tests.many (now (words .entry)) k) (now (marks .entry)) .marks ⌝ }
 {
-    rings::survey(
+    check_links::survey(
         links(words),
-        system(words, 1),
+        system(words, TASKS),
         anchor,
         system(words, k),
         marks,
@@ -344,22 +389,22 @@ fn survey_queues(words: &[u32; STATE_WORDS], anchor: u32, k: u32, marks: &mut [u
 
 // All ready queues and wait queues in use.
 fn survey_tasks(words: &[u32; STATE_WORDS], marks: &mut [u32]) -> bool
-    ensures { λ r. ⌜ r ≡ Tests.ranges (Tests.many (now (words .entry)) 1) (wordsOf Layout.links (now (words .entry))) (Tests.taskRanges (now (words .entry))) (now (marks .entry)) .ok ⌝ }
-    ensures { λ _. ⌜ now (marks .exit) ≡ Tests.ranges (Tests.many (now (words .entry)) 1) (wordsOf Layout.links (now (words .entry))) (Tests.taskRanges (now (words .entry))) (now (marks .entry)) .marks ⌝ }
+    ensures { λ r. ⌜ r ≡ Tests.ranges (Tests.many (now (words .entry)) Layout.tasks) (wordsOf Layout.links (now (words .entry))) (Tests.taskRanges (now (words .entry))) (now (marks .entry)) .ok ⌝ }
+    ensures { λ _. ⌜ now (marks .exit) ≡ Tests.ranges (Tests.many (now (words .entry)) Layout.tasks) (wordsOf Layout.links (now (words .entry))) (Tests.taskRanges (now (words .entry))) (now (marks .entry)) .marks ⌝ }
 {
-    if !survey_queues(words, 33, 0, marks) {
+    if !survey_queues(words, FIRST_READY, PRIORITIES, marks) {
         return false;
     }
-    if !survey_queues(words, 49, 2, marks) {
+    if !survey_queues(words, FIRST_SEMAPHORE, SEMAPHORES, marks) {
         return false;
     }
-    if !survey_queues(words, 65, 3, marks) {
+    if !survey_queues(words, FIRST_FLAG, FLAGS, marks) {
         return false;
     }
-    if !survey_queues(words, 81, 4, marks) {
+    if !survey_queues(words, FIRST_MAILBOX, MAILBOXES, marks) {
         return false;
     }
-    survey_queues(words, 97, 6, marks)
+    survey_queues(words, FIRST_POOL, POOLS, marks)
 }
 
 fn mark_at(marks: &[u32], i: u32) -> u32
@@ -377,7 +422,7 @@ fn task_home_ok(words: &[u32; STATE_WORDS], marks: &[u32], t: u32) -> bool
 }
 
 fn task_homes_ok(words: &[u32; STATE_WORDS], marks: &[u32], n: u32) -> bool
-    requires { ⌜ n ≤ 256 ⌝ }
+    requires { ⌜ n ≤ maxMessages ⌝ }
     ensures { λ r. ⌜ r ≡ every n 1 (Tests.taskHome (now (words .entry)) (now (marks .entry))) ⌝ }
 {
     let mut i: u32 = 1;
@@ -394,29 +439,29 @@ fn task_homes_ok(words: &[u32; STATE_WORDS], marks: &[u32], n: u32) -> bool
 
 // Whether every task stands where it belongs, once, and nowhere else.
 fn tasks_queued(words: &[u32; STATE_WORDS]) -> bool
-    requires { ⌜ Tests.many (now words) 1 ≤ 32 ⌝ }
+    requires { ⌜ Tests.many (now words) Layout.tasks ≤ maxTasks ⌝ }
     ensures { λ r. ⌜ r ≡ Tests.tasksQueued (now (words .entry)) ⌝ }
 {
-    let mut marks = [0u32; 33];
+    let mut marks = [0u32; TASK_MARKS];
     if !survey_tasks(words, &mut marks) {
         return false;
     }
-    if !rings::loose(links(words), system(words, 1), &marks) {
+    if !check_links::loose(links(words), system(words, TASKS), &marks) {
         return false;
     }
-    task_homes_ok(words, &marks, system(words, 1))
+    task_homes_ok(words, &marks, system(words, TASKS))
 }
 
 // The same for the messages.
 fn survey_mail(words: &[u32; STATE_WORDS], marks: &mut [u32]) -> bool
-    ensures { λ r. ⌜ r ≡ Tests.ranges (Tests.many (now (words .entry)) 5) (wordsOf Layout.mailLinks (now (words .entry))) (Tests.mailRanges (now (words .entry))) (now (marks .entry)) .ok ⌝ }
-    ensures { λ _. ⌜ now (marks .exit) ≡ Tests.ranges (Tests.many (now (words .entry)) 5) (wordsOf Layout.mailLinks (now (words .entry))) (Tests.mailRanges (now (words .entry))) (now (marks .entry)) .marks ⌝ }
+    ensures { λ r. ⌜ r ≡ Tests.ranges (Tests.many (now (words .entry)) Layout.messages) (wordsOf Layout.mailLinks (now (words .entry))) (Tests.mailRanges (now (words .entry))) (now (marks .entry)) .ok ⌝ }
+    ensures { λ _. ⌜ now (marks .exit) ≡ Tests.ranges (Tests.many (now (words .entry)) Layout.messages) (wordsOf Layout.mailLinks (now (words .entry))) (Tests.mailRanges (now (words .entry))) (now (marks .entry)) .marks ⌝ }
 {
-    rings::survey(
+    check_links::survey(
         mail_links(words),
-        system(words, 5),
-        257,
-        system(words, 4),
+        system(words, MESSAGES),
+        FIRST_MAIL,
+        system(words, MAILBOXES),
         marks,
     )
 }
@@ -428,14 +473,14 @@ fn mail_home(mark: u32) -> u32
     if mark == 0 { 0 } else { mail_anchor(mark) }
 }
 
-fn message_home_ok(messages: &[u32; 256], marks: &[u32], j: u32) -> bool
+fn message_home_ok(messages: &[u32; MESSAGE_WORDS], marks: &[u32], j: u32) -> bool
     ensures { λ r. ⌜ r ≡ Tests.mailHome (now (messages .entry)) (now (marks .entry)) j ⌝ }
 {
     mark_at(marks, j) == mail_home(mark_of(messages, j))
 }
 
-fn message_homes_ok(messages: &[u32; 256], marks: &[u32], n: u32) -> bool
-    requires { ⌜ n ≤ 256 ⌝ }
+fn message_homes_ok(messages: &[u32; MESSAGE_WORDS], marks: &[u32], n: u32) -> bool
+    requires { ⌜ n ≤ maxMessages ⌝ }
     ensures { λ r. ⌜ r ≡ every n 1 (Tests.mailHome (now (messages .entry)) (now (marks .entry))) ⌝ }
 {
     let mut i: u32 = 1;
@@ -450,31 +495,21 @@ fn message_homes_ok(messages: &[u32; 256], marks: &[u32], n: u32) -> bool
     true
 }
 
-fn mail_queued(words: &[u32; STATE_WORDS], messages: &[u32; 256]) -> bool
-    requires { ⌜ Tests.many (now words) 5 ≤ 256 ⌝ }
+fn mail_queued(words: &[u32; STATE_WORDS], messages: &[u32; MESSAGE_WORDS]) -> bool
+    requires { ⌜ Tests.many (now words) Layout.messages ≤ maxMessages ⌝ }
     ensures { λ r. ⌜ r ≡ Tests.mailQueued (now (words .entry)) (now (messages .entry)) ⌝ }
 {
-    let mut marks = [0u32; 257];
+    let mut marks = [0u32; MESSAGE_MARKS];
     if !survey_mail(words, &mut marks) {
         return false;
     }
-    if !rings::loose(mail_links(words), system(words, 5), &marks) {
+    if !check_links::loose(mail_links(words), system(words, MESSAGES), &marks) {
         return false;
     }
-    message_homes_ok(messages, &marks, system(words, 5))
+    message_homes_ok(messages, &marks, system(words, MESSAGES))
 }
 
 // ---- nobody beside what would serve him
-
-// Whether a pattern meets what is asked of it.
-pub fn meets(have: u32, want: u32, mode: u32) -> bool
-    ensures { λ r. ⌜ r ≡ met have want mode ⌝ }
-{
-    if mode % 2 == 1 {
-        return have & want != 0;
-    }
-    have & want == want
-}
 
 // Nothing at the object would serve the wait of task t.
 fn wait_free(words: &[u32; STATE_WORDS], t: u32) -> bool
@@ -483,10 +518,10 @@ fn wait_free(words: &[u32; STATE_WORDS], t: u32) -> bool
     let k = kind(words, t);
     let o = object(words, t);
     match k {
-        2 => semaphore(words, o) == 0,
-        3 => !meets(flag(words, o), wish(words, t), mode(words, t)),
-        4 => mail_first(words, mail_anchor(o)) == 0,
-        5 => free(words, o) == 0,
+        SEMAPHORE => semaphore(words, o) == 0,
+        FLAG => !meets(flag(words, o), wish(words, t), mode(words, t)),
+        MAILBOX => mail_first(words, mail_anchor(o)) == 0,
+        POOL => free(words, o) == 0,
         _ => true,
     }
 }
@@ -495,17 +530,17 @@ fn unserved_ok(words: &[u32; STATE_WORDS], t: u32) -> bool
     ensures { λ r. ⌜ r ≡ Tests.unservedOk (now (words .entry)) t ⌝ }
 {
     let s = status(words, t);
-    if s == 3 {
+    if s == WAIT {
         return wait_free(words, t);
     }
-    if s == 5 {
+    if s == WAIT_SUSPEND {
         return wait_free(words, t);
     }
     true
 }
 
 fn all_unserved(words: &[u32; STATE_WORDS], n: u32) -> bool
-    requires { ⌜ n ≤ 256 ⌝ }
+    requires { ⌜ n ≤ maxMessages ⌝ }
     ensures { λ r. ⌜ r ≡ every n 1 (Tests.unservedOk (now (words .entry))) ⌝ }
 {
     let mut i: u32 = 1;
@@ -523,7 +558,7 @@ fn all_unserved(words: &[u32; STATE_WORDS], n: u32) -> bool
 // ---- the whole
 
 // All rules, in order.
-fn accepts_test(words: &[u32; STATE_WORDS], messages: &[u32; 256]) -> bool
+fn accepts_test(words: &[u32; STATE_WORDS], messages: &[u32; MESSAGE_WORDS]) -> bool
     ensures { λ r. ⌜ r ≡ Tests.accepts (now (words .entry)) (now (messages .entry)) ⌝ }
 {
     if !ranges_ok(words, messages) {
@@ -535,11 +570,11 @@ fn accepts_test(words: &[u32; STATE_WORDS], messages: &[u32; 256]) -> bool
     if !mail_queued(words, messages) {
         return false;
     }
-    all_unserved(words, at_most(system(words, 1), 32))
+    all_unserved(words, at_most(system(words, TASKS), MAX_TASKS))
 }
 
 // True exactly when the memory is a sound state.
-pub fn accepts(words: &[u32; STATE_WORDS], messages: &[u32; 256]) -> bool
+pub fn accepts(words: &[u32; STATE_WORDS], messages: &[u32; MESSAGE_WORDS]) -> bool
     ensures { λ r. ⌜ (r ≡ true) ↔ Accepted (now (words .entry)) (now (messages .entry)) ⌝ }
 {
     // A part says how long the whole is: a proof reads it here.

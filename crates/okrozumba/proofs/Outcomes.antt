@@ -8,10 +8,10 @@ use lib.Dec.{leb}
 use lib.IntN.{ℤ}
 use lib.ListN.{length}
 use Rattle.rules.specs.Setup.{Fault, S1, S2, S3, S4, digit, Read, got, refused, Setup, setup}
-use Rattle.events.specs.declared.batch.Batch.{Batch}
-use Rattle.events.specs.declared.batch.Batch.the-variants as Batch
-use Rattle.events.specs.declared.batch.Ran.{Ran}
-use Rattle.events.specs.Batches.{Lent, fitted, RunsAs, RunsFrom}
+use Rattle.kernel_batches.specs.declared.Batch.{Batch}
+use Rattle.kernel_batches.specs.declared.Batch.the-variants as Batch
+use Rattle.kernel_batches.specs.declared.Ran.{Ran}
+use Rattle.kernel_batches.specs.Batches.{Lent, fitted, RunsAs, RunsFrom}
 use Rattle.playback.specs.declared.Played.{Played}
 use Rattle.playback.specs.declared.Played.the-variants.{Written, Short}
 use Rattle.playback.specs.Output.{playedOf}

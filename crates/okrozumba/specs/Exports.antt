@@ -4,12 +4,12 @@ use mathlib.Core.Path.{_≡_}
 use Prim.Native.Nat.{ℕ, _+_}
 use lib.IntN.{ℤ}
 use lib.ListN as ListN
-use Rattle.boot.specs.Starting.{Starts}
-use Rattle.boot.specs.declared.Started.{Started}
-use Rattle.boot.specs.declared.Started.the-variants as Started
-use Rattle.events.specs.declared.batch.Ran.{Ran}
-use Rattle.events.specs.declared.batch.Ran.the-variants as Ran
-use Rattle.events.specs.Batches.{batchNumber, Lent, Batched, RunsFrom}
+use Rattle.kernel_start.specs.Starting.{Starts}
+use Rattle.kernel_start.specs.declared.Started.{Started}
+use Rattle.kernel_start.specs.declared.Started.the-variants as Started
+use Rattle.kernel_batches.specs.declared.Ran.{Ran}
+use Rattle.kernel_batches.specs.declared.Ran.the-variants as Ran
+use Rattle.kernel_batches.specs.Batches.{batchNumber, Lent, Batched, RunsFrom}
 use Rattle.playback.specs.declared.Played.{Played}
 use Rattle.playback.specs.declared.Played.the-variants as Played
 use Rattle.playback.specs.Output.{playedOf, outputOf}

@@ -1,18 +1,18 @@
 // The public functions under plain names, for programs in C and Rust: include/okrozumba.h declares them. Each promises what the
 // function that it wraps promises; an answer that is an enum there is told by its number and place here (specs/Exports.antt).
-use boot::Started;
-use columns::STATE_WORDS;
-use events::batch::Batch;
-use events::batch::Ran;
-use events::event::Answer;
-use kernel::cell::Reading;
+use kernel_batches::Batch;
+use kernel_batches::Ran;
+use kernel_cells::Reading;
+use kernel_events::Answer;
+use kernel_start::Started;
+use memory_columns::STATE_WORDS;
 use playback::Played;
 ghost use mathlib.Core.Path.{_≡_};
 ghost use Prim.Native.Nat.{_≤_};
 ghost use Rattle.rules.specs.Events as Events;
-ghost use Rattle.events.specs.Steps.{reply, Step};
-ghost use Rattle.kernel.specs.Promises.{Reads, Runs};
-ghost use Rattle.events.specs.Batches.{batchNumber, lent};
+ghost use Rattle.kernel_events.specs.Steps.{reply, Step};
+ghost use Rattle.kernel_cells.specs.Promises.{Reads, Runs};
+ghost use Rattle.kernel_batches.specs.Batches.{batchNumber, lent};
 ghost use Rattle.playback.specs.Text.{textOf};
 ghost use Rattle.okrozumba.specs.Exports.{startNumber, startPlace, ranNumber, ranPlace, playedNumber, playedLength, StartsTold, BatchedTold, RunsTold, ShownTold};
 
@@ -49,7 +49,7 @@ pub extern "C" fn okrozumba_start(
 ) -> Outcome
     ensures { λ r. ⌜ StartsTold (now (setup .entry)) (r .number) (r .place) (now (words .entry)) (now (messages .entry)) (now (words .exit)) (now (messages .exit)) ⌝ }
 {
-    start_outcome(boot::start(setup, words, messages))
+    start_outcome(kernel_start::start(setup, words, messages))
 }
 
 // ---- one event
@@ -67,7 +67,7 @@ pub extern "C" fn okrozumba_call(
 ) -> Answer
     ensures { λ r. ⌜ Step (Events.call context number a b c) (now (words .entry)) (now (messages .entry)) (reply (r .code) (r .w1) (r .w2) (r .running) (r .released)) (now (words .exit)) (now (messages .exit)) ⌝ }
 {
-    events::event::call(words, messages, context, number, a, b, c)
+    kernel_events::call(words, messages, context, number, a, b, c)
 }
 
 // A tick.
@@ -75,7 +75,7 @@ pub extern "C" fn okrozumba_call(
 pub extern "C" fn okrozumba_tick(words: &mut [u32; STATE_WORDS], messages: &[u32; 256]) -> Answer
     ensures { λ r. ⌜ Step Events.tick (now (words .entry)) (now (messages .entry)) (reply (r .code) (r .w1) (r .w2) (r .running) (r .released)) (now (words .exit)) (now (messages .entry)) ⌝ }
 {
-    events::event::tick(words, messages)
+    kernel_events::tick(words, messages)
 }
 
 // ---- reading
@@ -89,7 +89,7 @@ pub extern "C" fn okrozumba_cell(
 ) -> Reading
     ensures { λ r. ⌜ Reads (now (words .entry)) (now (messages .entry)) task (r .code) (r .word) ⌝ }
 {
-    kernel::cell::cell(words, messages, task)
+    kernel_cells::cell(words, messages, task)
 }
 
 // The running task, 0 if there is none or the state is damaged.
@@ -97,7 +97,7 @@ pub extern "C" fn okrozumba_cell(
 pub extern "C" fn okrozumba_running(words: &[u32; STATE_WORDS], messages: &[u32; 256]) -> u32
     ensures { λ r. ⌜ Runs (now (words .entry)) (now (messages .entry)) r ⌝ }
 {
-    kernel::cell::running(words, messages)
+    kernel_cells::running(words, messages)
 }
 
 // ---- many events
@@ -124,7 +124,7 @@ pub extern "C" fn okrozumba_events(
 ) -> u32
     ensures { λ r. ⌜ BatchedTold (now (events .entry)) r (lent (now (words .entry)) (now (messages .entry)) (now (codes .entry)) (now (answers .entry))) (lent (now (words .exit)) (now (messages .exit)) (now (codes .exit)) (now (answers .exit))) ⌝ }
 {
-    batch_number(events::batch::events(words, messages, events, codes, answers))
+    batch_number(kernel_batches::events(words, messages, events, codes, answers))
 }
 
 // A setup's fault has a digit of 1 to 4.
@@ -160,7 +160,7 @@ pub extern "C" fn okrozumba_run(
 ) -> Outcome
     ensures { λ r. ⌜ RunsTold (now (setup .entry)) (now (events .entry)) (r .number) (r .place) (lent (now (words .entry)) (now (messages .entry)) (now (codes .entry)) (now (answers .entry))) (lent (now (words .exit)) (now (messages .exit)) (now (codes .exit)) (now (answers .exit))) ⌝ }
 {
-    run_outcome(events::batch::run(setup, words, messages, events, codes, answers))
+    run_outcome(kernel_batches::run(setup, words, messages, events, codes, answers))
 }
 
 // ---- recorded runs

@@ -13,7 +13,7 @@ use mir.Val.{toZ, ofZ}
 use mir.Facts.{toZ-ofZ}
 use borrow.Author.Tests.{le-leb, lt-leb, leb-true}
 use Rattle.rules.specs.Events.{bits}
-use Rattle.events.specs.Batches.{over}
+use Rattle.kernel_batches.specs.Batches.{over}
 use Rattle.playback.specs.declared.Played.{Played}
 use Rattle.playback.specs.declared.Played.the-variants.{Written, Short}
 use Rattle.playback.specs.Text.{decimal, signed, fields, lines}

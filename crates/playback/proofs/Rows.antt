@@ -11,16 +11,16 @@ use Rattle.rules.specs.Events.{Event, eventsOf}
 use Rattle.rules.specs.Answers.{numbers}
 use Rattle.rules.specs.Kernel.{fresh}
 use Rattle.rules.specs.Runs.{answers}
-use Rattle.boot.specs.declared.Started.{Started}
-use Rattle.boot.specs.Starting.{Starts}
-use Rattle.boot.proofs.Fresh.{Holds}
-use Rattle.events.specs.declared.batch.Batch.{Batch}
-use Rattle.events.specs.declared.batch.Batch.the-variants.{Done}
-use Rattle.kernel.specs.Promises.{Runs}
-use Rattle.events.specs.Steps.{Link, told}
-use Rattle.events.specs.Batches.{fitOf, fitted, Lent, lent, over, codesOf, wordsOf, RanThrough, Batched}
-use Rattle.kernel.specs.Demands.{figures}
-use Rattle.kernel.proofs.Chains.{start-holds, runs-is, chain-says}
+use Rattle.kernel_start.specs.declared.Started.{Started}
+use Rattle.kernel_start.specs.Starting.{Starts}
+use Rattle.kernel_start.proofs.Fresh.{Holds}
+use Rattle.kernel_batches.specs.declared.Batch.{Batch}
+use Rattle.kernel_batches.specs.declared.Batch.the-variants.{Done}
+use Rattle.kernel_cells.specs.Promises.{Runs}
+use Rattle.kernel_events.specs.Steps.{Link, told}
+use Rattle.kernel_batches.specs.Batches.{fitOf, fitted, Lent, lent, over, codesOf, wordsOf, RanThrough, Batched}
+use Rattle.kernel_demands.specs.Demands.{figures}
+use Rattle.kernel_demands.proofs.Chains.{start-holds, runs-is, chain-says}
 use Rattle.playback.specs.Recorded.{signedWord}
 use Rattle.playback.specs.Output.{laid}
 use Rattle.playback.specs.Playing.{wordsFrom, rowAt, rows, Ran}

@@ -1,8 +1,8 @@
 -- Worked examples of files and their texts.
 use mathlib.Core.List.{List, [], _∷_, _++_}
 use Prim.Native.Nat.{ℕ, _-_, _^_}
-use Rattle.rules.specs.BenchSheet.{benchBytes}
-use Rattle.rules.specs.Examples.{bytes}
+use Rattle.rules_examples.specs.BenchSheet.{benchBytes}
+use Rattle.rules_examples.specs.Examples.{bytes}
 use Rattle.playback.specs.Ascii.{ascii}
 
 pub record Example : Type 0 where

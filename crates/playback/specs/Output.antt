@@ -5,7 +5,7 @@ use mathlib.Core.Path.{_≡_}
 use Prim.Native.Nat.{ℕ, suc, _+_}
 use lib.Dec.{leb}
 use lib.ListN.{length, set}
-use Rattle.events.specs.Batches.{over}
+use Rattle.kernel_batches.specs.Batches.{over}
 use Rattle.playback.specs.declared.Played.{Played}
 use Rattle.playback.specs.declared.Played.the-variants.{Written, Short}
 

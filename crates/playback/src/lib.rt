@@ -3,7 +3,7 @@
 mod reading;
 mod text;
 
-use columns::STATE_WORDS;
+use memory_columns::STATE_WORDS;
 use setup::Judged;
 ghost use mathlib.Core.List.{_++_};
 ghost use Prim.Native.Nat.{_*_, _≤_};
@@ -71,11 +71,11 @@ fn run(
     requires { ⌜ (at ≤ length (now file)) × (n ≤ 3000) × (5 * n ≤ length (now events)) × (n ≤ length (now codes)) × (4 * n ≤ length (now answers)) ⌝ }
     ensures { λ r. ⌜ RanFrom (now (file .entry)) at n r (now (codes .exit)) (now (answers .exit)) ⌝ }
 {
-    boot::start(&file[0..at], words, messages);
-    let runs = kernel::cell::running(words, messages);
+    kernel_start::start(&file[0..at], words, messages);
+    let runs = kernel_cells::running(words, messages);
     let m = 5 * n;
     reading::decode(file, at + 4, m, events);
-    events::batch::events(words, messages, &events[0..m], codes, answers);
+    kernel_batches::events(words, messages, &events[0..m], codes, answers);
     runs
 }
 

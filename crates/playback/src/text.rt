@@ -1,6 +1,6 @@
 // Text in a lent output. Each function writes from a place on and gives the place behind what it wrote. Behind the output's end nothing is
 // written and the places are counted all the same: so the length of a text is known before a byte of it is written.
-use objects::flags::bits_of;
+use call_words::bits_of;
 ghost use mathlib.Core.Path.{_≡_};
 ghost use mathlib.Core.List.{[], _∷_, _++_};
 ghost use Prim.Native.Nat.{_+_, _*_, _≤_, _<_};

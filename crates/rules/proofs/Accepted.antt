@@ -15,7 +15,7 @@ use Rattle.rules.specs.Ids.{of, In, once, times}
 use Rattle.rules.specs.Setup.{Fault, S1, S2, S3, S4, Read, got, refused, and-then, wordAt, Range, to, within, readWord, Section, priorities, sections, readEntry, readEntries, readSection, readSections, Entry, Setup, setupOf, readSetup, at-end, setup, taskEntry, wordOf}
 use Rattle.rules.specs.State.{dormant, nobody}
 use Rattle.rules.specs.Places.{Place, readyAt, waiters, mail, belongs, tabulate}
-use Rattle.rules.specs.Sound.{SoundTask, SoundBody, Sound}
+use Rattle.rules.specs.Sound.{SoundTask, SoundBody, AllUnserved, Sound}
 use Rattle.rules.specs.Kernel.{idleTask, idle}
 use Rattle.rules.proofs.Ids.{Each, of-replicate}
 use Rattle.rules.proofs.Waits.{both-true}
@@ -85,7 +85,7 @@ SectionsFit (t ∷ l) (x ∷ xs) = SectionFits t x × SectionsFit l xs
 
 -- nothing is read past the end
 module _ (s : List ℕ) where
-  abbrev Within : {A : Type 0} → (A → Type 0) → A → ℕ → Type 0
+  abbrev pub Within : {A : Type 0} → (A → Type 0) → A → ℕ → Type 0
   Within P a j = P a × (j ≤ length s)
 
   word-reads : (r : Range) (f : Fault) (i : ℕ) → Reads (Within (InRange r)) (readWord s r f i)
@@ -179,12 +179,17 @@ module _ (s : List ℕ) where
       go false e = tt
   ending-reads P (refused d place) h = tt
 
-  setup-reads : Reads (λ u i. GoodSetup u × (i ≡ length s)) (setup s)
-  unfolding setup readSetup
-  setup-reads = ending-reads GoodSetup (readSetup s 0)
-      (reads-then (Within s (SectionFits priorities)) (Within s GoodSetup) (readSection s priorities 0) _ (section-reads s priorities 0)
+  -- a setup anywhere in the bytes: its numbers lie in their ranges, and nothing is read past the end
+  pub setup-within : (i : ℕ) → Reads (Within s GoodSetup) (readSetup s i)
+  unfolding readSetup
+  setup-within i =
+      reads-then (Within s (SectionFits priorities)) (Within s GoodSetup) (readSection s priorities i) _ (section-reads s priorities i)
       (λ p j g. reads-then (Within s (SectionsFit (sections (length p)))) (Within s GoodSetup) (readSections s (sections (length p)) j) _ (sections-reads s (sections (length p)) j (g .1))
-      (λ l k a. (good-sections (length p) l (g .0 .0) (a .0), a .1))))
+      (λ l k a. (good-sections (length p) l (g .0 .0) (a .0), a .1)))
+
+  setup-reads : Reads (λ u i. GoodSetup u × (i ≡ length s)) (setup s)
+  unfolding setup
+  setup-reads = ending-reads GoodSetup (readSetup s 0) (setup-within 0)
 
 pub setup-good : (s : List ℕ) (u : Setup) (i : ℕ) → setup s ≡ got u i → GoodSetup u
 setup-good s u i e = from-read _ (setup s) u i e (setup-reads s) .0
@@ -217,7 +222,6 @@ module _ (u : Setup) (g : GoodSetup u) where
     wakeups = omega arith;
     cell = inl (refl, lit< tt);
     wait = tt;
-    unserved = tt;
     sleeper = λ k. refl;
     dormant = λ k. refl;
     rest = λ k. refl;
@@ -245,6 +249,11 @@ module _ (u : Setup) (g : GoodSetup u) where
     tasks = λ i r. each-of (SoundTask (idle u .store)) _ i nobody (each-map _ _ idleTask (u .tasks) idle-task (g .starts)) r;
   }
 
+  idle-unserved : AllUnserved (idle u)
+  unfolding idle
+  idle-unserved zero r = tt
+  idle-unserved (suc i) r = rw (idle-state (u .tasks) i) tt
+
   -- before any task is started: nobody stands in a line
   pub unstarted-sound : Sound (record { body = idle u; lines = tabulate (idle u .store) (λ q. []) })
   unfolding times
@@ -252,4 +261,5 @@ module _ (u : Setup) (g : GoodSetup u) where
     body = idle-sound;
     shape = shape-tabulate (idle u .store) (λ q. []);
     queues = λ q e. rw (line-tabulate (idle u .store) (λ q. []) q e) (record { known = tt; stands = λ i r. ap once (sym (nobody-belongs u q i)) });
+    unserved = idle-unserved;
   }

@@ -1,16 +1,16 @@
 -- The plain kernel's view after an act, an event, or a start is its view before, after the same on queues: in each queue one that goes
 -- last has the largest number, and the others keep theirs.
-use mathlib.Core.Bool.{Bool, true, false, not}
+use mathlib.Core.Bool.{Bool, true, false, not, cond, _&&_}
 use mathlib.Core.List.{List, [], _∷_, _++_, append-nil}
 use mathlib.Core.Option.{none}
-use mathlib.Core.Path.{_≡_, refl, sym, ap, _∙_}
+use mathlib.Core.Path.{_≡_, refl, sym, ap, _∙_, subst}
 use Prim.Native.Nat.{ℕ, suc, _<_}
 use native.Mathlib.Omega.{arith}
 use lib.Dec.{eqb}
 use lib.ListN.{length, length-map, length-replicate, replicate}
 use Rattle.rules.specs.Ids.{of, put, ids, In, keep, byNumber}
 use Rattle.rules.specs.State.{Body}
-use Rattle.rules.specs.Places.{Place, readyAt, waiters, mail, Item, aTask, aMessage, item, same, many, belongs, Exists, tabulate}
+use Rattle.rules.specs.Places.{Place, Sort, tasks, messages, sameSort, sortAt, Item, item, same, population, many, belongs, Exists, tabulate}
 use Rattle.rules.specs.Setup.{Setup}
 use Rattle.rules.specs.Events.{Event}
 use Rattle.rules.specs.Acts.{Act, after, Move, stay, leave, last, move}
@@ -18,91 +18,97 @@ use Rattle.rules.specs.View.{line, moved, act, acts}
 use Rattle.rules.specs.Table.{judge}
 use Rattle.rules.specs.Answers.{answer}
 use Rattle.rules.specs.Kernel.{idleTask, idle, starts, fresh, next, served}
-use Rattle.rules.specs.Plain.{Plain, numberOf, queueOf, viewOf, numbered, plainAct, plainActs, unstarted, plainFresh, plainNext, plainAnswer}
+use Rattle.rules.specs.Plain.{Plain, numbersOf, numberOf, queueOf, viewOf, with-count, with-numbers, renumbered, plainAct, plainActs, unstarted, plainFresh, plainNext, plainAnswer}
 use Rattle.rules.proofs.Ids.{of-replicate, length-put, of-put-other, of-put-same, put-any, keep-keep, keep-same, keep-none}
-use Rattle.rules.proofs.Fits.{Fits, fits, tasks-after, messages-after, many-after, in-range}
+use Rattle.rules.proofs.Fits.{Fits, fits, population-after, in-range}
 use Rattle.rules.proofs.Lines.{line-tabulate, tabulate-same, exists-after}
 use Rattle.rules.proofs.Accepted.{nobody-belongs}
 use Rattle.rules.proofs.Sorting.{keep-byNumber, sort-last}
 
--- each number is below the count, and each task and each message has a number
+-- each number is below the count, and each of a sort has a number
 pub record Numbers (s : Plain) : Type 0 where
   pub below : (x : Item) → numberOf s x < s .count
-  pub tasks : length (s .tasks) ≡ length (s .body .tasks)
-  pub messages : length (s .messages) ≡ length (s .body .store .messages)
+  pub lengths : (t : Sort) → length (numbersOf s t) ≡ population (s .body) t
+
+-- ---- the numbers of a sort after a move
+
+numbers-count : (c : Body) (n : ℕ) (s : Plain) (t : Sort) → numbersOf (with-count c n s) t ≡ numbersOf s t
+numbers-count c n s tasks = refl
+numbers-count c n s messages = refl
+
+numbers-with : (s : Plain) (r t : Sort) (i n : ℕ) → numbersOf (with-numbers r (put (numbersOf s r) i n) s) t ≡ cond (sameSort r t) (put (numbersOf s t) i n) (numbersOf s t)
+numbers-with s tasks tasks i n = refl
+numbers-with s tasks messages i n = refl
+numbers-with s messages tasks i n = refl
+numbers-with s messages messages i n = refl
+
+-- where nobody goes last all numbers stay
+pub number-body : (c : Body) (s : Plain) (x : Item) → numberOf (with-count c (s .count) s) x ≡ numberOf s x
+number-body c s x = ap (λ (l : List ℕ). of l (x .id) 0) (numbers-count c (s .count) s (x .sort))
+
+-- one that goes last takes the count for its number
+numbers-last : (c : Body) (x : Item) (s : Plain) (t : Sort)
+    → numbersOf (renumbered c (last x) s) t ≡ cond (sameSort (x .sort) t) (put (numbersOf s t) (x .id) (s .count)) (numbersOf s t)
+unfolding renumbered
+numbers-last c x s t =
+    numbers-count c (suc (s .count)) (with-numbers (x .sort) (put (numbersOf s (x .sort)) (x .id) (s .count)) s) t ∙ numbers-with s (x .sort) t (x .id) (s .count)
+
+-- the others keep their numbers
+pub number-other : (c : Body) (x : Item) (s : Plain) (y : Item) → same x y ≡ false → numberOf (renumbered c (last x) s) y ≡ numberOf s y
+number-other c x s y e = ap (λ (l : List ℕ). of l (y .id) 0) (numbers-last c x s (y .sort)) ∙ go (sameSort (x .sort) (y .sort)) e
+  where
+    go : (t : Bool) → (t && eqb (x .id) (y .id)) ≡ false → of (cond t (put (numbersOf s (y .sort)) (x .id) (s .count)) (numbersOf s (y .sort))) (y .id) 0 ≡ numberOf s y
+    go true d = of-put-other (numbersOf s (y .sort)) (x .id) (y .id) (s .count) 0 d
+    go false d = refl
+
+pub number-new : (c : Body) (s : Plain) → Numbers s → (x : Item) (q : Place) → sameSort (x .sort) (sortAt q) ≡ true → In (x .id) (many (s .body) q)
+    → numberOf (renumbered c (last x) s) (item q (x .id)) ≡ s .count
+number-new c s h x q e r =
+    ap (λ (l : List ℕ). of l (x .id) 0) (numbers-last c x s (sortAt q)) ∙ rw e (of-put-same (numbersOf s (sortAt q)) (x .id) (s .count) 0 (rw (h .lengths (sortAt q)) r))
 
 -- ---- an act keeps that
 
-pub body-numbered : (c : Body) (m : Move) (s : Plain) → numbered c m s .body ≡ c
-unfolding numbered
+pub body-numbered : (c : Body) (m : Move) (s : Plain) → renumbered c m s .body ≡ c
+unfolding renumbered
 body-numbered c stay s = refl
 body-numbered c (leave x) s = refl
-body-numbered c (last (aTask i)) s = refl
-body-numbered c (last (aMessage i)) s = refl
+body-numbered c (last x) s = refl
 
 below-put : (l : List ℕ) (i j n : ℕ) → of l j 0 < n → of (put l i n) j 0 < suc n
 below-put l i j n h = put-any (λ k. k < suc n) l i j n 0 (λ e. omega arith) (omega arith) (omega arith)
 
-below-numbered : (c : Body) (m : Move) (s : Plain) → ((x : Item) → numberOf s x < s .count) → (x : Item) → numberOf (numbered c m s) x < numbered c m s .count
-unfolding numbered
-below-numbered c stay s h (aTask j) = h (aTask j)
-below-numbered c stay s h (aMessage j) = h (aMessage j)
-below-numbered c (leave x) s h (aTask j) = h (aTask j)
-below-numbered c (leave x) s h (aMessage j) = h (aMessage j)
-below-numbered c (last (aTask i)) s h (aTask j) = below-put (s .tasks) i j (s .count) (h (aTask j))
-below-numbered c (last (aTask i)) s h (aMessage j) = omega (arith, h (aMessage j))
-below-numbered c (last (aMessage i)) s h (aTask j) = omega (arith, h (aTask j))
-below-numbered c (last (aMessage i)) s h (aMessage j) = below-put (s .messages) i j (s .count) (h (aMessage j))
+below-numbered : (c : Body) (m : Move) (s : Plain) → ((x : Item) → numberOf s x < s .count) → (x : Item) → numberOf (renumbered c m s) x < renumbered c m s .count
+unfolding renumbered
+below-numbered c stay s h y = rw (number-body c s y) (h y)
+below-numbered c (leave x) s h y = rw (number-body c s y) (h y)
+below-numbered c (last x) s h y = subst (λ (l : List ℕ). of l (y .id) 0 < suc (s .count)) (sym (numbers-last c x s (y .sort))) (go (sameSort (x .sort) (y .sort)))
+  where
+    go : (t : Bool) → of (cond t (put (numbersOf s (y .sort)) (x .id) (s .count)) (numbersOf s (y .sort))) (y .id) 0 < suc (s .count)
+    go true = below-put (numbersOf s (y .sort)) (x .id) (y .id) (s .count) (h y)
+    go false = omega (arith, h y)
 
-tasks-numbered : (c : Body) (m : Move) (s : Plain) → length (numbered c m s .tasks) ≡ length (s .tasks)
-unfolding numbered
-tasks-numbered c stay s = refl
-tasks-numbered c (leave x) s = refl
-tasks-numbered c (last (aTask i)) s = length-put (s .tasks) i (s .count)
-tasks-numbered c (last (aMessage i)) s = refl
-
-messages-numbered : (c : Body) (m : Move) (s : Plain) → length (numbered c m s .messages) ≡ length (s .messages)
-unfolding numbered
-messages-numbered c stay s = refl
-messages-numbered c (leave x) s = refl
-messages-numbered c (last (aTask i)) s = refl
-messages-numbered c (last (aMessage i)) s = length-put (s .messages) i (s .count)
+lengths-numbered : (c : Body) (m : Move) (s : Plain) (t : Sort) → length (numbersOf (renumbered c m s) t) ≡ length (numbersOf s t)
+unfolding renumbered
+lengths-numbered c stay s t = ap (λ (l : List ℕ). length l) (numbers-count c (s .count) s t)
+lengths-numbered c (leave x) s t = ap (λ (l : List ℕ). length l) (numbers-count c (s .count) s t)
+lengths-numbered c (last x) s t = ap (λ (l : List ℕ). length l) (numbers-last c x s t) ∙ go (sameSort (x .sort) t)
+  where
+    go : (e : Bool) → length (cond e (put (numbersOf s t) (x .id) (s .count)) (numbersOf s t)) ≡ length (numbersOf s t)
+    go true = length-put (numbersOf s t) (x .id) (s .count)
+    go false = refl
 
 pub numbers-act : (a : Act) (s : Plain) → Numbers s → Numbers (plainAct a s)
 unfolding plainAct
 numbers-act a s h = record {
   below = below-numbered (after a (s .body)) (move (s .body) a) s (h .below);
-  tasks = tasks-numbered _ (move (s .body) a) s ∙ h .tasks ∙ sym (ap (λ (c : Body). length (c .tasks)) (body-numbered (after a (s .body)) (move (s .body) a) s) ∙ tasks-after a (s .body));
-  messages =
-      messages-numbered _ (move (s .body) a) s ∙ h .messages
-      ∙ sym (ap (λ (c : Body). length (c .store .messages)) (body-numbered (after a (s .body)) (move (s .body) a) s) ∙ messages-after a (s .body));
+  lengths = λ t. lengths-numbered _ (move (s .body) a) s t ∙ h .lengths t
+      ∙ sym (ap (λ (c : Body). population c t) (body-numbered (after a (s .body)) (move (s .body) a) s) ∙ population-after a (s .body) t);
 }
 
 pub numbers-acts : (l : List Act) (s : Plain) → Numbers s → Numbers (plainActs l s)
 unfolding plainActs
 numbers-acts [] s h = h
 numbers-acts (a ∷ l) s h = numbers-acts l (plainAct a s) (numbers-act a s h)
-
--- ---- numbers after a move
-
--- where nobody goes last all numbers stay
-pub number-body : (c : Body) (s : Plain) (x : Item) → numberOf (record { body = c; tasks = s .tasks; messages = s .messages; count = s .count }) x ≡ numberOf s x
-number-body c s (aTask i) = refl
-number-body c s (aMessage i) = refl
-
--- one that goes last has the count for its number, and the others keep theirs
-pub number-other : (c : Body) (x : Item) (s : Plain) (y : Item) → same x y ≡ false → numberOf (numbered c (last x) s) y ≡ numberOf s y
-unfolding numbered
-number-other c (aTask i) s (aTask j) e = of-put-other (s .tasks) i j (s .count) 0 e
-number-other c (aTask i) s (aMessage j) e = refl
-number-other c (aMessage i) s (aTask j) e = refl
-number-other c (aMessage i) s (aMessage j) e = of-put-other (s .messages) i j (s .count) 0 e
-
-pub number-new : (c : Body) (s : Plain) → Numbers s → (q : Place) (i : ℕ) → In i (many (s .body) q) → numberOf (numbered c (last (item q i)) s) (item q i) ≡ s .count
-unfolding numbered many
-number-new c s h (readyAt p) i r = of-put-same (s .tasks) i (s .count) 0 (rw (h .tasks) r)
-number-new c s h (waiters k o) i r = of-put-same (s .tasks) i (s .count) 0 (rw (h .tasks) r)
-number-new c s h (mail m) i r = of-put-same (s .messages) i (s .count) 0 (rw (h .messages) r)
 
 -- ---- a queue of the plain kernel after an act is its queue before, after the act's move
 
@@ -119,40 +125,49 @@ module _ (c : Body) (s : Plain) (h : Numbers s) (few : (q : Place) → many c q 
   abbrev number : Place → ℕ → ℕ
   number q i = numberOf s (item q i)
 
-  -- one of the place's sort goes last
-  come : (q : Place) (a : ℕ) → ((i : ℕ) → same (item q a) (item q i) ≡ eqb a i) → Fits (s .body) c (last (item q a))
-      → byNumber (λ i. numberOf (numbered c (last (item q a)) s) (item q i)) (keep (belongs c q) (ids (many c q)))
-      ≡ keep (λ i. not (eqb a i)) (byNumber (number q) (keep (was q) (ids (many (s .body) q)))) ++ keep (belongs c q) (a ∷ [])
-  come q a e f =
-      ap (λ (n : ℕ). byNumber (λ i. numberOf (numbered c (last (item q a)) s) (item q i)) (keep (belongs c q) (ids n))) (few q)
-      ∙ sort-last (number q) (λ i. numberOf (numbered c (last (item q a)) s) (item q i)) (was q) (belongs c q) a (many (s .body) q)
-      (λ i n. (f q i (e i ∙ n), number-other c (item q a) s (item q i) (e i ∙ n)))
-      (λ b. let r : In a (many (s .body) q) = rw (← few q) (in-range c q a b) in
-      (r, λ i n. omega (arith, number-other c (item q a) s (item q i) (e i ∙ n), number-new c s h q a r, h .below (item q i))))
+  module _ (x : Item) (q : Place) where
+    -- one of the place's sort goes last
+    come : sameSort (x .sort) (sortAt q) ≡ true → Fits (s .body) c (last x)
+        → byNumber (λ i. numberOf (renumbered c (last x) s) (item q i)) (keep (belongs c q) (ids (many c q)))
+        ≡ keep (λ i. not (eqb (x .id) i)) (byNumber (number q) (keep (was q) (ids (many (s .body) q)))) ++ keep (belongs c q) (x .id ∷ [])
+    come e f =
+        ap (λ (n : ℕ). byNumber (λ i. numberOf (renumbered c (last x) s) (item q i)) (keep (belongs c q) (ids n))) (few q)
+        ∙ sort-last (number q) (λ i. numberOf (renumbered c (last x) s) (item q i)) (was q) (belongs c q) (x .id) (many (s .body) q)
+        (λ i n. (f q i (other i n), number-other c x s (item q i) (other i n)))
+        (λ b. let r : In (x .id) (many (s .body) q) = rw (← few q) (in-range c q (x .id) b) in
+        (r, λ i n. omega (arith, number-other c x s (item q i) (other i n), number-new c s h x q e r, h .below (item q i))))
+      where
+        other : (i : ℕ) → eqb (x .id) i ≡ false → same x (item q i) ≡ false
+        other i n = rw (e, n)
 
-  -- one of another sort goes last
-  pass : (q : Place) → ((i : ℕ) → belongs c q i ≡ was q i)
-      → byNumber (number q) (keep (belongs c q) (ids (many c q))) ≡ keep (λ i. true) (byNumber (number q) (keep (was q) (ids (many (s .body) q)))) ++ keep (belongs c q) []
-  unfolding keep
-  pass q f = (λ z. byNumber (number q) (keep (λ i. f i z) (ids (few q z)))) ∙ sym (keep-all _) ∙ sym (append-nil _)
+    -- one of another sort goes last
+    pass : sameSort (x .sort) (sortAt q) ≡ false → Fits (s .body) c (last x)
+        → byNumber (λ i. numberOf (renumbered c (last x) s) (item q i)) (keep (belongs c q) (ids (many c q)))
+        ≡ keep (λ i. true) (byNumber (number q) (keep (was q) (ids (many (s .body) q)))) ++ keep (belongs c q) []
+    unfolding keep
+    pass e f = (λ z. byNumber (λ i. number-other c x s (item q i) (other i) z) (keep (λ i. f q i (other i) z) (ids (few q z)))) ∙ sym (keep-all _) ∙ sym (append-nil _)
+      where
+        other : (i : ℕ) → same x (item q i) ≡ false
+        other i = rw e
 
-  queue-move : (m : Move) → Fits (s .body) c m → (q : Place) → queueOf (numbered c m s) q ≡ moved c m q (queueOf s q)
-  unfolding queueOf numbered moved
+  queue-move : (m : Move) → Fits (s .body) c m → (q : Place) → queueOf (renumbered c m s) q ≡ moved c m q (queueOf s q)
+  unfolding queueOf renumbered moved
   queue-move stay f q = λ z. byNumber (λ i. number-body c s (item q i) z) (keep (λ i. f q i z) (ids (few q z)))
   queue-move (leave x) f q =
       (λ z. byNumber (λ i. number-body c s (item q i) z) (keep (λ i. f q i z) (ids (few q z))))
       ∙ ap (byNumber (number q)) (sym (keep-keep _ (was q) (ids (many (s .body) q))))
       ∙ sym (keep-byNumber (number q) _ (keep (was q) (ids (many (s .body) q))))
-  queue-move (last (aTask a)) f (readyAt p) = come (readyAt p) a (λ i. refl) f
-  queue-move (last (aTask a)) f (waiters k o) = come (waiters k o) a (λ i. refl) f
-  queue-move (last (aTask a)) f (mail m) = pass (mail m) (λ i. f (mail m) i refl)
-  queue-move (last (aMessage a)) f (readyAt p) = pass (readyAt p) (λ i. f (readyAt p) i refl)
-  queue-move (last (aMessage a)) f (waiters k o) = pass (waiters k o) (λ i. f (waiters k o) i refl)
-  queue-move (last (aMessage a)) f (mail m) = come (mail m) a (λ i. refl) f
+  queue-move (last x) f q = go (sameSort (x .sort) (sortAt q)) refl
+    where
+      go : (t : Bool) → sameSort (x .sort) (sortAt q) ≡ t
+          → byNumber (λ i. numberOf (renumbered c (last x) s) (item q i)) (keep (belongs c q) (ids (many c q)))
+          ≡ keep (λ i. not (t && eqb (x .id) i)) (byNumber (number q) (keep (was q) (ids (many (s .body) q)))) ++ keep (belongs c q) (cond t (x .id ∷ []) [])
+      go true e = come x q e f
+      go false e = pass x q e f
 
 pub queue-act : (a : Act) (s : Plain) → Numbers s → (q : Place) → queueOf (plainAct a s) q ≡ moved (after a (s .body)) (move (s .body) a) q (queueOf s q)
 unfolding plainAct
-queue-act a s h q = queue-move (after a (s .body)) s h (many-after a (s .body)) (move (s .body) a) (fits a (s .body)) q
+queue-act a s h q = queue-move (after a (s .body)) s h (λ q. population-after a (s .body) (sortAt q)) (move (s .body) a) (fits a (s .body)) q
 
 -- ---- what the plain kernel shows
 
@@ -181,19 +196,19 @@ acts-show (a ∷ l) s h = acts-show l (plainAct a s) (numbers-act a s h) ∙ ap 
 -- ---- the fresh state
 
 pub numbers-unstarted : (u : Setup) → Numbers (unstarted u)
-unfolding unstarted idle
-numbers-unstarted u = record {
-  below = zeroes;
-  tasks = length-replicate (length (u .tasks)) 0 ∙ sym (length-map (u .tasks) idleTask);
-  messages = length-replicate (u .messages) 0 ∙ sym (length-replicate (u .messages) none);
-}
+unfolding unstarted idle population
+numbers-unstarted u = record { below = λ x. zeroes (x .sort) (x .id); lengths = lengths }
   where
     none-yet : (n i : ℕ) → of (replicate n 0) i 0 < 1
     none-yet n i = omega (arith, of-replicate {A = ℕ} n i 0)
 
-    zeroes : (x : Item) → numberOf (unstarted u) x < 1
-    zeroes (aTask i) = none-yet (length (u .tasks)) i
-    zeroes (aMessage i) = none-yet (u .messages) i
+    zeroes : (t : Sort) (i : ℕ) → of (numbersOf (unstarted u) t) i 0 < 1
+    zeroes tasks i = none-yet (length (u .tasks)) i
+    zeroes messages i = none-yet (u .messages) i
+
+    lengths : (t : Sort) → length (numbersOf (unstarted u) t) ≡ population (idle u) t
+    lengths tasks = length-replicate (length (u .tasks)) 0 ∙ sym (length-map (u .tasks) idleTask)
+    lengths messages = length-replicate (u .messages) 0 ∙ sym (length-replicate (u .messages) none)
 
 pub queue-unstarted : (u : Setup) (q : Place) → queueOf (unstarted u) q ≡ []
 unfolding queueOf unstarted byNumber

@@ -9,30 +9,30 @@ use Prim.Native.Nat.{ℕ, zero, suc, _+_, _-_, _≤_, _<_}
 use native.Mathlib.Nat.{add-zero, zero-add}
 use native.Mathlib.Omega.{arith}
 use lib.Dec.{eqb}
-use lib.IntN.{ℤ, pos, negsuc}
+use lib.IntN.{ℤ, pos}
 use lib.ListN.{length, getD, set}
 use borrow.Author.Tests.{eqb-true, not-false}
-use Rattle.rules.specs.Ids.{of, put, ids, In, once, times, first}
+use Rattle.rules.specs.Ids.{of, put, ids, In, once, times}
 use Rattle.rules.specs.Codes.{Code, OK, E-TMOUT, E-RLWAI, H-POLL, number}
 use Rattle.rules.specs.State.{Kind, semaphore, flag, mailbox, pool, Wait, asleep, timed, on, State, dormant, ready, suspended, waiting, waiting-suspended, Task, Body, task, nobody, objects, waitOf, wish, isDormant, isWaiting, isFreed, sleeps}
-use Rattle.rules.specs.Places.{waiters, mail, belongs, sameKind, waitsOn, awaits}
-use Rattle.rules.specs.Events.{Event, tick, call, nat, bits, outside}
+use Rattle.rules.specs.Places.{waiters, belongs, sameKind, waitsOn, awaits}
+use Rattle.rules.specs.Events.{Event, tick, call, nat, outside}
 use Rattle.rules.specs.Acts.{Act, start, retire, rotate, regrade, wait, release, suspend, resume, wakeups, count, pattern, post, receive, mark, elapse, change, started, retired, freed, releasedTask, halted, resumed, older, with-state, with-priority, with-wakeups, with-cell, after, afters}
 use Rattle.rules.specs.View.{View, line}
-use Rattle.rules.specs.Verdicts.{Verdict, refuse, gives, waits, check, choose, onFirst, onCount}
-use Rattle.rules.specs.Tasks.{stateOf, sta-tsk, ext-tsk, ter-tsk, chg-pri, rot-rdq, rel-wai, sus-tsk, rsm-tsk, take-wakeup, slp-tsk, wai-for, wai-tsk, wup-tsk, can-wup, get-tid, tsk-sts}
-use Rattle.rules.specs.Objects.{polls, waits-on, countOf, patternOf, free, to-first, obj-sts, met, left, serve-flag, sig-sem, take-sem, set-flg, clr-flg, take-flg, snd-msg, take-msg, blocksOf, lowest, take-blk, rel-blk}
+use Rattle.rules.specs.Verdicts.{Verdict, refuse}
+use Rattle.rules.specs.Tasks.{stateOf, starting, sta-tsk, ext-tsk, ter-tsk, chg-pri, rot-rdq, rel-wai, sus-tsk, rsm-tsk, take-wakeup, slp-tsk, wai-tsk, waking, wup-tsk, can-wup, get-tid, tsk-sts}
+use Rattle.rules.specs.Objects.{waits-on, to-first, obj-sts, met, left, serve-flag, sig-sem, take-sem, set-flg, clr-flg, take-flg, snd-msg, take-msg, blocksOf, lowest, take-blk, rel-blk}
 use Rattle.rules.specs.Time.{get-tim, ending, endings, timeout, ticked}
+use Rattle.rules.specs.Rows.{staTsk, extTsk, terTsk, chgPri, rotRdq, relWai, susTsk, rsmTsk, slpTsk, waiTsk, wupTsk, canWup, sigSem, waiSem, preqSem, setFlg, clrFlg, waiFlg, polFlg, sndMsg, rcvMsg, prcvMsg, getBlk, pgetBlk, relBlk, getTid, tskSts, semSts, flgSts, mbxSts, mplSts, getTim}
 use Rattle.rules.specs.Table.{caller, table, judge}
 use Rattle.rules.specs.Sound.{Sound}
 use Rattle.rules.specs.Answers.{Answer, answer}
 use Rattle.rules.specs.Kernel.{next, served}
 use Rattle.rules.specs.Blocks.{isFree, is, ok, taken, handed, handedCount, returned}
 use Rattle.rules.proofs.Ids.{of-put-same, of-put-other, tested, kept-passes, times-head, times-tail}
-use Rattle.rules.proofs.Fits.{older-awaits}
-use Rattle.rules.proofs.Keeps.{halted-same, resumed-same}
+use Rattle.rules.proofs.States.{waits-by, waiting-tells, dormant-tells, halted-same, resumed-same, older-same}
 use Rattle.rules.proofs.Cells.{change-each, map-each, body-acts}
-use Rattle.rules.proofs.Judge.{_⊗_, by-call, by-check, by-first, by-count, AllRows}
+use Rattle.rules.proofs.Judge.{_⊗_, bad, bad-not-ok, AllRows, by-check, by-first, by-count, by-call, OnActs, on-acts, acts-check, acts-choose, acts-first, acts-count, acts-wait}
 use Rattle.rules.proofs.Queues.{stands-belongs, first-belongs}
 use Rattle.rules.proofs.Waits.{in-by, neither, waits-other}
 
@@ -53,11 +53,7 @@ by-code : (t u : Task) → ok (u .cell .code) ≡ false → Empty-handed t u
 by-code t u e p k = rw (e, and-false, and-false)
 
 waits-not-freed : (s : State) (p : ℕ) → awaits s pool p ≡ true → isFreed s ≡ false
-waits-not-freed dormant p e = absurd (false≢true e)
-waits-not-freed ready p e = absurd (false≢true e)
-waits-not-freed suspended p e = absurd (false≢true e)
-waits-not-freed (waiting w) p e = refl
-waits-not-freed (waiting-suspended w) p e = refl
+waits-not-freed s p e = waiting-tells s (waits-by (λ w. waitsOn w pool p) refl s e) .1
 
 -- the same pools are waited on
 abbrev Same-pools : Task → Task → Type 0
@@ -87,7 +83,7 @@ released-pools c w t h p = go (t .state) refl
     go (waiting-suspended x) e = rw (h p) (rw e)
 
 older-pools : (t : Task) → Same-pools t (with-state (older (t .state)) t)
-older-pools t p = older-awaits (t .state) pool p
+older-pools t p = older-same (t .state) .awaits pool p
 
 halted-pools : (t : Task) → Same-pools t (with-state (halted (t .state)) t)
 halted-pools t p = ap (λ (w : Option Wait). waitsOn w pool p) (halted-same (t .state) .0)
@@ -96,11 +92,7 @@ resumed-pools : (t : Task) → Same-pools t (with-state (resumed (t .state)) t)
 resumed-pools t p = ap (λ (w : Option Wait). waitsOn w pool p) (resumed-same (t .state) .0)
 
 dormant-no-pool : (s : State) → isDormant s ≡ true → No-pool s
-dormant-no-pool dormant e p = refl
-dormant-no-pool ready e p = refl
-dormant-no-pool suspended e p = refl
-dormant-no-pool (waiting w) e p = absurd (false≢true e)
-dormant-no-pool (waiting-suspended w) e p = absurd (false≢true e)
+dormant-no-pool s e p = rw (dormant-tells s e)
 
 -- released with a code that is not 0
 refused-empty : (c : Code) (w : ℕ) (t : Task) → ok c ≡ false → Empty-handed t (releasedTask c w t)
@@ -222,47 +214,10 @@ still-list : (b : Body) (l : List Act) → Asides b l → Still b l
 still-list b l g = let r = asides-act b b l g (λ i p. refl) in record { pools = r .1; empty = λ i. pools-empty (task b i) (task (afters l b) i) (r .0 i) }
 
 -- the same as a property of verdicts
-data StillVerdict (b : Body) : Verdict → Type 0 where
-  still : {r : Verdict} → Still b (r .acts) → StillVerdict b r
+abbrev StillVerdict : Body → Verdict → Type 0
+StillVerdict b r = OnActs (Still b) r
 
-module _ {b : Body} where
-  still-refuse : (c : Code) → StillVerdict b (refuse c)
-  still-refuse c = still (still-none b)
-
-  still-gives : (x y : ℕ) → StillVerdict b (gives x y [])
-  still-gives x y = still (still-none b)
-
-  still-done : (x y : ℕ) (a : Act) → Still-act b a → StillVerdict b (gives x y (a ∷ []))
-  still-done x y a g = still (still-one b a g)
-
-  still-waits : (i : ℕ) (w : Wait) → StillVerdict b (waits i w)
-  still-waits i w = still (still-one b (wait i w) tt)
-
-  still-check : (t : Bool) (c : Code) (r : Verdict) → (t ≡ false → StillVerdict b r) → StillVerdict b (check t c r)
-  unfolding check
-  still-check true c r h = still-refuse c
-  still-check false c r h = h refl
-
-  still-choose : (t : Bool) (r s : Verdict) → (t ≡ true → StillVerdict b r) → (t ≡ false → StillVerdict b s) → StillVerdict b (choose t r s)
-  unfolding choose
-  still-choose true r s h k = h refl
-  still-choose false r s h k = k refl
-
-  still-first : (l : List ℕ) (r : Verdict) (f : ℕ → Verdict) → StillVerdict b r → ((x : ℕ) (m : List ℕ) → l ≡ x ∷ m → StillVerdict b (f x)) → StillVerdict b (onFirst l r f)
-  unfolding onFirst
-  still-first [] r f h k = h
-  still-first (x ∷ m) r f h k = k x m refl
-
-  still-count : (n : ℕ) (r : Verdict) (f : ℕ → Verdict) → StillVerdict b r → ((x : ℕ) → StillVerdict b (f x)) → StillVerdict b (onCount n r f)
-  unfolding onCount
-  still-count zero r f h k = h
-  still-count (suc n) r f h k = k n
-
-  still-wait : (me : ℕ) (a : ℤ) → StillVerdict b (wai-for me a)
-  unfolding wai-for
-  still-wait me (pos zero) = still-refuse _
-  still-wait me (pos (suc t)) = still-waits me _
-  still-wait me (negsuc t) = still-waits me _
+ruleset calm = (acts-check, acts-choose, acts-first, acts-count, acts-wait, on-acts, still-none, still-one, not-false)
 
 -- ---- who is released by other calls waits on no pool
 
@@ -290,7 +245,7 @@ module _ (v : View) (s : Sound v) where
   still-to-first : (k : Kind) (a : ℤ) (w : ℕ) (r : Verdict) → sameKind k pool ≡ false → outside a (objects (v .body .store) k) ≡ false
       → StillVerdict (v .body) r → StillVerdict (v .body) (to-first v k a w r)
   unfolding to-first
-  still-to-first k a w r n o h = still-first _ r _ h (λ x m e. still-done 0 0 (release x OK w) (inr (other-kind k (nat a) n x (waiter-waits k (nat a) (in-by a _ o) x m e))))
+  still-to-first k a w r n o h = acts-first (λ e. h) (λ x m e. on-acts (still-one _ (release x OK w) (inr (other-kind k (nat a) n x (waiter-waits k (nat a) (in-by a _ o) x m e)))))
 
   -- set_flg
   flag-asides : (f have : ℕ) (l : List ℕ) → ((x : ℕ) → times x l ≢ 0 → No-pool (task (v .body) x .state)) → Asides (v .body) (serve-flag (v .body) f have l)
@@ -307,7 +262,7 @@ module _ (v : View) (s : Sound v) where
   still-set : (a b : ℤ) → outside a (objects (v .body .store) flag) ≡ false → StillVerdict (v .body) (set-flg v a b)
   unfolding set-flg belongs
   still-set a b o =
-      still (still-list (v .body) _ (flag-asides (nat a) _ (line v (waiters flag (nat a))) (λ x z. other-kind flag (nat a) refl x (stands-belongs v s (waiters flag (nat a)) (in-by a _ o) x z))))
+      on-acts (still-list (v .body) _ (flag-asides (nat a) _ (line v (waiters flag (nat a))) (λ x z. other-kind flag (nat a) refl x (stands-belongs v s (waiters flag (nat a)) (in-by a _ o) x z))))
 
 -- the tick
 tick-asides : (b : Body) (l : List ℕ) → ((x : ℕ) → times x l ≢ 0 → No-pool (task b x .state)) → Asides b (map timeout l ++ elapse ∷ [])
@@ -428,82 +383,70 @@ module _ (v : View) (s : Sound v) (x a y z : ℤ) (p k : ℕ) (rp : In p (length
   said r = record { code = r .code; w1 = r .w1; w2 = r .w2; runs = 0; released = 0 }
 
   -- the account of the block at call n
-  abbrev Books : ℤ → Verdict → Type 0
-  Books n r = Balance (v .body) (afters (r .acts) (v .body)) (taken (call x n a y z) (said r) p k) (returned (call x n a y z) (said r) p k) p k
-
-  abbrev Bad : Code → Type 0
-  Bad c = ok c ≡ false
+  data Books (n : ℤ) (r : Verdict) : Type 0 where
+    books : Balance (v .body) (afters (r .acts) (v .body)) (taken (call x n a y z) (said r) p k) (returned (call x n a y z) (said r) p k) p k → Books n r
 
   -- a code that is not 0 takes nothing and returns nothing
-  no-way : (n : ℤ) (c : Code) → Bad c → Books n (refuse c)
-  no-way n c e = rw (e, and-false (is n 23 || is n 24), and-false (is n 25)) (still-balance (v .body) [] (still-none (v .body)) p k)
+  no-way : (n : ℤ) (c : Code) → bad c ≡ true → Books n (refuse c)
+  no-way n c e = books (rw (bad-not-ok c e, and-false (is n 23 || is n 24), and-false (is n 25)) (still-balance (v .body) [] (still-none (v .body)) p k))
 
-  quiet : (n : ℤ) (r : Verdict) → is n 23 ≡ false → is n 24 ≡ false → is n 25 ≡ false → StillVerdict (v .body) r → Books n r
-  quiet n r c d e (still g) = rw (c, d, e) (still-balance (v .body) (r .acts) g p k)
+  quiet : {n : ℤ} {r : Verdict} → is n 23 ≡ false → is n 24 ≡ false → is n 25 ≡ false → StillVerdict (v .body) r → Books n r
+  quiet {r} c d e (on-acts g) = books (rw (c, d, e) (still-balance (v .body) (r .acts) g p k))
 
   -- a call that waits takes nothing and returns nothing
   waits-books : (n : ℤ) (me : ℕ) (q : Kind) (o : ℤ) → is n 25 ≡ false → Books n (waits-on me q o)
   unfolding ok number
-  waits-books n me q o e = rw (e, and-false) (still-balance (v .body) _ (still-one (v .body) (wait me (on q (nat o) 0 0)) tt) p k)
+  waits-books n me q o e = books (rw (e, and-false) (still-balance (v .body) _ (still-one (v .body) (wait me (on q (nat o) 0 0)) tt) p k))
 
   -- get_blk and pget_blk
   takes : (n : ℤ) (other : Verdict) → (is n 23 || is n 24) ≡ true → is n 25 ≡ false → Books n other → Books n (take-blk v a other)
   unfolding take-blk afters ok number
-  takes n other c d h = by-count Books Bad no-way {n = n} (λ e. h) (λ j e. rw (c, d) (mark-balance (v .body) (nat a) (suc j) true (lowest-block j (blocksOf v a) e) p k rp rk))
+  takes n other c d h = by-count Books no-way (λ e. h) (λ j e. books (rw (c, d) (mark-balance (v .body) (nat a) (suc j) true (lowest-block j (blocksOf v a) e) p k rp rk)))
 
   -- rel_blk: to the first waiter, else free
   gives-back : outside a (objects (v .body .store) pool) ≡ false → Books (pos 25) (rel-blk v a y)
-  unfolding rel-blk to-first afters ok number
+  unfolding rel-blk to-first afters ok number bad
   gives-back o =
-      by-check Books Bad no-way {n = pos 25} refl (λ e. by-first Books Bad no-way {n = pos 25}
-      (λ w. mark-balance (v .body) (nat a) (nat y) false (neither (outside y (length (blocksOf v a))) (of (blocksOf v a) (nat y) true) e .1) p k rp rk)
-      (λ i m w. hand-balance (v .body) i (nat a) (nat y) (waiter-waits v s pool (nat a) (in-by a _ o) i m w) p k))
+      by-check Books no-way _ refl (λ e. by-first Books no-way
+      (λ w. books (mark-balance (v .body) (nat a) (nat y) false (neither (outside y (length (blocksOf v a))) (of (blocksOf v a) (nat y) true) e .1) p k rp rk))
+      (λ i m w. books (hand-balance (v .body) i (nat a) (nat y) (waiter-waits v s pool (nat a) (in-by a _ o) i m w) p k)))
 
   module _ (h : Bool) (me : ℕ) where
-    rows : AllRows Books Bad no-way v h me a 1 (table v me a y z)
-    unfolding table sta-tsk ext-tsk ter-tsk chg-pri rot-rdq rel-wai sus-tsk rsm-tsk take-wakeup slp-tsk wai-tsk wup-tsk can-wup get-tid tsk-sts obj-sts sig-sem take-sem clr-flg take-flg snd-msg take-msg get-tim ok number
+    rows : AllRows Books v h me 1 (table v me a y z)
+    unfolding table staTsk extTsk terTsk chgPri rotRdq relWai susTsk rsmTsk slpTsk waiTsk wupTsk canWup sigSem waiSem preqSem setFlg clrFlg waiFlg polFlg sndMsg rcvMsg prcvMsg getBlk pgetBlk relBlk getTid tskSts semSts flgSts mbxSts mplSts getTim starting sta-tsk ext-tsk ter-tsk chg-pri rot-rdq rel-wai sus-tsk rsm-tsk take-wakeup slp-tsk wai-tsk waking wup-tsk can-wup get-tid tsk-sts obj-sts sig-sem take-sem clr-flg take-flg snd-msg take-msg get-tim bad ok number
     rows =
-        ((refl, tt), λ w c t d. quiet (pos 1) _ refl refl refl (still-check _ _ _ (λ e. still-done 0 0 (start (nat a)) (not-false _ e))))
-        ⊗ (tt, λ w c t d. quiet (pos 2) _ refl refl refl (still-done 0 0 (retire me) tt))
-        ⊗ ((refl, tt), λ w c t d. quiet (pos 3) _ refl refl refl (still-done 0 0 (retire (nat a)) tt))
-        ⊗ ((refl, (refl, tt)), λ w c t d. quiet (pos 4) _ refl refl refl (still-done 0 0 (regrade (nat a) (nat y)) tt))
-        ⊗ ((refl, tt), λ w c t d. quiet (pos 5) _ refl refl refl (still-first _ _ _ (still-gives 0 0) (λ i m e. still-done 0 0 (rotate i) tt)))
-        ⊗ ((refl, tt), λ w c t d. quiet (pos 6) _ refl refl refl (still-check _ _ _ (λ e. still-done 0 0 (release (nat a) E-RLWAI 0) (inl refl))))
-        ⊗ ((refl, tt), λ w c t d. quiet (pos 7) _ refl refl refl (still-check _ _ _ (λ e. still-done 0 0 (suspend (nat a)) tt)))
-        ⊗ ((refl, tt), λ w c t d. quiet (pos 8) _ refl refl refl (still-check _ _ _ (λ e. still-done 0 0 (resume (nat a)) tt)))
-        ⊗ (tt, λ w c t d. quiet (pos 9) _ refl refl refl (still-count _ _ _ (still-waits me _) (λ n. still-done 0 0 (wakeups me n) tt)))
-        ⊗ ((refl, tt), λ w c t d. quiet (pos 10) _ refl refl refl (still-count _ _ _ (still-wait me a) (λ n. still-done 0 0 (wakeups me n) tt)))
-        ⊗ (
-          (refl, tt),
-          λ w c t d. quiet (pos 11) _ refl refl refl (still-choose _ _ _
-              (λ e. still-done 0 0 (release (nat a) OK 0) (inr (sleeper-no-pool (waitOf (stateOf v a)) e)))
-              (λ e. still-check _ _ _ (λ f. still-done 0 0 (wakeups (nat a) _) tt))),
-        )
-        ⊗ ((refl, tt), λ w c t d. quiet (pos 12) (can-wup v a) refl refl refl (still-done _ 0 (wakeups (nat a) 0) tt))
-        ⊗ ((refl, tt), λ w c t d. quiet (pos 13) _ refl refl refl (still-to-first v s semaphore a 0 _ refl (w .0) (still-check _ _ _ (λ f. still-done 0 0 (count (nat a) _) tt))))
-        ⊗ ((refl, tt), λ w c t d. quiet (pos 14) _ refl refl refl (still-count _ _ _ (still-waits me _) (λ n. still-done 0 0 (count (nat a) n) tt)))
-        ⊗ ((refl, tt), λ w c t d. quiet (pos 15) _ refl refl refl (still-count _ _ _ (still-refuse _) (λ n. still-done 0 0 (count (nat a) n) tt)))
-        ⊗ ((refl, tt), λ w c t d. quiet (pos 16) _ refl refl refl (still-set v s a y (w .0)))
-        ⊗ ((refl, tt), λ w c t d. quiet (pos 17) _ refl refl refl (still-done 0 0 (pattern (nat a) _) tt))
-        ⊗ (
-          (refl, (refl, (refl, tt))),
-          λ w c t d. quiet (pos 18) (take-flg v a y z (waits me (on flag (nat a) (bits y) (nat z)))) refl refl refl
-              (still-choose _ _ _ (λ e. still-done _ 0 (pattern (nat a) _) tt) (λ e. still-waits me _)),
-        )
-        ⊗ ((refl, (refl, (refl, tt))), λ w c t d. quiet (pos 19) (take-flg v a y z polls) refl refl refl (still-choose _ _ _ (λ e. still-done _ 0 (pattern (nat a) _) tt) (λ e. still-refuse _)))
-        ⊗ ((refl, (refl, tt)), λ w c t d. quiet (pos 20) _ refl refl refl (still-check _ _ _ (λ e. still-to-first v s mailbox a (nat y) _ refl (w .0) (still-done 0 0 (post (nat y) (nat a)) tt))))
-        ⊗ ((refl, tt), λ w c t d. quiet (pos 21) (take-msg v a (waits-on me mailbox a)) refl refl refl (still-first _ _ _ (still-waits me _) (λ i m e. still-done i 0 (receive i) tt)))
-        ⊗ ((refl, tt), λ w c t d. quiet (pos 22) (take-msg v a polls) refl refl refl (still-first _ _ _ (still-refuse _) (λ i m e. still-done i 0 (receive i) tt)))
-        ⊗ ((refl, tt), λ w c t d. takes (pos 23) (waits-on me pool a) refl refl (waits-books (pos 23) me pool a refl))
-        ⊗ ((refl, tt), λ w c t d. takes (pos 24) polls refl refl (no-way (pos 24) H-POLL refl))
-        ⊗ ((refl, tt), λ w c t d. gives-back (w .0))
-        ⊗ (tt, λ w c t d. quiet (pos 26) (get-tid v) refl refl refl (still-gives _ 0))
-        ⊗ ((refl, tt), λ w c t d. quiet (pos 27) (tsk-sts v a) refl refl refl (still-gives _ _))
-        ⊗ ((refl, tt), λ w c t d. quiet (pos 28) (obj-sts v semaphore a (countOf v a)) refl refl refl (still-gives _ _))
-        ⊗ ((refl, tt), λ w c t d. quiet (pos 29) (obj-sts v flag a (patternOf v a)) refl refl refl (still-gives _ _))
-        ⊗ ((refl, tt), λ w c t d. quiet (pos 30) (obj-sts v mailbox a (first (line v (mail (nat a))))) refl refl refl (still-gives _ _))
-        ⊗ ((refl, tt), λ w c t d. quiet (pos 31) (obj-sts v pool a (free (blocksOf v a))) refl refl refl (still-gives _ _))
-        ⊗ (tt, λ w c t d. quiet (pos 32) (get-tim v) refl refl refl (still-gives _ _))
+        (λ t. quiet refl refl refl (search calm depth 9))
+        ⊗ (λ t. quiet refl refl refl (search calm depth 9))
+        ⊗ (λ t. quiet refl refl refl (search calm depth 9))
+        ⊗ (λ t. quiet refl refl refl (search calm depth 9))
+        ⊗ (λ t. quiet refl refl refl (search calm depth 9))
+        ⊗ (λ t. quiet refl refl refl (acts-check _ (still-none _) (λ e. on-acts (still-one _ (release (nat a) E-RLWAI 0) (inl refl)))))
+        ⊗ (λ t. quiet refl refl refl (search calm depth 9))
+        ⊗ (λ t. quiet refl refl refl (search calm depth 9))
+        ⊗ (λ t. quiet refl refl refl (search calm depth 9))
+        ⊗ (λ t. quiet refl refl refl (search calm depth 9))
+        ⊗ (λ t. quiet refl refl refl (acts-choose (λ e. on-acts (still-one _ (release (nat a) OK 0) (inr (sleeper-no-pool (waitOf (stateOf v a)) e)))) (λ e. search calm depth 9)))
+        ⊗ (λ t. quiet refl refl refl (search calm depth 9))
+        ⊗ (λ t. quiet refl refl refl (still-to-first v s semaphore a 0 _ refl (t .words .0) (search calm depth 9)))
+        ⊗ (λ t. quiet refl refl refl (search calm depth 9))
+        ⊗ (λ t. quiet refl refl refl (search calm depth 9))
+        ⊗ (λ t. quiet refl refl refl (still-set v s a y (t .words .0)))
+        ⊗ (λ t. quiet refl refl refl (search calm depth 9))
+        ⊗ (λ t. quiet refl refl refl (search calm depth 9))
+        ⊗ (λ t. quiet refl refl refl (search calm depth 9))
+        ⊗ (λ t. quiet refl refl refl (acts-check _ (still-none _) (λ e. still-to-first v s mailbox a (nat y) _ refl (t .words .0) (search calm depth 9))))
+        ⊗ (λ t. quiet refl refl refl (search calm depth 9))
+        ⊗ (λ t. quiet refl refl refl (search calm depth 9))
+        ⊗ (λ t. takes (pos 23) _ refl refl (waits-books (pos 23) me pool a refl))
+        ⊗ (λ t. takes (pos 24) _ refl refl (no-way (pos 24) H-POLL refl))
+        ⊗ (λ t. gives-back (t .words .0))
+        ⊗ (λ t. quiet refl refl refl (search calm depth 9))
+        ⊗ (λ t. quiet refl refl refl (search calm depth 9))
+        ⊗ (λ t. quiet refl refl refl (search calm depth 9))
+        ⊗ (λ t. quiet refl refl refl (search calm depth 9))
+        ⊗ (λ t. quiet refl refl refl (search calm depth 9))
+        ⊗ (λ t. quiet refl refl refl (search calm depth 9))
+        ⊗ (λ t. quiet refl refl refl (search calm depth 9))
         ⊗ tt
 
 -- ---- an event
@@ -515,4 +458,4 @@ unfolding next served answer judge ticked ok number
 event-balance v s tick p k rp rk = rw (body-acts (ticked v .acts) v) (still-balance (v .body) _ (tick-still (v .body)) p k)
 event-balance v s (call x n a y z) p k rp rk =
     rw (body-acts (judge v (call x n a y z) .acts) v)
-    (by-call (Books v s x a y z p k rp rk) (Bad v s x a y z p k rp rk) (no-way v s x a y z p k rp rk) v a y z refl refl refl refl (λ h. rows v s x a y z p k rp rk h (caller v h)) x n)
+    (elim (by-call (Books v s x a y z p k rp rk) (no-way v s x a y z p k rp rk) v a y z (λ h. rows v s x a y z p k rp rk h (caller v h)) x n) [ books h ↦ h ])

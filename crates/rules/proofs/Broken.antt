@@ -11,17 +11,18 @@ use borrow.Author.Tests.{not-false}
 use Rattle.rules.specs.Codes.{Code, H-CALL, E-NOEXS, E-CTX, E-SELF, E-DMT, E-NOWAI, E-RLWAI, number, negative, refuses}
 use Rattle.rules.specs.State.{Body, task, nobody, isWaiting}
 use Rattle.rules.specs.Events.{Event, call, Words, AllWords, nat, outside}
-use Rattle.rules.specs.Acts.{Act, release, releasedTask, after, afters}
+use Rattle.rules.specs.Acts.{release, releasedTask, after, afters}
 use Rattle.rules.specs.View.{View}
 use Rattle.rules.specs.Verdicts.{Verdict, refuse, check}
 use Rattle.rules.specs.Tasks.{rel-wai}
-use Rattle.rules.specs.Table.{refusals, judged, table, handler, looked-up, called, judge}
+use Rattle.rules.specs.Rows.{relWai}
+use Rattle.rules.specs.Table.{refusals, judged, table, handler, looked-up, numbered, called, judge}
 use Rattle.rules.specs.Answers.{answer, readCell}
 use Rattle.rules.specs.Sound.{Sound}
 use Rattle.rules.specs.Kernel.{next, served, event, cell}
 use Rattle.rules.specs.Broken.{broken, isFresh, Unless, StaysBroken}
 use Rattle.rules.proofs.Ids.{of-put-same, length-put}
-use Rattle.rules.proofs.Fits.{tasks-after}
+use Rattle.rules.proofs.Sizes.{sizes-afters}
 use Rattle.rules.proofs.Waits.{in-by}
 use Rattle.rules.proofs.Cells.{body-acts, Kept, nothing, one, list-kept}
 use Rattle.rules.proofs.Clean.{Clean, refused, given, waited, judge-clean}
@@ -39,14 +40,9 @@ pub cell-kept : (v : View) (e : Event) (i : ℕ) → Kept (task (v .body) i) (ta
 unfolding next
 cell-kept v e i = rw (body-acts (judge v e .acts) v) (clean-kept (v .body) (judge v e) (judge-clean v e) i)
 
-tasks-acts : (l : List Act) (b : Body) → length (afters l b .tasks) ≡ length (b .tasks)
-unfolding afters
-tasks-acts [] b = refl
-tasks-acts (a ∷ l) b = tasks-acts l (after a b) ∙ tasks-after a b
-
 pub tasks-next : (v : View) (e : Event) → length (next v e .body .tasks) ≡ length (v .body .tasks)
 unfolding next
-tasks-next v e = rw (body-acts (judge v e .acts) v) (tasks-acts (judge v e .acts) (v .body))
+tasks-next v e = rw (body-acts (judge v e .acts) v) (sizes-afters (judge v e .acts) (v .body) .tasks)
 
 -- the same of what is read by id
 read-kept : (v : View) (e : Event) (a : ℤ) → isFresh (task (v .body) (nat a) .state) (task (next v e .body) (nat a) .state) ≡ false → readCell (next v e .body) a ≡ readCell (v .body) a
@@ -96,7 +92,7 @@ released-broken b a o w =
     rw (length-put (b .tasks) (nat a) (releasedTask E-RLWAI 0 (task b (nat a))), o, of-put-same (b .tasks) (nat a) (releasedTask E-RLWAI 0 (task b (nat a))) nobody (in-by a _ o), w)
 
 rel-wai-breaks : (v : View) (x a b c : ℤ) → Accepts (Breaks v a) (judge v (call x (pos 6) a b c))
-unfolding judge called looked-up table judged refusals rel-wai Breaks afters refuses number Accepts
+unfolding judge called numbered looked-up table relWai judged refusals rel-wai Breaks afters refuses number Accepts
 rel-wai-breaks v x a b c = go (handler x)
   where
     go : (h : Option Bool) → Accepts (Breaks v a) (called v h (pos 6) a b c)

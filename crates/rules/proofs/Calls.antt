@@ -22,18 +22,19 @@ use Rattle.rules.specs.Setup.{Entry}
 use Rattle.rules.specs.Events.{Event, tick, call, Word, Words, nat, bits, outside, above}
 use Rattle.rules.specs.Acts.{Act, start, wait, release, wakeups, elapse, after, freed, releasedTask, with-state, with-cell}
 use Rattle.rules.specs.View.{View, line, act, acts}
-use Rattle.rules.specs.Verdicts.{Verdict, refuse, waits, check, choose, onFirst, onCount}
-use Rattle.rules.specs.Tasks.{stateOf, sta-tsk, ext-tsk, ter-tsk, chg-pri, rot-rdq, rel-wai, sus-tsk, rsm-tsk, take-wakeup, slp-tsk, wai-for, wai-tsk, wup-tsk, can-wup, get-tid, tsk-sts}
+use Rattle.rules.specs.Verdicts.{Verdict, waits}
+use Rattle.rules.specs.Tasks.{stateOf, starting, sta-tsk, ext-tsk, ter-tsk, chg-pri, rot-rdq, rel-wai, sus-tsk, rsm-tsk, take-wakeup, slp-tsk, wai-for, wai-tsk, waking, wup-tsk, can-wup, get-tid, tsk-sts}
 use Rattle.rules.specs.Objects.{to-first, obj-sts, countOf, sig-sem, take-sem, patternOf, met, left, serve-flag, set-flg, clr-flg, take-flg, snd-msg, take-msg, blocksOf, lowest, free, take-blk, rel-blk}
 use Rattle.rules.specs.Time.{get-tim, ending, endings, timeout, ticked}
+use Rattle.rules.specs.Rows.{staTsk, extTsk, terTsk, chgPri, rotRdq, relWai, susTsk, rsmTsk, slpTsk, waiTsk, wupTsk, canWup, sigSem, waiSem, preqSem, setFlg, clrFlg, waiFlg, polFlg, sndMsg, rcvMsg, prcvMsg, getBlk, pgetBlk, relBlk, getTid, tskSts, semSts, flgSts, mbxSts, mplSts, getTim}
 use Rattle.rules.specs.Table.{table, caller, judge}
-use Rattle.rules.specs.Sound.{WishNumbers, WaitNumbers, anyLies, would-serve, Unserved, SoundTask, SoundBody, Sound}
+use Rattle.rules.specs.Sound.{WishNumbers, WaitNumbers, anyLies, would-serve, Unserved, AllUnserved, SoundBody, Sound}
 use Rattle.rules.specs.Kernel.{starts, next}
 use Rattle.rules.proofs.Ids.{of-put-other, put-either, inside, tested, times-keep, times-ids}
 use Rattle.rules.proofs.Keeps.{NoneAt, Asks, Pre, asks-waits}
 use Rattle.rules.proofs.Queues.{sound-act, body-act, empty-belongs, none-waits, belongs-stands}
 use Rattle.rules.proofs.Waits.{in-by, waits-asks}
-use Rattle.rules.proofs.Judge.{_⊗_, AllRows, by-check, by-choose, by-first, by-count, by-call}
+use Rattle.rules.proofs.Judge.{_⊗_, AllRows, OnActs, on-acts, acts-check, acts-choose, acts-first, acts-count, acts-call}
 
 -- ---- a list of acts, each of which finds what it needs
 
@@ -58,34 +59,8 @@ starts-steps b i (e ∷ l) = go (e .started) (starts-steps (after (start i) b) (
 
 -- ---- verdicts whose acts find what they need
 
-data Fine (b : Body) (r : Verdict) : Type 0 where
-  fine : Steps b (r .acts) → Fine b r
-
-steps-of : {b : Body} {r : Verdict} → Fine b r → Steps b (r .acts)
-steps-of (fine h) = h
-
--- of any call, with any code: a refusal has no acts
-abbrev FineAt : Body → ℤ → Verdict → Type 0
-FineAt b n r = Fine b r
-
-abbrev Any : Code → Type 0
-Any c = Unit {0}
-
-unacted : (b : Body) (n : ℤ) (c : Code) → Any c → FineAt b n (refuse c)
-unacted b n c u = fine tt
-
-module _ {b : Body} where
-  fine-check : {t : Bool} {r : Verdict} (c : Code) → (t ≡ false → Fine b r) → Fine b (check t c r)
-  fine-check c h = by-check (FineAt b) Any (unacted b) {n = pos 0} tt h
-
-  fine-choose : {t : Bool} {r s : Verdict} → (t ≡ true → Fine b r) → (t ≡ false → Fine b s) → Fine b (choose t r s)
-  fine-choose h k = by-choose (FineAt b) Any (unacted b) {n = pos 0} h k
-
-  fine-first : {l : List ℕ} {r : Verdict} {f : ℕ → Verdict} → (l ≡ [] → Fine b r) → ((x : ℕ) → Fine b (f x)) → Fine b (onFirst l r f)
-  fine-first h k = by-first (FineAt b) Any (unacted b) {n = pos 0} h (λ x l e. k x)
-
-  fine-count : {n : ℕ} {r : Verdict} {f : ℕ → Verdict} → (n ≡ 0 → Fine b r) → ((k : ℕ) → n ≡ suc k → Fine b (f k)) → Fine b (onCount n r f)
-  fine-count h k = by-count (FineAt b) Any (unacted b) {n = pos 0} h k
+abbrev Fine : Body → Verdict → Type 0
+Fine b r = OnActs (Steps b) r
 
 -- ---- words
 
@@ -103,13 +78,13 @@ bits-small (negsuc n) h = omega arith
 
 -- ---- what a sound state says
 
-module _ (b : Body) (h : SoundBody b) where
+module _ (b : Body) (h : SoundBody b) (z : AllUnserved b) where
   -- whoever asks something of an object does so in order, and is not served
   asks-well : (i : ℕ) (k : Kind) (o p m : ℕ) → Asks b i k o p m → WishNumbers k p m × (would-serve (b .store) k o p m ≡ false)
-  asks-well i k o p m e = (subst (WaitNumbers (b .store)) e (g .wait) .1, subst (Unserved (b .store)) e (g .unserved))
+  asks-well i k o p m e = (subst (WaitNumbers (b .store)) e (h .tasks i there .wait) .1, subst (Unserved (b .store)) e (z i there))
     where
-      g : SoundTask (b .store) (task b i)
-      g = h .tasks i (tested (λ t. awaits (t .state) k o) (b .tasks) i nobody refl (asks-waits (waitOf (task b i .state)) k o p m e))
+      there : In i (length (b .tasks))
+      there = tested (λ t. awaits (t .state) k o) (b .tasks) i nobody refl (asks-waits (waitOf (task b i .state)) k o p m e)
 
   -- where a waiter would be served, there is none
   none-by : (k : Kind) (o : ℕ) → ((p m : ℕ) → would-serve (b .store) k o p m ≡ false → ⊥) → NoneAt b k o
@@ -121,6 +96,7 @@ module _ (b : Body) (h : SoundBody b) where
           absurd (f (w .0) (w .1) (asks-well i k o (w .0) (w .1) (w .2) .1))
       go false e = refl
 
+module _ (b : Body) (h : SoundBody b) where
   wakeups-few : (i : ℕ) → task b i .wakeups ≤ 15
   wakeups-few i = elim (inside (b .tasks) i nobody) [ inl r ↦ h .tasks i r .wakeups | inr e ↦ rw e (omega arith) ]
 
@@ -305,15 +281,12 @@ tick-steps c [] g = (λ i. over (ending (waitOf (task c i .state))) (g i), tt)
     over false k = refl
 tick-steps c (x ∷ l) g = (inr (inl refl, refl), tick-steps (after (timeout x) c) l (ending-release c x l g))
 
-tick-fine : (v : View) → Fine (v .body) (ticked v)
-unfolding ticked
-tick-fine v = fine (tick-steps (v .body) (endings (v .body)) ends)
-  where
-    ends : Ending (v .body) (endings (v .body))
-    ends i e z =
-        let r : In i (length (v .body .tasks)) = tested (λ t. ending (waitOf (t .state))) (v .body .tasks) i nobody refl e in
-        let k : times i (endings (v .body)) ≡ 1 = times-keep i (λ j. ending (waitOf (task (v .body) j .state))) (ids (length (v .body .tasks))) ∙ rw e (times-ids i (length (v .body .tasks)) r) in
-        absurd (omega (arith, sym z ∙ k))
+-- those whose wait ends are all listed
+ends-come : (b : Body) → Ending b (endings b)
+ends-come b i e z =
+    let r : In i (length (b .tasks)) = tested (λ t. ending (waitOf (t .state))) (b .tasks) i nobody refl e in
+    let k : times i (endings b) ≡ 1 = times-keep i (λ j. ending (waitOf (task b j .state))) (ids (length (b .tasks))) ∙ rw e (times-ids i (length (b .tasks)) r) in
+    absurd (omega (arith, sym z ∙ k))
 
 -- ---- the calls on tasks
 
@@ -324,66 +297,74 @@ module _ (v : View) (h : Sound v) where
   abbrev s : SoundBody (v .body)
   s = h .body
 
+  starting-fine : (i : ℕ) → Fine b (starting b i)
+  unfolding starting
+  starting-fine i = acts-check _ tt (λ e. on-acts (tt, tt))
+
   sta-fine : (a : ℤ) → Fine b (sta-tsk v a)
   unfolding sta-tsk
-  sta-fine a = fine-check _ (λ e. fine (tt, tt))
+  sta-fine a = starting-fine (nat a)
 
   ext-fine : (me : ℕ) → Fine b (ext-tsk me)
   unfolding ext-tsk
-  ext-fine me = fine (tt, tt)
+  ext-fine me = on-acts (tt, tt)
 
   ter-fine : (a : ℤ) → Fine b (ter-tsk a)
   unfolding ter-tsk
-  ter-fine a = fine (tt, tt)
+  ter-fine a = on-acts (tt, tt)
 
   chg-fine : (a p : ℤ) → In (nat p) (b .store .priorities) → isDormant (stateOf v a) ≡ false → Fine b (chg-pri a p)
   unfolding chg-pri
-  chg-fine a p r d = fine ((r, d), tt)
+  chg-fine a p r d = on-acts ((r, d), tt)
 
   rot-fine : (a : ℤ) → Fine b (rot-rdq v a)
   unfolding rot-rdq
-  rot-fine a = fine-first (λ e. fine tt) (λ x. fine (tt, tt))
+  rot-fine a = acts-first (λ e. on-acts tt) (λ x m e. on-acts (tt, tt))
 
   rel-fine : (a : ℤ) → Fine b (rel-wai v a)
   unfolding rel-wai
-  rel-fine a = fine-check _ (λ e. fine (inr (inr refl, refl), tt))
+  rel-fine a = acts-check _ tt (λ e. on-acts (inr (inr refl, refl), tt))
 
   sus-fine : (a : ℤ) → Fine b (sus-tsk v a)
   unfolding sus-tsk
-  sus-fine a = fine-check _ (λ e. fine (tt, tt))
+  sus-fine a = acts-check _ tt (λ e. on-acts (tt, tt))
 
   rsm-fine : (a : ℤ) → Fine b (rsm-tsk v a)
   unfolding rsm-tsk
-  rsm-fine a = fine-check _ (λ e. fine (tt, tt))
+  rsm-fine a = acts-check _ tt (λ e. on-acts (tt, tt))
 
   -- a sleeper has no wake-up stored
   wakeup-fine : (me : ℕ) (r : Verdict) → (task b me .wakeups ≡ 0 → Fine b r) → Fine b (take-wakeup v me r)
   unfolding take-wakeup
-  wakeup-fine me r f = fine-count f (λ k e. fine ((omega (arith, wakeups-few b s me), λ t. absurd (stored-awake b s me k e .0 t), λ t. absurd (stored-awake b s me k e .1 t)), tt))
+  wakeup-fine me r f = acts-count f (λ k e. on-acts ((omega (arith, wakeups-few b s me), λ t. absurd (stored-awake b s me k e .0 t), λ t. absurd (stored-awake b s me k e .1 t)), tt))
 
   slp-fine : (me : ℕ) → Fine b (slp-tsk v me)
   unfolding slp-tsk
-  slp-fine me = wakeup-fine me _ (λ e. fine (λ r. (tt, tt, λ t. e), tt))
+  slp-fine me = wakeup-fine me _ (λ e. on-acts (λ r. (tt, tt, λ t. e), tt))
 
   for-fine : (me : ℕ) (a : ℤ) → Word a → task b me .wakeups ≡ 0 → Fine b (wai-for me a)
   unfolding wai-for
-  for-fine me (pos zero) w e = fine tt
-  for-fine me (pos (suc t)) w e = fine (λ r. ((omega arith, omega arith), tt, λ t. e), tt)
-  for-fine me (negsuc t) w e = fine (λ r. (tt, tt, λ t. e), tt)
+  for-fine me (pos zero) w e = on-acts tt
+  for-fine me (pos (suc t)) w e = on-acts (λ r. ((omega arith, omega arith), tt, λ t. e), tt)
+  for-fine me (negsuc t) w e = on-acts (λ r. (tt, tt, λ t. e), tt)
 
   wai-fine : (me : ℕ) (a : ℤ) → Word a → Fine b (wai-tsk v me a)
   unfolding wai-tsk
   wai-fine me a w = wakeup-fine me _ (for-fine me a w)
 
+  waking-fine : (i : ℕ) → isDormant (task b i .state) ≡ false → Fine b (waking b i)
+  unfolding waking
+  waking-fine i d =
+      acts-choose (λ t. on-acts (inl (refl, lit< tt), tt))
+      (λ t. acts-check _ tt (λ k. on-acts ((omega (arith, leb-false 15 (task b i .wakeups) k), λ x. absurd (false≢true (sym d ∙ x)), λ x. absurd (false≢true (sym t ∙ x))), tt)))
+
   wup-fine : (a : ℤ) → isDormant (stateOf v a) ≡ false → Fine b (wup-tsk v a)
   unfolding wup-tsk
-  wup-fine a d =
-      fine-choose (λ t. fine (inl (refl, lit< tt), tt))
-      (λ t. fine-check _ (λ k. fine ((omega (arith, leb-false 15 (task b (nat a) .wakeups) k), λ x. absurd (false≢true (sym d ∙ x)), λ x. absurd (false≢true (sym t ∙ x))), tt)))
+  wup-fine a d = waking-fine (nat a) d
 
   can-fine : (a : ℤ) → Fine b (can-wup v a)
   unfolding can-wup
-  can-fine a = fine ((omega arith, λ x. refl, λ x. refl), tt)
+  can-fine a = on-acts ((omega arith, λ x. refl, λ x. refl), tt)
 
 -- ---- the calls on objects
 
@@ -395,39 +376,39 @@ module _ (v : View) (h : Sound v) (a : ℤ) where
   -- the first waiter is served; if there is none, nobody waits
   first-fine : (k : Kind) (w : ℕ) (r : Verdict) → There k → w < 2 ^ 32 → (NoneAt (v .body) k (nat a) → Fine (v .body) r) → Fine (v .body) (to-first v k a w r)
   unfolding to-first
-  first-fine k w r i z f = fine-first (λ e. f (none-waits v h k (nat a) i e)) (λ x. fine (inl (refl, z), tt))
+  first-fine k w r i z f = acts-first (λ e. f (none-waits v h k (nat a) i e)) (λ x m e. on-acts (inl (refl, z), tt))
 
   -- a caller whom the object would not serve may wait on it
   waits-fine : (me : ℕ) (k : Kind) (p m : ℕ) → There k → WishNumbers k p m → would-serve (v .body .store) k (nat a) p m ≡ false → Fine (v .body) (waits me (on k (nat a) p m))
-  waits-fine me k p m i w n = fine (λ r. ((i, w), n, λ t. absurd (false≢true t)), tt)
+  waits-fine me k p m i w n = on-acts (λ r. ((i, w), n, λ t. absurd (false≢true t)), tt)
 
   sig-fine : There semaphore → Fine (v .body) (sig-sem v a)
   unfolding sig-sem
-  sig-fine i = first-fine semaphore 0 _ i (lit< tt) (λ n. fine-check _ (λ k. fine ((omega (arith, leb-false 65535 (countOf v a) k), inr n), tt)))
+  sig-fine i = first-fine semaphore 0 _ i (lit< tt) (λ n. acts-check _ tt (λ k. on-acts ((omega (arith, leb-false 65535 (countOf v a) k), inr n), tt)))
 
   sem-fine : (r : Verdict) → There semaphore → (countOf v a ≡ 0 → Fine (v .body) r) → Fine (v .body) (take-sem v a r)
   unfolding take-sem
   sem-fine r i f =
-      fine-count f (λ k e. fine (
+      acts-count f (λ k e. on-acts (
         (
           omega (arith, h .body .store .semaphores (nat a) i),
-          inr (none-by (v .body) (h .body) semaphore (nat a) (λ p m g. omega (arith, eqb-true (countOf v a) 0 (not-false _ g)))),
+          inr (none-by (v .body) (h .body) (h .unserved) semaphore (nat a) (λ p m g. omega (arith, eqb-true (countOf v a) 0 (not-false _ g)))),
         ),
         tt,
       ))
 
   -- who waits on the flag
   flag-asks : (i p m : ℕ) → Asks (v .body) i flag (nat a) p m → (p ≢ 0) × (met (patternOf v a) p m ≡ false)
-  flag-asks i p m w = let g = asks-well (v .body) (h .body) i flag (nat a) p m w in (g .0 .0, g .1)
+  flag-asks i p m w = let g = asks-well (v .body) (h .body) (h .unserved) i flag (nat a) p m w in (g .0 .0, g .1)
 
   clr-fine : (p : ℤ) → There flag → Fine (v .body) (clr-flg v a p)
   unfolding clr-flg
-  clr-fine p i = fine ((omega (arith, and-le-l (patternOf v a) (bits p), h .body .store .flags (nat a) i), λ j y m w. met-less (patternOf v a) (bits p) y m (flag-asks j y m w .1)), tt)
+  clr-fine p i = on-acts ((omega (arith, and-le-l (patternOf v a) (bits p), h .body .store .flags (nat a) i), λ j y m w. met-less (patternOf v a) (bits p) y m (flag-asks j y m w .1)), tt)
 
   flg-fine : (p m : ℤ) (r : Verdict) → There flag → (met (patternOf v a) (bits p) (nat m) ≡ false → Fine (v .body) r) → Fine (v .body) (take-flg v a p m r)
   unfolding take-flg
   flg-fine p m r i f =
-      fine-choose (λ t. fine (
+      acts-choose (λ t. on-acts (
         (
           left-small (patternOf v a) (nat m) (h .body .store .flags (nat a) i),
           λ j y k w. left-unmet (patternOf v a) y k (nat m) (flag-asks j y k w .0) (flag-asks j y k w .1),
@@ -438,7 +419,7 @@ module _ (v : View) (h : Sound v) (a : ℤ) where
   set-fine : (p : ℤ) → Word p → There flag → Fine (v .body) (set-flg v a p)
   unfolding set-flg belongs
   set-fine p w i =
-      fine (serve-steps (v .body) (nat a) (v .body) _ (line v (waiters flag (nat a)))
+      on-acts (serve-steps (v .body) (nat a) (v .body) _ (line v (waiters flag (nat a)))
       (or-lt 32 (patternOf v a) (bits p) (h .body .store .flags (nat a) i) (bits-small p w))
       (λ j y m w. (w, flag-asks j y m w .0, inl (λ e. absurd (omega (arith, sym e ∙ stands j y m w))))))
     where
@@ -447,19 +428,19 @@ module _ (v : View) (h : Sound v) (a : ℤ) where
 
   snd-fine : (j : ℤ) → Word j → There mailbox → Fine (v .body) (snd-msg v a j)
   unfolding snd-msg
-  snd-fine j w i = fine-check _ (λ e. first-fine mailbox (nat j) _ i (nat-small j w) (λ n. fine ((i, n), tt)))
+  snd-fine j w i = acts-check _ tt (λ e. first-fine mailbox (nat j) _ i (nat-small j w) (λ n. on-acts ((i, n), tt)))
 
   msg-fine : (r : Verdict) → There mailbox → (anyLies (v .body .store .messages) (nat a) ≡ false → Fine (v .body) r) → Fine (v .body) (take-msg v a r)
   unfolding take-msg belongs
-  msg-fine r i f = fine-first (λ e. f (nowhere-lies (v .body .store .messages) (nat a) (empty-belongs v h (mail (nat a)) i e))) (λ x. fine (tt, tt))
+  msg-fine r i f = acts-first (λ e. f (nowhere-lies (v .body .store .messages) (nat a) (empty-belongs v h (mail (nat a)) i e))) (λ x m e. on-acts (tt, tt))
 
   blk-fine : (r : Verdict) → (free (blocksOf v a) ≡ 0 → Fine (v .body) r) → Fine (v .body) (take-blk v a r)
   unfolding take-blk
-  blk-fine r f = fine-count (λ e. f (lowest-none 0 (blocksOf v a) e)) (λ k e. fine (inl refl, tt))
+  blk-fine r f = acts-count (λ e. f (lowest-none 0 (blocksOf v a) e)) (λ k e. on-acts (inl refl, tt))
 
   ret-fine : (k : ℤ) → Word k → There pool → Fine (v .body) (rel-blk v a k)
   unfolding rel-blk
-  ret-fine k w i = fine-check _ (λ e. first-fine pool (nat k) _ i (nat-small k w) (λ n. fine (inr n, tt)))
+  ret-fine k w i = acts-check _ tt (λ e. first-fine pool (nat k) _ i (nat-small k w) (λ n. on-acts (inr n, tt)))
 
 -- ---- the table
 
@@ -473,54 +454,50 @@ module _ (v : View) (h : Sound v) (x : Bool) (a p c : ℤ) (wa : Word a) (wp : W
   wish-well : eqb (bits p) 0 ≡ false → above c 3 ≡ false → WishNumbers flag (bits p) (nat c)
   wish-well z m = (eqb-false (bits p) 0 z, bits-small p wp, mode-small c m)
 
-  all-rows : AllRows (FineAt (v .body)) Any (unacted (v .body)) v x me a 1 (table v me a p c)
-  unfolding table get-tid tsk-sts obj-sts get-tim
+  all-rows : AllRows (λ n r. Fine (v .body) r) v x me 1 (table v me a p c)
+  unfolding table staTsk extTsk terTsk chgPri rotRdq relWai susTsk rsmTsk slpTsk waiTsk wupTsk canWup sigSem waiSem preqSem setFlg clrFlg waiFlg polFlg sndMsg rcvMsg prcvMsg getBlk pgetBlk relBlk getTid tskSts semSts flgSts mbxSts mplSts getTim get-tid tsk-sts obj-sts get-tim
   all-rows =
-      ((tt, tt), λ w e t d. sta-fine v h a)
-      ⊗ (tt, λ w e t d. ext-fine v h me)
-      ⊗ ((tt, tt), λ w e t d. ter-fine v h a)
-      ⊗ ((tt, (tt, tt)), λ w e t d. chg-fine v h a p (in-by p _ (w .1 .0)) d)
-      ⊗ ((tt, tt), λ w e t d. rot-fine v h a)
-      ⊗ ((tt, tt), λ w e t d. rel-fine v h a)
-      ⊗ ((tt, tt), λ w e t d. sus-fine v h a)
-      ⊗ ((tt, tt), λ w e t d. rsm-fine v h a)
-      ⊗ (tt, λ w e t d. slp-fine v h me)
-      ⊗ ((tt, tt), λ w e t d. wai-fine v h me a wa)
-      ⊗ ((tt, tt), λ w e t d. wup-fine v h a d)
-      ⊗ ((tt, tt), λ w e t d. can-fine v h a)
-      ⊗ ((tt, tt), λ w e t d. sig-fine v h a (here semaphore (w .0)))
-      ⊗ ((tt, tt), λ w e t d. sem-fine v h a _ (here semaphore (w .0)) (λ z. waits-fine v h a me semaphore 0 0 (here semaphore (w .0)) (refl, refl) (ap not (eq-eqb _ 0 z))))
-      ⊗ ((tt, tt), λ w e t d. sem-fine v h a _ (here semaphore (w .0)) (λ z. fine tt))
-      ⊗ ((tt, tt), λ w e t d. set-fine v h a p wp (here flag (w .0)))
-      ⊗ ((tt, tt), λ w e t d. clr-fine v h a p (here flag (w .0)))
-      ⊗ ((tt, (tt, (tt, tt))), λ w e t d. flg-fine v h a p c _ (here flag (w .0)) (λ u. waits-fine v h a me flag (bits p) (nat c) (here flag (w .0)) (wish-well (w .1 .0) (w .1 .1 .0)) u))
-      ⊗ ((tt, (tt, (tt, tt))), λ w e t d. flg-fine v h a p c _ (here flag (w .0)) (λ u. fine tt))
-      ⊗ ((tt, (tt, tt)), λ w e t d. snd-fine v h a p wp (here mailbox (w .0)))
-      ⊗ ((tt, tt), λ w e t d. msg-fine v h a _ (here mailbox (w .0)) (λ n. waits-fine v h a me mailbox 0 0 (here mailbox (w .0)) (refl, refl) n))
-      ⊗ ((tt, tt), λ w e t d. msg-fine v h a _ (here mailbox (w .0)) (λ n. fine tt))
-      ⊗ ((tt, tt), λ w e t d. blk-fine v h a _ (λ z. waits-fine v h a me pool 0 0 (here pool (w .0)) (refl, refl) (ap not (eq-eqb _ 0 z))))
-      ⊗ ((tt, tt), λ w e t d. blk-fine v h a _ (λ z. fine tt))
-      ⊗ ((tt, tt), λ w e t d. ret-fine v h a p wp (here pool (w .0)))
-      ⊗ (tt, λ w e t d. fine tt)
-      ⊗ ((tt, tt), λ w e t d. fine tt)
-      ⊗ ((tt, tt), λ w e t d. fine tt)
-      ⊗ ((tt, tt), λ w e t d. fine tt)
-      ⊗ ((tt, tt), λ w e t d. fine tt)
-      ⊗ ((tt, tt), λ w e t d. fine tt)
-      ⊗ (tt, λ w e t d. fine tt)
+      (λ t. sta-fine v h a)
+      ⊗ (λ t. ext-fine v h me)
+      ⊗ (λ t. ter-fine v h a)
+      ⊗ (λ t. chg-fine v h a p (in-by p _ (t .words .1 .0)) (t .dormant))
+      ⊗ (λ t. rot-fine v h a)
+      ⊗ (λ t. rel-fine v h a)
+      ⊗ (λ t. sus-fine v h a)
+      ⊗ (λ t. rsm-fine v h a)
+      ⊗ (λ t. slp-fine v h me)
+      ⊗ (λ t. wai-fine v h me a wa)
+      ⊗ (λ t. wup-fine v h a (t .dormant))
+      ⊗ (λ t. can-fine v h a)
+      ⊗ (λ t. sig-fine v h a (here semaphore (t .words .0)))
+      ⊗ (λ t. sem-fine v h a _ (here semaphore (t .words .0)) (λ z. waits-fine v h a me semaphore 0 0 (here semaphore (t .words .0)) (refl, refl) (ap not (eq-eqb _ 0 z))))
+      ⊗ (λ t. sem-fine v h a _ (here semaphore (t .words .0)) (λ z. on-acts tt))
+      ⊗ (λ t. set-fine v h a p wp (here flag (t .words .0)))
+      ⊗ (λ t. clr-fine v h a p (here flag (t .words .0)))
+      ⊗ (λ t. flg-fine v h a p c _ (here flag (t .words .0)) (λ u. waits-fine v h a me flag (bits p) (nat c) (here flag (t .words .0)) (wish-well (t .words .1 .0) (t .words .1 .1 .0)) u))
+      ⊗ (λ t. flg-fine v h a p c _ (here flag (t .words .0)) (λ u. on-acts tt))
+      ⊗ (λ t. snd-fine v h a p wp (here mailbox (t .words .0)))
+      ⊗ (λ t. msg-fine v h a _ (here mailbox (t .words .0)) (λ n. waits-fine v h a me mailbox 0 0 (here mailbox (t .words .0)) (refl, refl) n))
+      ⊗ (λ t. msg-fine v h a _ (here mailbox (t .words .0)) (λ n. on-acts tt))
+      ⊗ (λ t. blk-fine v h a _ (λ z. waits-fine v h a me pool 0 0 (here pool (t .words .0)) (refl, refl) (ap not (eq-eqb _ 0 z))))
+      ⊗ (λ t. blk-fine v h a _ (λ z. on-acts tt))
+      ⊗ (λ t. ret-fine v h a p wp (here pool (t .words .0)))
+      ⊗ (λ t. on-acts tt)
+      ⊗ (λ t. on-acts tt)
+      ⊗ (λ t. on-acts tt)
+      ⊗ (λ t. on-acts tt)
+      ⊗ (λ t. on-acts tt)
+      ⊗ (λ t. on-acts tt)
+      ⊗ (λ t. on-acts tt)
       ⊗ tt
 
 -- ---- an event
 
-judge-fine : (v : View) (e : Event) → Sound v → Words e → Fine (v .body) (judge v e)
-unfolding judge
-judge-fine v tick h w = tick-fine v
-judge-fine v (call x n a p c) h w =
-    by-call (FineAt (v .body)) Any (unacted (v .body)) v a p c tt tt tt tt (λ y. all-rows v h y a p c (w .2) (w .3)) x n
-
 -- each act of an event finds what it needs
 pub steps-of-judge : (v : View) (e : Event) → Sound v → Words e → Steps (v .body) (judge v e .acts)
-steps-of-judge v e h w = steps-of (judge-fine v e h w)
+unfolding judge ticked
+steps-of-judge v tick h w = tick-steps (v .body) (endings (v .body)) (ends-come (v .body))
+steps-of-judge v (call x n a p c) h w = acts-call (Steps (v .body)) tt v a p c (λ y. all-rows v h y a p c (w .2) (w .3)) x n
 
 -- every event keeps a sound state sound
 pub sound-next : (v : View) (e : Event) → Sound v → Words e → Sound (next v e)

@@ -8,12 +8,13 @@ use Prim.Native.Nat.{ℕ, zero, suc}
 use lib.ListN.{getD, set}
 use Rattle.rules.specs.Ids.{of, put}
 use Rattle.rules.specs.Codes.{Code, OK}
-use Rattle.rules.specs.State.{asleep, timed, on, State, dormant, ready, suspended, waiting, waiting-suspended, Task, Body, task, nobody, waitOf, wish, isDormant, isWaiting, isFreed}
+use Rattle.rules.specs.State.{State, dormant, ready, suspended, waiting, waiting-suspended, Task, Body, task, nobody, waitOf, wish, isDormant, isWaiting, isFreed}
 use Rattle.rules.specs.Acts.{Act, start, retire, rotate, regrade, wait, release, suspend, resume, wakeups, count, pattern, post, receive, mark, elapse, change, started, retired, freed, releasedTask, halted, resumed, older, with-state, with-priority, with-wakeups, after, afters}
 use Rattle.rules.specs.View.{View, act, acts}
 use Rattle.rules.specs.Objects.{met, left, serve-flag}
 use Rattle.rules.specs.Time.{timeout}
 use Rattle.rules.specs.Broken.{isFresh}
+use Rattle.rules.proofs.States.{waiting-tells, older-same}
 
 -- ---- what an act makes of each task, task by task
 
@@ -65,18 +66,11 @@ pub data Mild (t u : Task) : Type 0 where
 pub mild-same : (t : Task) → Mild t t
 mild-same t = untouched refl refl refl
 
-waiting-not-freed : (s : State) → isWaiting s ≡ true → isFreed s ≡ true → ⊥
-waiting-not-freed dormant e f = false≢true e
-waiting-not-freed ready e f = false≢true e
-waiting-not-freed suspended e f = false≢true e
-waiting-not-freed (waiting w) e f = false≢true f
-waiting-not-freed (waiting-suspended w) e f = false≢true f
-
 pub mild-then : {t u w : Task} → Mild t u → Mild u w → Mild t w
 mild-then (untouched a b c) (untouched a′ b′ c′) = untouched (a′ ∙ a) (b′ ∙ b) (c′ ∙ c)
 mild-then (untouched a b c) (let-go x y) = let-go (sym b ∙ x) y
 mild-then (let-go x y) (untouched a b c) = let-go x (c ∙ y)
-mild-then {u} (let-go x y) (let-go x′ y′) = absurd (waiting-not-freed (u .state) x′ y)
+mild-then {u} (let-go x y) (let-go x′ y′) = absurd (false≢true (sym (waiting-tells (u .state) x′ .1) ∙ y))
 
 mild-kept : {t u : Task} → Mild t u → Kept t u
 mild-kept (untouched a b c) = inl a
@@ -98,19 +92,8 @@ released-mild c w t = go (t .state) refl
     go (waiting x) e = gone (rw e) (rw e)
     go (waiting-suspended x) e = gone (rw e) (rw e)
 
-pub older-same : (s : State) → (isWaiting (older s) ≡ isWaiting s) × (isFreed (older s) ≡ isFreed s)
-older-same dormant = (refl, refl)
-older-same ready = (refl, refl)
-older-same suspended = (refl, refl)
-older-same (waiting asleep) = (refl, refl)
-older-same (waiting (timed n)) = (refl, refl)
-older-same (waiting (on k o p m)) = (refl, refl)
-older-same (waiting-suspended asleep) = (refl, refl)
-older-same (waiting-suspended (timed n)) = (refl, refl)
-older-same (waiting-suspended (on k o p m)) = (refl, refl)
-
 older-mild : (t : Task) → Mild t (with-state (older (t .state)) t)
-older-mild t = untouched refl (older-same (t .state) .0) (older-same (t .state) .1)
+older-mild t = untouched refl (older-same (t .state) .waiting) (older-same (t .state) .freed)
 
 -- the acts of which a list may be made
 pub data Gentle : Act → Type 0 where

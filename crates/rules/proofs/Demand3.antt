@@ -13,7 +13,7 @@ use Rattle.rules.specs.State.{pool, Body}
 use Rattle.rules.specs.Setup.{got, setup, Entry, Setup}
 use Rattle.rules.specs.Places.{tabulate}
 use Rattle.rules.specs.Events.{Event, AllWords}
-use Rattle.rules.specs.Acts.{Act, start, retire, rotate, regrade, wait, release, suspend, resume, wakeups, count, pattern, post, receive, mark, elapse, after, afters}
+use Rattle.rules.specs.Acts.{start, after, afters}
 use Rattle.rules.specs.View.{View, acts}
 use Rattle.rules.specs.Table.{judge}
 use Rattle.rules.specs.Answers.{answer, readCell}
@@ -22,33 +22,13 @@ use Rattle.rules.specs.Kernel.{idle, starts, fresh, next, served, event}
 use Rattle.rules.specs.Plain.{Plain, viewOf, plainFresh, plainNext, plainAnswer}
 use Rattle.rules.specs.Blocks.{isFree, Happened, granted, gaveBack, grants, returns, Accounted}
 use Rattle.rules.specs.Demand3.{Agree, Alike, happened, Demand3}
-use Rattle.rules.proofs.Ids.{length-put, of-put-test, of-replicate}
-use Rattle.rules.proofs.Lines.{objects-after}
+use Rattle.rules.proofs.Ids.{of-replicate}
+use Rattle.rules.proofs.Sizes.{SameSizes, sizes-afters}
 use Rattle.rules.proofs.Agree.{Numbers, fresh-shows, numbers-fresh, next-shows, numbers-next, same-answer}
 use Rattle.rules.proofs.Blocks.{event-balance}
 use Rattle.rules.proofs.Cells.{body-acts}
 use Rattle.rules.proofs.Clean.{judge-not-state}
 use Rattle.rules.proofs.Events.{event-served, event-next, cell-reads, sound-event, fresh-sound}
-
--- ---- the pools keep their sizes
-
-pools-act : (a : Act) (b : Body) (p : ℕ) → length (of (after a b .store .pools) p []) ≡ length (of (b .store .pools) p [])
-unfolding after
-pools-act (start i) b p = refl
-pools-act (retire i) b p = refl
-pools-act (rotate i) b p = refl
-pools-act (regrade i n) b p = refl
-pools-act (wait i w) b p = refl
-pools-act (release i c w) b p = refl
-pools-act (suspend i) b p = refl
-pools-act (resume i) b p = refl
-pools-act (wakeups i n) b p = refl
-pools-act (count s n) b p = refl
-pools-act (pattern f n) b p = refl
-pools-act (post j m) b p = refl
-pools-act (receive j) b p = refl
-pools-act (mark q k t) b p = of-put-test length (b .store .pools) q p _ [] (length-put (of (b .store .pools) q []) k t)
-pools-act elapse b p = refl
 
 -- ---- the ledger of one block: its grants are its returns, and one more if it is out
 
@@ -62,11 +42,6 @@ accounted past b p k h = go (isFree b p k) refl h
     go : (t : Bool) → isFree b p k ≡ t → grants past p k ≡ returns past p k + once (not t) → Accounted past b p k
     go true e h = record { out = (λ c. absurd (false≢true (sym c ∙ e)), λ c. absurd (omega arith)); free = (λ c. omega arith, λ c. e) }
     go false e h = record { out = (λ c. omega arith, λ c. e); free = (λ c. absurd (false≢true (sym e ∙ c)), λ c. absurd (omega arith)) }
-
-pools-acts : (l : List Act) (b : Body) (p : ℕ) → (length (of (afters l b .store .pools) p []) ≡ length (of (b .store .pools) p [])) × (length (afters l b .store .pools) ≡ length (b .store .pools))
-unfolding afters
-pools-acts [] b p = (refl, refl)
-pools-acts (a ∷ l) b p = let r = pools-acts l (after a b) p in (r .0 ∙ pools-act a b p, r .1 ∙ objects-after a b pool)
 
 -- the ledgers of all blocks
 abbrev Ledgers : List Happened → Body → Type 0
@@ -87,14 +62,14 @@ module _ (s : Plain) (e : Event) (n : Numbers s) (g : Sound (viewOf s)) where
   unfolding Ledger grants returns
   ledgers-next past h p rp k rk = omega (arith, plain-balance p k was-pool was-block, h p was-pool k was-block)
     where
-      sizes : (length (of (plainNext s e .body .store .pools) p []) ≡ length (of (s .body .store .pools) p [])) × (length (plainNext s e .body .store .pools) ≡ length (s .body .store .pools))
-      sizes = rw body-next (pools-acts (judge (viewOf s) e .acts) (s .body) p)
+      sizes : SameSizes (s .body) (plainNext s e .body)
+      sizes = rw body-next (sizes-afters (judge (viewOf s) e .acts) (s .body))
 
       was-pool : In p (length (s .body .store .pools))
-      was-pool = rw (sizes .1) at rp
+      was-pool = rw (sizes .objects pool) at rp
 
       was-block : In k (length (of (s .body .store .pools) p []))
-      was-block = rw (sizes .0) at rk
+      was-block = rw (sizes .blocks p) at rk
 
 -- ---- a run
 

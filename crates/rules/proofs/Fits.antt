@@ -5,13 +5,14 @@ use mathlib.Core.Option.{Option, none, some}
 use mathlib.Core.Path.{_≡_, refl, sym, ap}
 use Prim.Native.Nat.{ℕ}
 use lib.Dec.{eqb}
-use lib.ListN.{length, length-map}
 use Rattle.rules.specs.Ids.{of, In}
 use Rattle.rules.specs.Codes.{Code}
-use Rattle.rules.specs.State.{Kind, Wait, asleep, timed, on, State, dormant, ready, suspended, waiting, waiting-suspended, Task, Body, task, nobody, isReady, isWaiting}
-use Rattle.rules.specs.Places.{Place, readyAt, waiters, mail, aTask, aMessage, item, same, many, belongs, awaits, lies}
+use Rattle.rules.specs.State.{Kind, Wait, State, dormant, ready, suspended, waiting, waiting-suspended, Task, Body, task, nobody, isReady, isWaiting}
+use Rattle.rules.specs.Places.{Place, readyAt, waiters, mail, Sort, tasks, messages, aTask, aMessage, item, same, population, many, belongs, awaits, lies}
 use Rattle.rules.specs.Acts.{Act, start, retire, rotate, regrade, wait, release, suspend, resume, wakeups, count, pattern, post, receive, mark, elapse, after, Move, stay, leave, last, move, change, started, retired, releasedTask, halted, resumed, older, with-state, with-priority, with-wakeups, releasedMove, haltedMove, resumedMove, regradedMove}
-use Rattle.rules.proofs.Ids.{length-put, of-put-other, of-put-test, put-gone, of-map, tested}
+use Rattle.rules.proofs.Sizes.{sizes-after}
+use Rattle.rules.proofs.States.{older-same}
+use Rattle.rules.proofs.Ids.{of-put-other, of-put-test, put-gone, of-map, tested}
 
 -- what a move says of who belongs where, before and after
 abbrev pub Fits : Body → Body → Move → Type 0
@@ -131,32 +132,10 @@ receive-fits j b (readyAt p) i = sym (and-true _)
 receive-fits j b (waiters k o) i = sym (and-true _)
 receive-fits j b (mail n) i = put-gone (λ x. lies x n) (b .store .messages) j i none none refl refl
 
-older-ready : (s : State) → isReady (older s) ≡ isReady s
-older-ready dormant = refl
-older-ready ready = refl
-older-ready suspended = refl
-older-ready (waiting asleep) = refl
-older-ready (waiting (timed t)) = refl
-older-ready (waiting (on k o p m)) = refl
-older-ready (waiting-suspended asleep) = refl
-older-ready (waiting-suspended (timed t)) = refl
-older-ready (waiting-suspended (on k o p m)) = refl
-
-pub older-awaits : (s : State) (k : Kind) (o : ℕ) → awaits (older s) k o ≡ awaits s k o
-older-awaits dormant k o = refl
-older-awaits ready k o = refl
-older-awaits suspended k o = refl
-older-awaits (waiting asleep) k o = refl
-older-awaits (waiting (timed t)) k o = refl
-older-awaits (waiting (on k′ o′ p m)) k o = refl
-older-awaits (waiting-suspended asleep) k o = refl
-older-awaits (waiting-suspended (timed t)) k o = refl
-older-awaits (waiting-suspended (on k′ o′ p m)) k o = refl
-
 elapse-fits : (b : Body) → Fits b (after elapse b) stay
 unfolding belongs after
-elapse-fits b (readyAt p) i = rw (of-map (λ t. with-state (older (t .state)) t) (b .tasks) i nobody refl, older-ready)
-elapse-fits b (waiters k o) i = rw (of-map (λ t. with-state (older (t .state)) t) (b .tasks) i nobody refl) (older-awaits (task b i .state) k o)
+elapse-fits b (readyAt p) i = rw (of-map (λ t. with-state (older (t .state)) t) (b .tasks) i nobody refl, older-same (task b i .state) .ready)
+elapse-fits b (waiters k o) i = rw (of-map (λ t. with-state (older (t .state)) t) (b .tasks) i nobody refl) (older-same (task b i .state) .awaits k o)
 elapse-fits b (mail m) i = refl
 
 pub fits : (a : Act) (b : Body) → Fits b (after a b) (move b a)
@@ -179,53 +158,13 @@ fits elapse b = elapse-fits b
 
 -- ---- no task and no message comes into being, and whoever belongs to a queue is there
 
-many-by : (b c : Body) → length (c .tasks) ≡ length (b .tasks) → length (c .store .messages) ≡ length (b .store .messages) → (q : Place) → many c q ≡ many b q
-unfolding many
-many-by b c t l (readyAt p) = t
-many-by b c t l (waiters k o) = t
-many-by b c t l (mail m) = l
-
-pub tasks-after : (a : Act) (b : Body) → length (after a b .tasks) ≡ length (b .tasks)
-unfolding after
-tasks-after (start i) b = length-put (b .tasks) i _
-tasks-after (retire i) b = length-put (b .tasks) i _
-tasks-after (rotate i) b = refl
-tasks-after (regrade i p) b = length-put (b .tasks) i _
-tasks-after (wait i w) b = length-put (b .tasks) i _
-tasks-after (release i c w) b = length-put (b .tasks) i _
-tasks-after (suspend i) b = length-put (b .tasks) i _
-tasks-after (resume i) b = length-put (b .tasks) i _
-tasks-after (wakeups i n) b = length-put (b .tasks) i _
-tasks-after (count s n) b = refl
-tasks-after (pattern f n) b = refl
-tasks-after (post j m) b = refl
-tasks-after (receive j) b = refl
-tasks-after (mark p k t) b = refl
-tasks-after elapse b = length-map (b .tasks) _
-
-pub messages-after : (a : Act) (b : Body) → length (after a b .store .messages) ≡ length (b .store .messages)
-unfolding after
-messages-after (start i) b = refl
-messages-after (retire i) b = refl
-messages-after (rotate i) b = refl
-messages-after (regrade i p) b = refl
-messages-after (wait i w) b = refl
-messages-after (release i c w) b = refl
-messages-after (suspend i) b = refl
-messages-after (resume i) b = refl
-messages-after (wakeups i n) b = refl
-messages-after (count s n) b = refl
-messages-after (pattern f n) b = refl
-messages-after (post j m) b = length-put (b .store .messages) j _
-messages-after (receive j) b = length-put (b .store .messages) j _
-messages-after (mark p k t) b = refl
-messages-after elapse b = refl
-
-pub many-after : (a : Act) (b : Body) (q : Place) → many (after a b) q ≡ many b q
-many-after a b q = many-by b (after a b) (tasks-after a b) (messages-after a b) q
+pub population-after : (a : Act) (b : Body) (t : Sort) → population (after a b) t ≡ population b t
+unfolding population
+population-after a b tasks = sizes-after a b .tasks
+population-after a b messages = sizes-after a b .messages
 
 pub in-range : (b : Body) (q : Place) (i : ℕ) → belongs b q i ≡ true → In i (many b q)
-unfolding belongs many
+unfolding belongs population
 in-range b (readyAt p) i e = tested (λ t. stands t (readyAt p)) (b .tasks) i nobody refl e
 in-range b (waiters k o) i e = tested (λ t. stands t (waiters k o)) (b .tasks) i nobody refl e
 in-range b (mail m) i e = tested (λ x. lies x m) (b .store .messages) i none refl e

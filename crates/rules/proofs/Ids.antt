@@ -154,6 +154,15 @@ unfolding keep
 keep-keep p r [] = refl
 keep-keep p r (x ∷ l) = keep-cond p (r x) x (keep r l) ∙ ap (λ (k : List ℕ). cond (r x && p x) (x ∷ k) k) (keep-keep p r l)
 
+pub keep-append : (p : ℕ → Bool) (l m : List ℕ) → keep p (l ++ m) ≡ keep p l ++ keep p m
+unfolding keep
+keep-append p [] m = refl
+keep-append p (x ∷ l) m = go (p x) (keep-append p l m)
+  where
+    go : (t : Bool) → keep p (l ++ m) ≡ keep p l ++ keep p m → cond t (x ∷ keep p (l ++ m)) (keep p (l ++ m)) ≡ cond t (x ∷ keep p l) (keep p l) ++ keep p m
+    go true e = ap (λ (k : List ℕ). x ∷ k) e
+    go false e = e
+
 pub keep-same : {p r : ℕ → Bool} (l : List ℕ) → ((i : ℕ) → p i ≡ r i) → keep p l ≡ keep r l
 keep-same l h = ap (λ (f : ℕ → Bool). keep f l) (fun-ext h)
 

@@ -1,41 +1,86 @@
 -- What holds of every verdict: it is enough that it holds of each call's rule, once the common refusals have passed, and of the tick.
-use mathlib.Core.Bool.{Bool, true, false}
+use mathlib.Core.Bool.{Bool, true, false, not, _&&_, false≢true}
 use mathlib.Core.List.{List, [], _∷_}
 use mathlib.Core.Option.{Option, none, some}
 use mathlib.Core.Path.{_≡_, refl}
 use Prim.Native.Nat.{ℕ, zero, suc, _+_}
 use native.Mathlib.Omega.{arith}
 use native.Mathlib.Nat.{add-zero}
+use lib.Dec.{eqb}
 use lib.IntN.{ℤ, pos, negsuc}
-use Rattle.rules.specs.Codes.{Code, H-CALL, E-CTX, E-SELF, E-DMT}
-use Rattle.rules.specs.State.{isDormant}
-use Rattle.rules.specs.Events.{call, nat}
+use Rattle.rules.specs.Codes.{Code, H-CALL, number}
+use Rattle.rules.specs.State.{Wait}
+use Rattle.rules.specs.Events.{call}
+use Rattle.rules.specs.Acts.{Act, wait}
 use Rattle.rules.specs.View.{View}
 use Rattle.rules.specs.Verdicts.{Verdict, refuse, check, choose, onFirst, onCount}
-use Rattle.rules.specs.Tasks.{stateOf}
-use Rattle.rules.specs.Table.{Refusal, refusals, Row, misplaced, names-self, names-dormant, judged, table, handler, caller, looked-up, entry, called, judge}
+use Rattle.rules.specs.Tasks.{wai-for}
+use Rattle.rules.specs.Rows.{Refusal, Row, staTsk, extTsk, terTsk, chgPri, rotRdq, relWai, susTsk, rsmTsk, slpTsk, waiTsk, wupTsk, canWup, sigSem, waiSem, preqSem, setFlg, clrFlg, waiFlg, polFlg, sndMsg, rcvMsg, prcvMsg, getBlk, pgetBlk, relBlk, getTid, tskSts, semSts, flgSts, mbxSts, mplSts, getTim}
+use Rattle.rules.specs.Table.{refusals, misplaced, names-self, names-dormant, judged, table, handler, caller, looked-up, entry, numbered, called, judge}
+use Rattle.rules.specs.Blocks.{is, ok}
+use Rattle.rules.proofs.Waits.{both-true}
 
 -- a list of proofs, row by row
 infixr 5 _⊗_
 pub _⊗_ : {A B : Type 0} → A → B → A × B
 x ⊗ y = (x, y)
 
+-- ---- the codes that a call may be refused with: negative, and not H_STATE
+
+abbrev isBad : ℤ → Bool
+isBad (pos n) = false
+isBad (negsuc n) = not (eqb n 8)
+
+unfoldable pub bad : Code → Bool
+unfolding number
+bad c = isBad (number c)
+
+-- such a code is not 0
+pub bad-not-ok : (c : Code) → bad c ≡ true → ok c ≡ false
+unfolding bad ok
+bad-not-ok c = go (number c)
+  where
+    go : (n : ℤ) → isBad n ≡ true → is n 0 ≡ false
+    go (pos n) e = absurd (false≢true e)
+    go (negsuc n) e = refl
+
+abbrev all-bad : List Refusal → Bool
+all-bad [] = true
+all-bad (x ∷ l) = bad (x .code) && all-bad l
+
+abbrev rows-bad : List Row → Bool
+rows-bad [] = true
+rows-bad (r ∷ l) = all-bad (r .words) && rows-bad l
+
+table-bad : (v : View) (me : ℕ) (a b c : ℤ) → rows-bad (table v me a b c) ≡ true
+unfolding table staTsk extTsk terTsk chgPri rotRdq relWai susTsk rsmTsk slpTsk waiTsk wupTsk canWup sigSem waiSem preqSem setFlg clrFlg waiFlg polFlg sndMsg rcvMsg prcvMsg getBlk pgetBlk relBlk getTid tskSts semSts flgSts mbxSts mplSts getTim bad
+table-bad v me a b c = refl
+
+-- ---- the tests that a row has passed
+
 -- none of the reasons applies
 abbrev pub Passed : List Refusal → Type 0
 Passed [] = Unit {0}
 Passed (x ∷ l) = (x .applies ≡ false) × Passed l
 
--- P n r: the verdict r of call n has the property; codes for which a bare refusal has it are Bad
-module _ (P : ℤ → Verdict → Type 0) (Bad : Code → Type 0) (no-way : (n : ℤ) (c : Code) → Bad c → P n (refuse c)) where
-  pub by-check : {n : ℤ} {t : Bool} {c : Code} {r : Verdict} → Bad c → (t ≡ false → P n r) → P n (check t c r)
-  unfolding check
-  by-check {n} {t = true} {c} b h = no-way n c b
-  by-check {t = false} b h = h refl
+pub record Passes (v : View) (h : Bool) (me : ℕ) (r : Row) : Type 0 where
+  pub words : Passed (r .words)
+  pub context : misplaced (r .context) h me ≡ false
+  pub self : names-self (r .target) me ≡ false
+  pub dormant : names-dormant (v .body) (r .target) ≡ false
 
-  pub by-choose : {n : ℤ} {t : Bool} {r s : Verdict} → (t ≡ true → P n r) → (t ≡ false → P n s) → P n (choose t r s)
-  unfolding choose
-  by-choose {t = true} h k = h refl
-  by-choose {t = false} h k = k refl
+-- each rule from number k on has the property P, once its row's tests have passed
+abbrev pub AllRows : (ℤ → Verdict → Type 0) → View → Bool → ℕ → ℕ → List Row → Type 0
+AllRows P v h me k [] = Unit {0}
+AllRows P v h me k (r ∷ l) = (Passes v h me r → P (pos k) (r .rule)) × AllRows P v h me (suc k) l
+
+-- ---- P n r: the verdict r of call n has the property; a bare refusal has it
+
+module _ (P : ℤ → Verdict → Type 0) (no-way : (n : ℤ) (c : Code) → bad c ≡ true → P n (refuse c)) where
+  pub by-check : {n : ℤ} {t : Bool} {r : Verdict} (c : Code) → bad c ≡ true → (t ≡ false → P n r) → P n (check t c r)
+  unfolding check
+  by-check {n} {t = true} c b h = no-way n c b
+  by-check {t = false} c b h = h refl
 
   pub by-first : {n : ℤ} {l : List ℕ} {r : Verdict} {f : ℕ → Verdict} → (l ≡ [] → P n r) → ((x : ℕ) (m : List ℕ) → l ≡ x ∷ m → P n (f x)) → P n (onFirst l r f)
   unfolding onFirst
@@ -47,53 +92,79 @@ module _ (P : ℤ → Verdict → Type 0) (Bad : Code → Type 0) (no-way : (n :
   by-count {k = zero} h g = h refl
   by-count {k = suc j} h g = g j refl
 
-  abbrev pub Bads : List Refusal → Type 0
-  Bads [] = Unit {0}
-  Bads (x ∷ l) = Bad (x .code) × Bads l
-
-  by-refusals : (n : ℤ) (l : List Refusal) (r : Verdict) → Bads l → (Passed l → P n r) → P n (refusals l r)
+  by-refusals : (n : ℤ) (l : List Refusal) (r : Verdict) → all-bad l ≡ true → (Passed l → P n r) → P n (refusals l r)
   unfolding refusals
   by-refusals n [] r b h = h tt
-  by-refusals n (x ∷ l) r b h = by-check (b .0) (λ e. by-refusals n l r (b .1) (λ p. h (e, p)))
+  by-refusals n (x ∷ l) r b h = let d = both-true (bad (x .code)) (all-bad l) b in by-check (x .code) (d .0) (λ e. by-refusals n l r (d .1) (λ p. h (e, p)))
 
   -- ---- a row, and all rows from number k on
 
-  module _ (v : View) (h : Bool) (me : ℕ) (a : ℤ) where
-    -- the rule has the property, once the words, the context and the target have passed
-    abbrev pub Holds : ℕ → Row → Type 0
-    Holds k r =
-        Bads (r .words)
-        × (Passed (r .words) → misplaced (r .context) h me ≡ false → names-self (r .target) me (nat a) ≡ false
-        → names-dormant (r .target) (isDormant (stateOf v a)) ≡ false → P (pos k) (r .rule))
+  module _ (v : View) (h : Bool) (me : ℕ) where
+    by-row : (k : ℕ) (r : Row) → all-bad (r .words) ≡ true → (Passes v h me r → P (pos k) (r .rule)) → P (pos k) (judged v h me r)
+    unfolding judged bad
+    by-row k r b g =
+        by-refusals (pos k) (r .words) _ b
+        (λ p. by-refusals (pos k) _ (r .rule) refl (λ q. g (record { words = p; context = q .0; self = q .1 .0; dormant = q .1 .1 .0 })))
 
-    abbrev pub AllRows : ℕ → List Row → Type 0
-    AllRows k [] = Unit {0}
-    AllRows k (r ∷ l) = Holds k r × AllRows (suc k) l
-
-    module _ (bc : Bad H-CALL) (bx : Bad E-CTX) (bs : Bad E-SELF) (bd : Bad E-DMT) where
-      by-row : (k : ℕ) (r : Row) → Holds k r → P (pos k) (judged v h me a r)
-      unfolding judged
-      by-row k r g = by-refusals (pos k) (r .words) _ (g .0) (λ p. by-refusals (pos k) _ (r .rule) (bx, (bs, (bd, tt))) (λ q. g .1 p (q .0) (q .1 .0) (q .1 .1 .0)))
-
-      by-entry : (k n : ℕ) (l : List Row) → AllRows k l → P (pos (k + n)) (looked-up v h me a (entry l n))
-      unfolding looked-up
-      by-entry k n [] g = no-way _ H-CALL bc
-      by-entry k zero (r ∷ l) g = rw (add-zero k) (by-row k r (g .0))
-      by-entry k (suc n) (r ∷ l) g = let e : k + suc n ≡ suc k + n = omega arith in rw e (by-entry (suc k) n l (g .1))
+    by-entry : (k n : ℕ) (l : List Row) → rows-bad l ≡ true → AllRows P v h me k l → P (pos (k + n)) (looked-up v h me (entry l n))
+    unfolding looked-up bad
+    by-entry k n [] b g = no-way _ H-CALL refl
+    by-entry k zero (r ∷ l) b g = rw (add-zero k) (by-row k r (both-true (all-bad (r .words)) (rows-bad l) b .0) (g .0))
+    by-entry k (suc n) (r ∷ l) b g =
+        let e : k + suc n ≡ suc k + n = omega arith in
+        rw e (by-entry (suc k) n l (both-true (all-bad (r .words)) (rows-bad l) b .1) (g .1))
 
   -- ---- a call
 
-  module _ (v : View) (a b c : ℤ) (bc : Bad H-CALL) (bx : Bad E-CTX) (bs : Bad E-SELF) (bd : Bad E-DMT)
-      (rows : (h : Bool) → AllRows v h (caller v h) a 1 (table v (caller v h) a b c)) where
-    by-called : (x : Option Bool) (n : ℤ) → P n (called v x n a b c)
-    unfolding called
-    by-called none n = no-way n H-CALL bc
-    by-called (some h) (negsuc n) = no-way _ H-CALL bc
-    by-called (some h) (pos zero) = no-way _ H-CALL bc
-    by-called (some h) (pos (suc n)) =
-        let e : suc n ≡ 1 + n = omega arith in
-        rw e (by-entry v h (caller v h) a bc bx bs bd 1 n (table v (caller v h) a b c) (rows h))
+  module _ (v : View) (a b c : ℤ) where
+    -- by its number, from any context and by anybody
+    pub by-number : (h : Bool) (me : ℕ) → AllRows P v h me 1 (table v me a b c) → (n : ℕ) → P (pos n) (numbered v h me n a b c)
+    unfolding numbered bad
+    by-number h me rows zero = no-way _ H-CALL refl
+    by-number h me rows (suc n) = let e : suc n ≡ 1 + n = omega arith in rw e (by-entry v h me 1 n (table v me a b c) (table-bad v me a b c) rows)
 
-    pub by-call : (x n : ℤ) → P n (judge v (call x n a b c))
+    by-called : ((h : Bool) → AllRows P v h (caller v h) 1 (table v (caller v h) a b c)) → (x : Option Bool) (n : ℤ) → P n (called v x n a b c)
+    unfolding called bad
+    by-called rows none n = no-way n H-CALL refl
+    by-called rows (some h) (negsuc n) = no-way _ H-CALL refl
+    by-called rows (some h) (pos n) = by-number h (caller v h) (rows h) n
+
+    pub by-call : ((h : Bool) → AllRows P v h (caller v h) 1 (table v (caller v h) a b c)) → (x n : ℤ) → P n (judge v (call x n a b c))
     unfolding judge
-    by-call x n = by-called (handler x) n
+    by-call rows x n = by-called rows (handler x) n
+
+-- ---- a property of a verdict's acts, which the empty list has too
+
+pub data OnActs (L : List Act → Type 0) (r : Verdict) : Type 0 where
+  on-acts : L (r .acts) → OnActs L r
+
+module _ {L : List Act → Type 0} where
+  pub acts-check : {t : Bool} {r : Verdict} (c : Code) → L [] → (t ≡ false → OnActs L r) → OnActs L (check t c r)
+  unfolding check
+  acts-check {t = true} c z h = on-acts z
+  acts-check {t = false} c z h = h refl
+
+  pub acts-choose : {t : Bool} {r s : Verdict} → (t ≡ true → OnActs L r) → (t ≡ false → OnActs L s) → OnActs L (choose t r s)
+  unfolding choose
+  acts-choose {t = true} h k = h refl
+  acts-choose {t = false} h k = k refl
+
+  pub acts-first : {l : List ℕ} {r : Verdict} {f : ℕ → Verdict} → (l ≡ [] → OnActs L r) → ((x : ℕ) (m : List ℕ) → l ≡ x ∷ m → OnActs L (f x)) → OnActs L (onFirst l r f)
+  unfolding onFirst
+  acts-first {l = []} h k = h refl
+  acts-first {l = x ∷ m} h k = k x m refl
+
+  pub acts-count : {n : ℕ} {r : Verdict} {f : ℕ → Verdict} → (n ≡ 0 → OnActs L r) → ((k : ℕ) → n ≡ suc k → OnActs L (f k)) → OnActs L (onCount n r f)
+  unfolding onCount
+  acts-count {n = zero} h k = h refl
+  acts-count {n = suc j} h k = k j refl
+
+  pub acts-wait : (me : ℕ) (a : ℤ) → L [] → ((w : Wait) → L (wait me w ∷ [])) → OnActs L (wai-for me a)
+  unfolding wai-for
+  acts-wait me (pos zero) z h = on-acts z
+  acts-wait me (pos (suc t)) z h = on-acts (h _)
+  acts-wait me (negsuc t) z h = on-acts (h _)
+
+module _ (L : List Act → Type 0) (z : L []) (v : View) (a b c : ℤ) (rows : (h : Bool) → AllRows (λ n r. OnActs L r) v h (caller v h) 1 (table v (caller v h) a b c)) where
+  pub acts-call : (x n : ℤ) → L (judge v (call x n a b c) .acts)
+  acts-call x n = elim (by-call (λ n r. OnActs L r) (λ n c e. on-acts z) v a b c rows x n) [ on-acts h ↦ h ]

@@ -1,5 +1,5 @@
--- What an act needs so that a sound body stays sound: a change of one task leaves the store alone, a change of the store is looked
--- at over the kind of object.
+-- What an act needs so that a sound body stays sound, and nobody comes to wait beside what would serve him: a change of one task leaves
+-- the store alone, a change of the store is looked at over the kind of object.
 use mathlib.Core.Bool.{Bool, true, false, cond, not, false≢true}
 use mathlib.Core.List.{List, [], _∷_, map}
 use mathlib.Core.Logic.{_⊎_, inl, inr, _≢_}
@@ -18,7 +18,9 @@ use Rattle.rules.specs.Places.{sameKind, waitsOn, awaits, lies}
 use Rattle.rules.specs.Acts.{Act, start, retire, rotate, regrade, wait, release, suspend, resume, wakeups, count, pattern, post, receive, mark, elapse, with-state, with-priority, with-wakeups, with-cell, with-semaphores, with-flags, with-messages, with-pools, with-clock, with-tasks, with-store, change, started, retired, freed, releasedTask, halted, resumed, older, after}
 use Rattle.rules.specs.Objects.{met, free}
 use Rattle.rules.specs.Time.{ending}
-use Rattle.rules.specs.Sound.{Sizes, LiesWell, StoreNumbers, CellNumbers, WaitNumbers, anyLies, would-serve, Unserved, SoundTask, SoundBody}
+use Rattle.rules.specs.Sound.{Sizes, LiesWell, StoreNumbers, CellNumbers, WaitNumbers, anyLies, would-serve, Unserved, AllUnserved, SoundTask, SoundBody}
+use Rattle.rules.proofs.Sizes.{SameSizes, sizes-tasks, sizes-clock, sizes-after}
+use Rattle.rules.proofs.States.{freed-tells, halted-same, resumed-same, older-same}
 use Rattle.rules.proofs.Waits.{neither}
 use Rattle.rules.proofs.Ids.{length-put, of-put-other, of-put-same, put-all, of-map}
 
@@ -53,15 +55,14 @@ Pre b elapse = (i : ℕ) → ending (waitOf (task b i .state)) ≡ false
 
 module _ {u : Store} {t : Task} (g : SoundTask u t) where
   -- another state
-  state-well : (s : State) → WaitNumbers u (waitOf s) → Unserved u (waitOf s) → (sleeps (waitOf s) ≡ true → t .wakeups ≡ 0)
+  state-well : (s : State) → WaitNumbers u (waitOf s) → (sleeps (waitOf s) ≡ true → t .wakeups ≡ 0)
       → (isDormant s ≡ true → isDormant (t .state) ≡ true) → SoundTask u (with-state s t)
-  state-well s w n z d = record {
+  state-well s w z d = record {
     priority = g .priority;
     start = g .start;
     wakeups = g .wakeups;
     cell = g .cell;
     wait = w;
-    unserved = n;
     sleeper = z;
     dormant = λ e. g .dormant (d e);
     rest = λ e. g .rest (d e);
@@ -69,11 +70,11 @@ module _ {u : Store} {t : Task} (g : SoundTask u t) where
 
   -- the same wait
   same-well : (s : State) → waitOf s ≡ waitOf (t .state) → isDormant s ≡ isDormant (t .state) → SoundTask u (with-state s t)
-  same-well s e d = state-well s (rw e (g .wait)) (rw e (g .unserved)) (rw e (g .sleeper)) (rw d (λ x. x))
+  same-well s e d = state-well s (rw e (g .wait)) (rw e (g .sleeper)) (rw d (λ x. x))
 
   -- no wait
   idle-well : (s : State) → waitOf s ≡ none → isDormant s ≡ false → SoundTask u (with-state s t)
-  idle-well s e d = state-well s (rw e tt) (rw e tt) (rw e (λ x. absurd (false≢true x))) (rw d (λ x. absurd (false≢true x)))
+  idle-well s e d = state-well s (rw e tt) (rw e (λ x. absurd (false≢true x))) (rw d (λ x. absurd (false≢true x)))
 
   priority-well : (p : ℕ) → In p (u .priorities) → isDormant (t .state) ≡ false → SoundTask u (with-priority p t)
   priority-well p r d = record {
@@ -82,7 +83,6 @@ module _ {u : Store} {t : Task} (g : SoundTask u t) where
     wakeups = g .wakeups;
     cell = g .cell;
     wait = g .wait;
-    unserved = g .unserved;
     sleeper = g .sleeper;
     dormant = g .dormant;
     rest = λ e. absurd (false≢true (sym d ∙ e));
@@ -95,7 +95,6 @@ module _ {u : Store} {t : Task} (g : SoundTask u t) where
     wakeups = k;
     cell = g .cell;
     wait = g .wait;
-    unserved = g .unserved;
     sleeper = z;
     dormant = d;
     rest = g .rest;
@@ -108,7 +107,6 @@ module _ {u : Store} {t : Task} (g : SoundTask u t) where
     wakeups = g .wakeups;
     cell = k;
     wait = g .wait;
-    unserved = g .unserved;
     sleeper = g .sleeper;
     dormant = g .dormant;
     rest = g .rest;
@@ -121,7 +119,6 @@ module _ {u : Store} {t : Task} (g : SoundTask u t) where
     wakeups = g .wakeups;
     cell = inl (refl, lit< tt);
     wait = tt;
-    unserved = tt;
     sleeper = λ e. absurd (false≢true e);
     dormant = λ e. absurd (false≢true e);
     rest = λ e. absurd (false≢true e);
@@ -134,55 +131,33 @@ module _ {u : Store} {t : Task} (g : SoundTask u t) where
     wakeups = omega arith;
     cell = g .cell;
     wait = tt;
-    unserved = tt;
     sleeper = λ e. refl;
     dormant = λ e. refl;
     rest = λ e. refl;
   }
 
-freed-idle : (s : State) → isWaiting s ≡ true → (waitOf (freed s) ≡ none) × (isDormant (freed s) ≡ false)
-freed-idle dormant e = absurd (false≢true e)
-freed-idle ready e = absurd (false≢true e)
-freed-idle suspended e = absurd (false≢true e)
-freed-idle (waiting w) e = (refl, refl)
-freed-idle (waiting-suspended w) e = (refl, refl)
-
 released-well : {u : Store} (c : Code) (w : ℕ) (t : Task) → CellNumbers (record { code = c; word = w }) → SoundTask u t → SoundTask u (releasedTask c w t)
 released-well {u} c w t k g = go (isWaiting (t .state)) refl
   where
     go : (x : Bool) → isWaiting (t .state) ≡ x → SoundTask u (cond x (with-cell (record { code = c; word = w }) (with-state (freed (t .state)) t)) t)
-    go true e = cell-well (idle-well g (freed (t .state)) (freed-idle (t .state) e .0) (freed-idle (t .state) e .1)) _ k
+    go true e = cell-well (idle-well g (freed (t .state)) (freed-tells (t .state) e .0) (freed-tells (t .state) e .2)) _ k
     go false e = g
 
-pub halted-same : (s : State) → (waitOf (halted s) ≡ waitOf s) × (isDormant (halted s) ≡ isDormant s)
-halted-same dormant = (refl, refl)
-halted-same ready = (refl, refl)
-halted-same suspended = (refl, refl)
-halted-same (waiting w) = (refl, refl)
-halted-same (waiting-suspended w) = (refl, refl)
-
-pub resumed-same : (s : State) → (waitOf (resumed s) ≡ waitOf s) × (isDormant (resumed s) ≡ isDormant s)
-resumed-same dormant = (refl, refl)
-resumed-same ready = (refl, refl)
-resumed-same suspended = (refl, refl)
-resumed-same (waiting w) = (refl, refl)
-resumed-same (waiting-suspended w) = (refl, refl)
-
 -- the setup's numbers stay
-sizes-change : (f : Task → Task) (i : ℕ) (b : Body) → Sizes b → Sizes (change f i b)
-sizes-change f i b z = record {
-  priorities = z .priorities;
-  tasks = rw (length-put (b .tasks) i (f (task b i))) (z .tasks);
-  semaphores = z .semaphores;
-  flags = z .flags;
-  mailboxes = z .mailboxes;
-  messages = z .messages;
-  pools = z .pools;
+sizes-same : {b c : Body} → SameSizes b c → Sizes b → Sizes c
+sizes-same k z = record {
+  priorities = rw (k .priorities) (z .priorities);
+  tasks = rw (k .tasks) (z .tasks);
+  semaphores = rw (k .objects semaphore) (z .semaphores);
+  flags = rw (k .objects flag) (z .flags);
+  mailboxes = rw (k .objects mailbox) (z .mailboxes);
+  messages = rw (k .messages) (z .messages);
+  pools = rw (k .objects pool) (z .pools);
 }
 
 sound-change : (f : Task → Task) (i : ℕ) (b : Body) → SoundBody b → (In i (length (b .tasks)) → SoundTask (b .store) (task b i) → SoundTask (b .store) (f (task b i))) → SoundBody (change f i b)
 sound-change f i b h g = record {
-  sizes = sizes-change f i b (h .sizes);
+  sizes = sizes-same (sizes-tasks b _ (length-put (b .tasks) i _)) (h .sizes);
   store = h .store;
   tasks = put-all (SoundTask (b .store)) (b .tasks) i (f (task b i)) nobody (h .tasks) (λ r. g r (h .tasks i r));
 }
@@ -219,36 +194,23 @@ module _ (u w : Store) where
   unserved-kept (some (timed t)) f r h = h
   unserved-kept (some (on k o p m)) f r h = f k o p m refl (r .0) h
 
-  task-kept : (t : Task) → w .priorities ≡ u .priorities → SameObjects u w → ((k : Kind) (o p m : ℕ) → waitOf (t .state) ≡ some (on k o p m) → ServesLess u w k o p m) → SoundTask u t → SoundTask w t
-  task-kept t e s f g = record {
+  task-kept : (t : Task) → w .priorities ≡ u .priorities → SameObjects u w → SoundTask u t → SoundTask w t
+  task-kept t e s g = record {
     priority = rw e (g .priority);
     start = rw e (g .start);
     wakeups = g .wakeups;
     cell = g .cell;
     wait = numbers-kept (waitOf (t .state)) s (g .wait);
-    unserved = unserved-kept (waitOf (t .state)) f (g .wait) (g .unserved);
     sleeper = g .sleeper;
     dormant = g .dormant;
     rest = g .rest;
   }
 
-sizes-store : (b : Body) (w : Store) → w .priorities ≡ b .store .priorities → SameObjects (b .store) w → length (w .messages) ≡ length (b .store .messages) → Sizes b → Sizes (with-store w b)
-sizes-store b w e s m z = record {
-  priorities = rw e (z .priorities);
-  tasks = z .tasks;
-  semaphores = rw (s semaphore) (z .semaphores);
-  flags = rw (s flag) (z .flags);
-  mailboxes = rw (s mailbox) (z .mailboxes);
-  messages = rw m (z .messages);
-  pools = rw (s pool) (z .pools);
-}
-
-sound-store : (b : Body) (w : Store) → SoundBody b → w .priorities ≡ b .store .priorities → SameObjects (b .store) w → length (w .messages) ≡ length (b .store .messages)
-    → StoreNumbers w → ((i : ℕ) (k : Kind) (o p m : ℕ) → Asks b i k o p m → ServesLess (b .store) w k o p m) → SoundBody (with-store w b)
-sound-store b w h e s m n f = record {
-  sizes = sizes-store b w e s m (h .sizes);
+sound-store : (b : Body) (w : Store) → SoundBody b → SameSizes b (with-store w b) → StoreNumbers w → SoundBody (with-store w b)
+sound-store b w h k n = record {
+  sizes = sizes-same k (h .sizes);
   store = n;
-  tasks = λ i r. task-kept (b .store) w (task b i) e s (f i) (h .tasks i r);
+  tasks = λ i r. task-kept (b .store) w (task b i) (k .priorities) (k .objects) (h .tasks i r);
 }
 
 module _ {ℓ} {A : Type ℓ} where
@@ -387,37 +349,6 @@ module _ (u : Store) (h : StoreNumbers u) where
     clock = k;
   }
 
-module _ (u : Store) where
-  semaphores-same : (s n : ℕ) → SameObjects u (with-semaphores (put (u .semaphores) s n) u)
-  semaphores-same s n semaphore = length-put (u .semaphores) s n
-  semaphores-same s n flag = refl
-  semaphores-same s n mailbox = refl
-  semaphores-same s n pool = refl
-
-  flags-same : (f n : ℕ) → SameObjects u (with-flags (put (u .flags) f n) u)
-  flags-same f n semaphore = refl
-  flags-same f n flag = length-put (u .flags) f n
-  flags-same f n mailbox = refl
-  flags-same f n pool = refl
-
-  messages-same : (l : List (Option ℕ)) → SameObjects u (with-messages l u)
-  messages-same l semaphore = refl
-  messages-same l flag = refl
-  messages-same l mailbox = refl
-  messages-same l pool = refl
-
-  pools-same : (p : ℕ) (l : List Bool) → SameObjects u (with-pools (put (u .pools) p l) u)
-  pools-same p l semaphore = refl
-  pools-same p l flag = refl
-  pools-same p l mailbox = refl
-  pools-same p l pool = length-put (u .pools) p l
-
-  clock-same : (n : ℕ) → SameObjects u (with-clock n u)
-  clock-same n semaphore = refl
-  clock-same n flag = refl
-  clock-same n mailbox = refl
-  clock-same n pool = refl
-
 -- ---- a tick at which no wait ends
 
 abbrev olderTask : Task → Task
@@ -440,33 +371,25 @@ older-numbers u (waiting-suspended asleep) e h = h
 older-numbers u (waiting-suspended (timed t)) e h = ticks-left t e h
 older-numbers u (waiting-suspended (on k o p m)) e h = h
 
-older-same : (u : Store) (s : State) → (Unserved u (waitOf s) → Unserved u (waitOf (older s))) × (sleeps (waitOf (older s)) ≡ sleeps (waitOf s)) × (isDormant (older s) ≡ isDormant s)
-older-same u dormant = (λ h. h, refl, refl)
-older-same u ready = (λ h. h, refl, refl)
-older-same u suspended = (λ h. h, refl, refl)
-older-same u (waiting asleep) = (λ h. h, refl, refl)
-older-same u (waiting (timed t)) = (λ h. h, refl, refl)
-older-same u (waiting (on k o p m)) = (λ h. h, refl, refl)
-older-same u (waiting-suspended asleep) = (λ h. h, refl, refl)
-older-same u (waiting-suspended (timed t)) = (λ h. h, refl, refl)
-older-same u (waiting-suspended (on k o p m)) = (λ h. h, refl, refl)
+older-unserved : (u : Store) (s : State) → Unserved u (waitOf s) → Unserved u (waitOf (older s))
+older-unserved u dormant h = h
+older-unserved u ready h = h
+older-unserved u suspended h = h
+older-unserved u (waiting asleep) h = h
+older-unserved u (waiting (timed t)) h = h
+older-unserved u (waiting (on k o p m)) h = h
+older-unserved u (waiting-suspended asleep) h = h
+older-unserved u (waiting-suspended (timed t)) h = h
+older-unserved u (waiting-suspended (on k o p m)) h = h
 
 older-well : (u : Store) (t : Task) → ending (waitOf (t .state)) ≡ false → SoundTask u t → SoundTask u (olderTask t)
 older-well u t e g =
-    state-well g (older (t .state)) (older-numbers u (t .state) e (g .wait)) (older-same u (t .state) .0 (g .unserved))
-    (rw (older-same u (t .state) .1) (g .sleeper)) (rw (older-same u (t .state) .2) (λ x. x))
+    state-well g (older (t .state)) (older-numbers u (t .state) e (g .wait))
+    (rw (older-same (t .state) .sleeps) (g .sleeper)) (rw (older-same (t .state) .dormant) (λ x. x))
 
 older-sound : (b : Body) → SoundBody b → ((i : ℕ) → ending (waitOf (task b i .state)) ≡ false) → SoundBody (with-tasks (map olderTask (b .tasks)) b)
 older-sound b h e = record {
-  sizes = record {
-    priorities = h .sizes .priorities;
-    tasks = rw (length-map (b .tasks) olderTask) (h .sizes .tasks);
-    semaphores = h .sizes .semaphores;
-    flags = h .sizes .flags;
-    mailboxes = h .sizes .mailboxes;
-    messages = h .sizes .messages;
-    pools = h .sizes .pools;
-  };
+  sizes = sizes-same (sizes-tasks b _ (length-map (b .tasks) olderTask)) (h .sizes);
   store = h .store;
   tasks = λ i r. rw (of-map olderTask (b .tasks) i nobody refl) (older-well (b .store) (task b i) (e i) (h .tasks i (rw (length-map (b .tasks) olderTask) at r)));
 }
@@ -479,19 +402,54 @@ sound-after (start i) b h p = sound-change started i b h (λ r g. started-well g
 sound-after (retire i) b h p = sound-change retired i b h (λ r g. retired-well g)
 sound-after (rotate i) b h p = h
 sound-after (regrade i n) b h p = sound-change (with-priority n) i b h (λ r g. priority-well g n (p .0) (p .1))
-sound-after (wait i w) b h p = sound-change (with-state (waiting w)) i b h (λ r g. state-well g (waiting w) (p r .0) (p r .1) (p r .2) (λ e. absurd (false≢true e)))
+sound-after (wait i w) b h p = sound-change (with-state (waiting w)) i b h (λ r g. state-well g (waiting w) (p r .0) (p r .2) (λ e. absurd (false≢true e)))
 sound-after (release i c w) b h p = sound-change (releasedTask c w) i b h (λ r g. released-well c w (task b i) p g)
 sound-after (suspend i) b h p = sound-change (λ t. with-state (halted (t .state)) t) i b h (λ r g. same-well g _ (halted-same (task b i .state) .0) (halted-same (task b i .state) .1))
 sound-after (resume i) b h p = sound-change (λ t. with-state (resumed (t .state)) t) i b h (λ r g. same-well g _ (resumed-same (task b i .state) .0) (resumed-same (task b i .state) .1))
 sound-after (wakeups i n) b h p = sound-change (with-wakeups n) i b h (λ r g. wakeups-well g n (p .0) (p .1) (p .2))
-sound-after (count s n) b h p = sound-store b _ h refl (semaphores-same (b .store) s n) refl (semaphores-numbers (b .store) (h .store) s n (p .0)) (λ i. count-less b i s n (p .1))
-sound-after (pattern f n) b h p = sound-store b _ h refl (flags-same (b .store) f n) refl (flags-numbers (b .store) (h .store) f n (p .0)) (λ i. pattern-less b i f n (p .1 i))
-sound-after (post j m) b h p =
-    sound-store b _ h refl (messages-same (b .store) _) (length-put (b .store .messages) j (some m)) (messages-numbers (b .store) (h .store) j (some m) (p .0))
-    (λ i. message-less b i j (some m) (λ o e. rw (← eqb-true m o e) (p .1)))
-sound-after (receive j) b h p =
-    sound-store b _ h refl (messages-same (b .store) _) (length-put (b .store .messages) j none) (messages-numbers (b .store) (h .store) j none tt)
-    (λ i. message-less b i j none (λ o e. absurd (false≢true e)))
-sound-after (mark q k t) b h p = sound-store b _ h refl (pools-same (b .store) q _) refl (pools-numbers (b .store) (h .store) q k t) (λ i. mark-less b i q k t p)
+sound-after (count s n) b h p = sound-store b _ h (sizes-after (count s n) b) (semaphores-numbers (b .store) (h .store) s n (p .0))
+sound-after (pattern f n) b h p = sound-store b _ h (sizes-after (pattern f n) b) (flags-numbers (b .store) (h .store) f n (p .0))
+sound-after (post j m) b h p = sound-store b _ h (sizes-after (post j m) b) (messages-numbers (b .store) (h .store) j (some m) (p .0))
+sound-after (receive j) b h p = sound-store b _ h (sizes-after (receive j) b) (messages-numbers (b .store) (h .store) j none tt)
+sound-after (mark q k t) b h p = sound-store b _ h (sizes-after (mark q k t) b) (pools-numbers (b .store) (h .store) q k t)
 sound-after elapse b h p =
-    sound-store _ _ (older-sound b h p) refl (clock-same (b .store) _) refl (clock-numbers (b .store) (h .store) _ (mod-lt (suc (b .store .clock)) (lit< tt))) (λ i k o y m w. clock-less b i _ k o y m)
+    sound-store _ _ (older-sound b h p) (sizes-clock _ _) (clock-numbers (b .store) (h .store) _ (mod-lt (suc (b .store .clock)) (lit< tt)))
+
+-- ---- nobody comes to wait beside what would serve him
+
+-- one task is changed
+unserved-change : (f : Task → Task) (i : ℕ) (b : Body) → AllUnserved b → (In i (length (b .tasks)) → Unserved (b .store) (waitOf (task b i .state)) → Unserved (b .store) (waitOf (f (task b i) .state)))
+    → AllUnserved (change f i b)
+unserved-change f i b h g = put-all (λ t. Unserved (b .store) (waitOf (t .state))) (b .tasks) i (f (task b i)) nobody h (λ r. g r (h i r))
+
+-- the store is changed
+unserved-store : (b : Body) (w : Store) → SoundBody b → AllUnserved b → ((i : ℕ) (k : Kind) (o p m : ℕ) → Asks b i k o p m → ServesLess (b .store) w k o p m) → AllUnserved (with-store w b)
+unserved-store b w s h f i r = unserved-kept (b .store) w (waitOf (task b i .state)) (f i) (s .tasks i r .wait) (h i r)
+
+unserved-released : (u : Store) (c : Code) (w : ℕ) (t : Task) → Unserved u (waitOf (t .state)) → Unserved u (waitOf (releasedTask c w t .state))
+unserved-released u c w t h = go (isWaiting (t .state)) refl
+  where
+    go : (x : Bool) → isWaiting (t .state) ≡ x → Unserved u (waitOf (cond x (with-cell (record { code = c; word = w }) (with-state (freed (t .state)) t)) t .state))
+    go true e = rw (freed-tells (t .state) e .0) tt
+    go false e = h
+
+pub unserved-after : (a : Act) (b : Body) → SoundBody b → AllUnserved b → Pre b a → AllUnserved (after a b)
+unfolding after
+unserved-after (start i) b s h p = unserved-change started i b h (λ r u. tt)
+unserved-after (retire i) b s h p = unserved-change retired i b h (λ r u. tt)
+unserved-after (rotate i) b s h p = h
+unserved-after (regrade i n) b s h p = unserved-change (with-priority n) i b h (λ r u. u)
+unserved-after (wait i w) b s h p = unserved-change (with-state (waiting w)) i b h (λ r u. p r .1)
+unserved-after (release i c w) b s h p = unserved-change (releasedTask c w) i b h (λ r u. unserved-released (b .store) c w (task b i) u)
+unserved-after (suspend i) b s h p = unserved-change (λ t. with-state (halted (t .state)) t) i b h (λ r u. rw (halted-same (task b i .state) .0) u)
+unserved-after (resume i) b s h p = unserved-change (λ t. with-state (resumed (t .state)) t) i b h (λ r u. rw (resumed-same (task b i .state) .0) u)
+unserved-after (wakeups i n) b s h p = unserved-change (with-wakeups n) i b h (λ r u. u)
+unserved-after (count x n) b s h p = unserved-store b _ s h (λ i. count-less b i x n (p .1))
+unserved-after (pattern f n) b s h p = unserved-store b _ s h (λ i. pattern-less b i f n (p .1 i))
+unserved-after (post j m) b s h p = unserved-store b _ s h (λ i. message-less b i j (some m) (λ o e. rw (← eqb-true m o e) (p .1)))
+unserved-after (receive j) b s h p = unserved-store b _ s h (λ i. message-less b i j none (λ o e. absurd (false≢true e)))
+unserved-after (mark q k t) b s h p = unserved-store b _ s h (λ i. mark-less b i q k t p)
+unserved-after elapse b s h p =
+    unserved-store (with-tasks (map olderTask (b .tasks)) b) _ (older-sound b s p)
+    (λ i r. rw (of-map olderTask (b .tasks) i nobody refl) (older-unserved (b .store) (task b i .state) (h i (rw (length-map (b .tasks) olderTask) at r))))
+    (λ i k o y m w. clock-less b i _ k o y m)

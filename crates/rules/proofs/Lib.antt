@@ -1,7 +1,10 @@
 -- The theorems about the rules, in the order in which to read them.
 pub mod Ids
+pub mod Sizes
+pub mod States
 pub mod Waits
 pub mod Judge
+pub mod Refusals
 pub mod Sorting
 pub mod Fits
 pub mod Lines
@@ -20,5 +23,3 @@ pub mod Blocks
 pub mod Released
 pub mod Demand3
 pub mod Runs
-pub mod BenchSheet
-pub mod Examples

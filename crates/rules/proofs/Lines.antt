@@ -1,15 +1,25 @@
--- Laws of the table of lines: what is read at a place, when two tables are the same, and that an act changes no place.
-use mathlib.Core.List.{List, [], map}
+-- Laws of the table of lines: what is read at a place, when two tables are the same, that an act changes no place, and that whoever goes
+-- last leaves the others in their order.
+use mathlib.Core.Bool.{Bool, true, false, not, cond, _&&_, and-false}
+use mathlib.Core.List.{List, [], _∷_, _++_, map, append-nil}
 use mathlib.Core.Path.{_≡_, refl, sym, ap, _∙_, subst}
 use Prim.Native.Nat.{ℕ}
+use lib.Dec.{eqb}
+use lib.IntN.{ℤ}
 use lib.ListN.{length}
-use Rattle.rules.specs.Ids.{of, ids, In}
-use Rattle.rules.specs.State.{Kind, semaphore, flag, mailbox, pool, Store, Body, objects}
-use Rattle.rules.specs.Places.{Place, readyAt, waiters, mail, at, each, lineAt, Exists, tabulate}
-use Rattle.rules.specs.Acts.{Act, start, retire, rotate, regrade, wait, release, suspend, resume, wakeups, count, pattern, post, receive, mark, elapse, after, move}
-use Rattle.rules.specs.View.{View, line, moved, act}
+use borrow.Author.Tests.{eq-eqb}
+use Rattle.rules.specs.Ids.{of, ids, In, keep}
+use Rattle.rules.specs.Codes.{H-NODMT}
+use Rattle.rules.specs.State.{Kind, semaphore, flag, mailbox, pool, Store, Body, task, objects, isDormant}
+use Rattle.rules.specs.Places.{Place, readyAt, waiters, mail, sameSort, sortAt, Item, aTask, item, same, belongs, at, each, lineAt, Exists, tabulate}
+use Rattle.rules.specs.Events.{nat}
+use Rattle.rules.specs.Acts.{Act, start, after, last, move}
+use Rattle.rules.specs.View.{View, line, alone, without, moved, act, acts}
+use Rattle.rules.specs.Verdicts.{done, check}
+use Rattle.rules.specs.Tasks.{starting, sta-tsk}
 use Rattle.rules.specs.Sound.{Shape}
-use Rattle.rules.proofs.Ids.{length-put, of-ids, length-ids, map-ids}
+use Rattle.rules.proofs.Sizes.{sizes-after}
+use Rattle.rules.proofs.Ids.{of-ids, length-ids, map-ids, keep-keep, keep-append, keep-same}
 
 -- ---- something for each kind
 
@@ -49,79 +59,47 @@ shape-tabulate u f = record {
 
 -- ---- an act changes no place
 
-pub priorities-after : (a : Act) (b : Body) → after a b .store .priorities ≡ b .store .priorities
-unfolding after
-priorities-after (start i) b = refl
-priorities-after (retire i) b = refl
-priorities-after (rotate i) b = refl
-priorities-after (regrade i p) b = refl
-priorities-after (wait i w) b = refl
-priorities-after (release i c w) b = refl
-priorities-after (suspend i) b = refl
-priorities-after (resume i) b = refl
-priorities-after (wakeups i n) b = refl
-priorities-after (count s n) b = refl
-priorities-after (pattern f n) b = refl
-priorities-after (post j m) b = refl
-priorities-after (receive j) b = refl
-priorities-after (mark p k t) b = refl
-priorities-after elapse b = refl
-
-pub mailboxes-after : (a : Act) (b : Body) → after a b .store .mailboxes ≡ b .store .mailboxes
-unfolding after
-mailboxes-after (start i) b = refl
-mailboxes-after (retire i) b = refl
-mailboxes-after (rotate i) b = refl
-mailboxes-after (regrade i p) b = refl
-mailboxes-after (wait i w) b = refl
-mailboxes-after (release i c w) b = refl
-mailboxes-after (suspend i) b = refl
-mailboxes-after (resume i) b = refl
-mailboxes-after (wakeups i n) b = refl
-mailboxes-after (count s n) b = refl
-mailboxes-after (pattern f n) b = refl
-mailboxes-after (post j m) b = refl
-mailboxes-after (receive j) b = refl
-mailboxes-after (mark p k t) b = refl
-mailboxes-after elapse b = refl
-
--- a store with as many objects of each kind
-objects-by : (u w : Store) → length (w .semaphores) ≡ length (u .semaphores) → length (w .flags) ≡ length (u .flags) → w .mailboxes ≡ u .mailboxes → length (w .pools) ≡ length (u .pools)
-    → (k : Kind) → objects w k ≡ objects u k
-objects-by u w s f m p semaphore = s
-objects-by u w s f m p flag = f
-objects-by u w s f m p mailbox = m
-objects-by u w s f m p pool = p
-
-pub objects-after : (a : Act) (b : Body) (k : Kind) → objects (after a b .store) k ≡ objects (b .store) k
-unfolding after
-objects-after (start i) b k = refl
-objects-after (retire i) b k = refl
-objects-after (rotate i) b k = refl
-objects-after (regrade i p) b k = refl
-objects-after (wait i w) b k = refl
-objects-after (release i c w) b k = refl
-objects-after (suspend i) b k = refl
-objects-after (resume i) b k = refl
-objects-after (wakeups i n) b k = refl
-objects-after (count s n) b k = objects-by (b .store) _ (length-put (b .store .semaphores) s n) refl refl refl k
-objects-after (pattern f n) b k = objects-by (b .store) _ refl (length-put (b .store .flags) f n) refl refl k
-objects-after (post j m) b k = objects-by (b .store) _ refl refl refl refl k
-objects-after (receive j) b k = objects-by (b .store) _ refl refl refl refl k
-objects-after (mark p n t) b k = objects-by (b .store) _ refl refl refl (length-put (b .store .pools) p _) k
-objects-after elapse b k = objects-by (b .store) _ refl refl refl refl k
-
 pub exists-after : (a : Act) (b : Body) (q : Place) → Exists (after a b .store) q → Exists (b .store) q
-exists-after a b (readyAt p) h = subst (In p) (priorities-after a b) h
-exists-after a b (waiters k o) h = subst (In o) (objects-after a b k) h
-exists-after a b (mail m) h = subst (In m) (mailboxes-after a b) h
+exists-after a b (readyAt p) h = subst (In p) (sizes-after a b .priorities) h
+exists-after a b (waiters k o) h = subst (In o) (sizes-after a b .objects k) h
+exists-after a b (mail m) h = subst (In m) (sizes-after a b .objects mailbox) h
 
 pub exists-before : (a : Act) (b : Body) (q : Place) → Exists (b .store) q → Exists (after a b .store) q
-exists-before a b (readyAt p) h = subst (In p) (sym (priorities-after a b)) h
-exists-before a b (waiters k o) h = subst (In o) (sym (objects-after a b k)) h
-exists-before a b (mail m) h = subst (In m) (sym (mailboxes-after a b)) h
+exists-before a b (readyAt p) h = subst (In p) (sym (sizes-after a b .priorities)) h
+exists-before a b (waiters k o) h = subst (In o) (sym (sizes-after a b .objects k)) h
+exists-before a b (mail m) h = subst (In m) (sym (sizes-after a b .objects mailbox)) h
 
 -- a line after an act
 pub line-act : (a : Act) (v : View) (q : Place) → Exists (v .body .store) q → line (act a v) q ≡ moved (after a (v .body)) (move (v .body) a) q (line v q)
 unfolding act
 line-act a v q h = line-tabulate (after a (v .body) .store) (λ q. moved (after a (v .body)) (move (v .body) a) q (line v q)) q (exists-before a (v .body) q h)
+
+-- ---- who goes last leaves the others in their order
+
+-- x's own id is taken out, whoever belongs
+alone-gone : (r : ℕ → Bool) (x : Item) (q : Place) → without x q (keep r (alone x q)) ≡ []
+unfolding keep
+alone-gone r x q = keep-keep (λ i. not (same x (item q i))) r (alone x q) ∙ go (sameSort (x .sort) (sortAt q))
+  where
+    go : (t : Bool) → keep (λ i. r i && not (t && eqb (x .id) i)) (cond t (x .id ∷ []) []) ≡ []
+    go true = rw (eq-eqb (x .id) (x .id) refl, and-false)
+    go false = refl
+
+others-stay : (b : Body) (x : Item) (q : Place) (l : List ℕ) → without x q (moved b (last x) q l) ≡ without x q l
+unfolding moved
+others-stay b x q l =
+    keep-append _ (without x q l) _ ∙ ap (λ (k : List ℕ). without x q (without x q l) ++ k) (alone-gone (belongs b q) x q) ∙ append-nil _
+    ∙ keep-keep _ _ l ∙ keep-same l (λ i. twice (not (same x (item q i))))
+  where
+    twice : (t : Bool) → (t && t) ≡ t
+    twice true = refl
+    twice false = refl
+
+-- sta_tsk: a running task that the new one preempts keeps its place, and so does everybody else
+pub start-keeps-places : (v : View) (a : ℤ) (q : Place) → Exists (v .body .store) q → without (aTask (nat a)) q (line (acts (sta-tsk v a .acts) v) q) ≡ without (aTask (nat a)) q (line v q)
+unfolding sta-tsk starting check acts move
+start-keeps-places v a q r = go (not (isDormant (task (v .body) (nat a) .state)))
+  where
+    go : (t : Bool) → without (aTask (nat a)) q (line (acts (check t H-NODMT (done (start (nat a) ∷ [])) .acts) v) q) ≡ without (aTask (nat a)) q (line v q)
+    go true = refl
+    go false = ap (without (aTask (nat a)) q) (line-act (start (nat a)) v q r) ∙ others-stay _ (aTask (nat a)) q (line v q)

@@ -6,17 +6,18 @@ use mathlib.Core.Logic.{_≢_}
 use Prim.Native.Nat.{ℕ, _+_}
 use native.Mathlib.Nat.{add-zero}
 use native.Mathlib.Omega.{arith}
+use lib.Dec.{eqb}
 use Rattle.rules.specs.Ids.{In, keep, once, times}
 use Rattle.rules.specs.State.{Kind, Body}
-use Rattle.rules.specs.Places.{Place, readyAt, waiters, mail, Item, aTask, aMessage, item, same, many, belongs, Exists}
+use Rattle.rules.specs.Places.{Place, waiters, sameSort, sortAt, Item, item, same, many, belongs, Exists}
 use Rattle.rules.specs.Acts.{Act, after, Move, stay, leave, last, move}
 use Rattle.rules.specs.View.{View, line, alone, without, moved, act}
 use Rattle.rules.specs.Sound.{Shape, Known, Queue, Sound}
 use Rattle.rules.proofs.Ids.{Each, times-append, times-keep, times-head}
-use Rattle.rules.proofs.Fits.{Fits, fits, many-after, in-range}
+use Rattle.rules.proofs.Fits.{Fits, fits, population-after, in-range}
 use Rattle.rules.proofs.Sorting.{all-has}
 use Rattle.rules.proofs.Lines.{shape-tabulate, exists-after, line-act}
-use Rattle.rules.proofs.Keeps.{NoneAt, Pre, sound-after}
+use Rattle.rules.proofs.Keeps.{NoneAt, Pre, sound-after, unserved-after}
 
 -- ---- nobody stands in a line but those that exist
 
@@ -44,12 +45,11 @@ module _ (c : Body) (q : Place) where
 
 known-alone : (c : Body) (x : Item) (q : Place) → Known (many c q) (keep (belongs c q) (alone x q))
 unfolding keep
-known-alone c (aTask i) (readyAt p) = known-one c (readyAt p) i
-known-alone c (aTask i) (waiters k o) = known-one c (waiters k o) i
-known-alone c (aTask i) (mail m) = tt
-known-alone c (aMessage i) (readyAt p) = tt
-known-alone c (aMessage i) (waiters k o) = tt
-known-alone c (aMessage i) (mail m) = known-one c (mail m) i
+known-alone c x q = go (sameSort (x .sort) (sortAt q))
+  where
+    go : (t : Bool) → Known (many c q) (keep (belongs c q) (cond t (x .id ∷ []) []))
+    go true = known-one c q (x .id)
+    go false = tt
 
 known-moved : (c : Body) (m : Move) (q : Place) (l : List ℕ) → Known (many c q) l → Known (many c q) (moved c m q l)
 unfolding moved
@@ -61,12 +61,11 @@ known-moved c (last x) q l h = known-append _ (without x q l) _ (known-keep _ _ 
 
 times-alone : (i : ℕ) (x : Item) (q : Place) → times i (alone x q) ≡ once (same x (item q i))
 unfolding times
-times-alone i (aTask a) (readyAt p) = add-zero _
-times-alone i (aTask a) (waiters k o) = add-zero _
-times-alone i (aTask a) (mail m) = refl
-times-alone i (aMessage a) (readyAt p) = refl
-times-alone i (aMessage a) (waiters k o) = refl
-times-alone i (aMessage a) (mail m) = add-zero _
+times-alone i x q = go (sameSort (x .sort) (sortAt q))
+  where
+    go : (t : Bool) → times i (cond t (x .id ∷ []) []) ≡ once (t && eqb (x .id) i)
+    go true = add-zero _
+    go false = refl
 
 out : (s t : Bool) → cond (not s) (once t) 0 ≡ once (t && not s)
 out true true = refl
@@ -169,7 +168,8 @@ sound-act a v h p = record {
   body = rw (body-act a v) (sound-after a (v .body) (h .body) p);
   shape = shape-act a v;
   queues = λ q r. queue q (exists-after a (v .body) q (subst (λ (b : Body). Exists (b .store) q) (body-act a v) r));
+  unserved = rw (body-act a v) (unserved-after a (v .body) (h .body) (h .unserved) p);
 }
   where
     queue : (q : Place) → Exists (v .body .store) q → Queue (act a v .body) q (line (act a v) q)
-    queue q r = rw (body-act a v, line-act a v q r) (queue-moved (v .body) (after a (v .body)) (move (v .body) a) q (line v q) (fits a (v .body)) (many-after a (v .body) q) (h .queues q r))
+    queue q r = rw (body-act a v, line-act a v q r) (queue-moved (v .body) (after a (v .body)) (move (v .body) a) q (line v q) (fits a (v .body)) (population-after a (v .body) (sortAt q)) (h .queues q r))

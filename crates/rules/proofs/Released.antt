@@ -1,45 +1,40 @@
 -- The number released, which compares the states before and after, is the number of release acts: each release of a verdict finds its task waiting, and no other act
--- lets a waiting task go. And how many each call releases.
-use mathlib.Core.Bool.{Bool, true, false, not, cond, _&&_, and-true, and-false, false≢true}
+-- lets a waiting task go.
+use mathlib.Core.Bool.{Bool, true, false, cond, and-false, false≢true}
 use mathlib.Core.List.{List, [], _∷_, _++_, map}
 use mathlib.Core.Logic.{inl, inr, _≢_}
-use mathlib.Core.Option.{Option, none}
-use mathlib.Core.Path.{_≡_, refl, sym, ap, _∙_}
+use mathlib.Core.Path.{_≡_, refl, sym, _∙_}
 use Prim.Native.Nat.{ℕ, zero, suc, _+_}
 use native.Mathlib.Nat.{add-zero}
 use native.Mathlib.Omega.{arith}
 use lib.Dec.{eqb}
-use lib.IntN.{ℤ, pos, negsuc}
+use lib.IntN.{ℤ}
 use lib.ListN.{length, getD, set}
-use borrow.Author.Tests.{ne-eqb, not-false}
-use Rattle.rules.specs.Ids.{of, put, ids, In, once, times, first}
-use Rattle.rules.specs.Codes.{Code, OK, number}
-use Rattle.rules.specs.State.{Kind, semaphore, flag, mailbox, pool, Wait, State, dormant, ready, suspended, waiting, waiting-suspended, Task, Body, task, nobody, objects, waitOf, wish, isDormant, isWaiting, isFreed, sleeps}
-use Rattle.rules.specs.Places.{waiters, belongs, sameKind, waitsOn, at, lineAt}
+use borrow.Author.Tests.{not-false}
+use Rattle.rules.specs.Ids.{of, put, ids, In, once, times}
+use Rattle.rules.specs.Codes.{Code, OK}
+use Rattle.rules.specs.State.{Kind, semaphore, flag, mailbox, pool, State, dormant, ready, suspended, waiting, waiting-suspended, Task, Body, task, nobody, objects, waitOf, wish, isDormant, isWaiting, isFreed, sleeps}
+use Rattle.rules.specs.Places.{waiters, belongs, waitsOn, at, lineAt}
 use Rattle.rules.specs.Events.{Event, tick, call, nat, outside}
 use Rattle.rules.specs.Acts.{Act, start, retire, rotate, regrade, wait, release, suspend, resume, wakeups, count, pattern, post, receive, mark, elapse, with-state, freed, halted, resumed, older, after, afters}
 use Rattle.rules.specs.View.{View, line}
-use Rattle.rules.specs.Verdicts.{Verdict, refuse, gives, waits, check, choose, onFirst, onCount}
-use Rattle.rules.specs.Tasks.{stateOf, sta-tsk, ext-tsk, ter-tsk, chg-pri, rot-rdq, rel-wai, sus-tsk, rsm-tsk, take-wakeup, slp-tsk, wai-for, wai-tsk, wup-tsk, can-wup, get-tid, tsk-sts}
+use Rattle.rules.specs.Verdicts.{Verdict, waits}
+use Rattle.rules.specs.Tasks.{stateOf, starting, sta-tsk, ext-tsk, ter-tsk, chg-pri, rot-rdq, rel-wai, sus-tsk, rsm-tsk, take-wakeup, slp-tsk, wai-tsk, waking, wup-tsk, can-wup, get-tid, tsk-sts}
 use Rattle.rules.specs.Objects.{to-first, obj-sts, met, left, serve-flag, sig-sem, take-sem, set-flg, clr-flg, take-flg, snd-msg, take-msg, take-blk, rel-blk}
 use Rattle.rules.specs.Time.{get-tim, ending, endings, timeout, ticked}
+use Rattle.rules.specs.Rows.{staTsk, extTsk, terTsk, chgPri, rotRdq, relWai, susTsk, rsmTsk, slpTsk, waiTsk, wupTsk, canWup, sigSem, waiSem, preqSem, setFlg, clrFlg, waiFlg, polFlg, sndMsg, rcvMsg, prcvMsg, getBlk, pgetBlk, relBlk, getTid, tskSts, semSts, flgSts, mbxSts, mplSts, getTim}
 use Rattle.rules.specs.Table.{caller, table, judge}
 use Rattle.rules.specs.Answers.{isReleased, releasedCount}
 use Rattle.rules.specs.Sound.{Sound}
 use Rattle.rules.specs.Kernel.{next}
-use Rattle.rules.specs.Blocks.{is, ok}
-use Rattle.rules.specs.Releases.{isRelease, releases, giver, mayRelease}
+use Rattle.rules.specs.Releases.{isRelease, releases}
 use Rattle.rules.proofs.Ids.{of-put-other, inside, tested, times-keep, kept-passes, times-head, times-tail, times-ids}
-use Rattle.rules.proofs.Waits.{in-by, neither}
+use Rattle.rules.proofs.Waits.{in-by}
 use Rattle.rules.proofs.Queues.{stands-belongs, first-belongs, belongs-stands}
-use Rattle.rules.proofs.Cells.{older-same, body-acts, Careful}
+use Rattle.rules.proofs.Cells.{body-acts, Careful}
+use Rattle.rules.proofs.States.{waits-by, waiting-tells, freed-tells, older-same}
 use Rattle.rules.proofs.Refused.{released-none, none-released}
-use Rattle.rules.proofs.Judge.{_⊗_, AllRows, by-check, by-choose, by-first, by-call}
-
--- somebody stands there
-abbrev some? : List ℕ → Bool
-some? [] = false
-some? (x ∷ l) = true
+use Rattle.rules.proofs.Judge.{_⊗_, AllRows, OnActs, on-acts, acts-check, acts-choose, acts-first, acts-count, acts-wait, acts-call}
 
 -- ---- an act that is no release
 
@@ -66,7 +61,7 @@ released-older : (l m : List Task) → releasedCount l (map (λ t. with-state (o
 unfolding releasedCount
 released-older [] m = refl
 released-older (t ∷ l) [] = refl
-released-older (t ∷ l) (u ∷ m) = rw (older-same (u .state) .1, released-older l m)
+released-older (t ∷ l) (u ∷ m) = rw (older-same (u .state) .freed, released-older l m)
 
 act-unreleased : (a : Act) (b : Body) → isRelease a ≡ false → Careful b a → releasedCount (b .tasks) (after a b .tasks) ≡ 0
 unfolding after
@@ -95,26 +90,19 @@ data Frees (b : Body) : Body → List Act → Type 0 where
   frees : (c : Body) (i : ℕ) (d : Code) (w : ℕ) (l : List Act) → isWaiting (task b i .state) ≡ true → isWaiting (task c i .state) ≡ true
       → Frees b (after (release i d w) c) l → Frees b c (release i d w ∷ l)
 
-let-go : (s : State) → isWaiting s ≡ true → (isFreed s ≡ false) × (isFreed (freed s) ≡ true)
-let-go dormant e = absurd (false≢true e)
-let-go ready e = absurd (false≢true e)
-let-go suspended e = absurd (false≢true e)
-let-go (waiting w) e = (refl, refl)
-let-go (waiting-suspended w) e = (refl, refl)
-
 one-more-set : (l m : List Task) (i : ℕ) (u : Task) → isWaiting (getD l i nobody .state) ≡ true → isWaiting (getD m i nobody .state) ≡ true → isFreed (u .state) ≡ true
     → releasedCount l (set m i u) ≡ 1 + releasedCount l m
 unfolding releasedCount
 one-more-set [] m i u e d f = absurd (false≢true e)
 one-more-set (t ∷ l) [] i u e d f = absurd (false≢true d)
-one-more-set (t ∷ l) (s ∷ m) zero u e d f = rw (e, f, let-go (s .state) d .0) (omega arith)
+one-more-set (t ∷ l) (s ∷ m) zero u e d f = rw (e, f, waiting-tells (s .state) d .1) (omega arith)
 one-more-set (t ∷ l) (s ∷ m) (suc i) u e d f = rw (one-more-set l m i u e d f) (omega arith)
 
 one-more : (b c : Body) (i : ℕ) (d : Code) (w : ℕ) → isWaiting (task b i .state) ≡ true → isWaiting (task c i .state) ≡ true
     → releasedCount (b .tasks) (after (release i d w) c .tasks) ≡ 1 + releasedCount (b .tasks) (c .tasks)
 unfolding after
 one-more b c zero d w e f = absurd (false≢true e)
-one-more b c (suc i) d w e f = one-more-set (b .tasks) (c .tasks) i _ e f (rw f (let-go (task c (suc i) .state) f .1))
+one-more b c (suc i) d w e f = one-more-set (b .tasks) (c .tasks) i _ e f (rw f (freed-tells (task c (suc i) .state) f .1))
 
 frees-count : {b c : Body} {l : List Act} → Frees b c l → releasedCount (b .tasks) (afters l c .tasks) ≡ releasedCount (b .tasks) (c .tasks) + releases l
 unfolding afters after
@@ -164,14 +152,6 @@ module _ (b : Body) where
   tick-frees c [] h = elapses c
   tick-frees c (x ∷ l) h = first-comes c x _ 0 l _ h (tick-frees (after (timeout x) c) l (coming-release c x _ 0 l h))
 
--- a test that only a wait passes
-waits-by : (f : Option Wait → Bool) → f none ≡ false → (s : State) → f (waitOf s) ≡ true → isWaiting s ≡ true
-waits-by f n dormant e = absurd (false≢true (sym n ∙ e))
-waits-by f n ready e = absurd (false≢true (sym n ∙ e))
-waits-by f n suspended e = absurd (false≢true (sym n ∙ e))
-waits-by f n (waiting w) e = refl
-waits-by f n (waiting-suspended w) e = refl
-
 -- those whose wait ends
 endings-come : (b : Body) → Coming b b (endings b)
 endings-come b y z = (times-keep y test (ids (length (b .tasks))) ∙ rw ends (times-ids y _ there), waits, waits)
@@ -196,7 +176,7 @@ module _ (v : View) (s : Sound v) (k : Kind) (o : ℕ) where
   there x m e = elim (inside (at (v .lines .waiting) k) o []) [ inl r ↦ rw (s .shape .waiting k) at r | inr z ↦ absurd (empty (sym z ∙ e)) ]
     where
       empty : {x : ℕ} {m : List ℕ} → [] ≡ x ∷ m → ⊥
-      empty e = false≢true (ap some? e)
+      empty e = let z : _≡_ {A = ℕ} 0 1 = cc in omega arith
 
   belongs-waits : (y : ℕ) → belongs (v .body) (waiters k o) y ≡ true → isWaiting (task (v .body) y .state) ≡ true
   unfolding belongs
@@ -205,159 +185,86 @@ module _ (v : View) (s : Sound v) (k : Kind) (o : ℕ) where
   first-waits : (x : ℕ) (m : List ℕ) → line v (waiters k o) ≡ x ∷ m → isWaiting (task (v .body) x .state) ≡ true
   first-waits x m e = belongs-waits x (first-belongs v s (waiters k o) (there x m e) x m e)
 
-  -- no id is 0
-  first-there : some? (line v (waiters k o)) ≡ not (eqb (first (line v (waiters k o))) 0)
-  first-there = go (line v (waiters k o)) refl
-    where
-      go : (l : List ℕ) → line v (waiters k o) ≡ l → some? l ≡ not (eqb (first l) 0)
-      go [] e = refl
-      go (x ∷ m) e = rw (ne-eqb x 0 (λ d. omega (arith, tested (λ t. isWaiting (t .state)) (v .body .tasks) x nobody refl (first-waits x m e) .0)))
-
   waiters-come : In o (objects (v .body .store) k) → Coming (v .body) (v .body) (line v (waiters k o))
   waiters-come r y z =
       let b = stands-belongs v s (waiters k o) r y z in
       let w = belongs-waits y b in
       (belongs-stands (v .body) (waiters k o) _ (s .queues (waiters k o) r) y b, w, w)
 
--- ---- verdicts that release nobody
+-- ---- verdicts that release as many as they have release acts
 
-data Quiet (b : Body) (r : Verdict) : Type 0 where
-  quiet : releases (r .acts) ≡ 0 → releasedCount (b .tasks) (afters (r .acts) b .tasks) ≡ 0 → Quiet b r
+module _ (b : Body) where
+  abbrev Counted : List Act → Type 0
+  Counted l = releasedCount (b .tasks) (afters l b .tasks) ≡ releases l
 
-module _ {b : Body} where
-  quiet-refuse : (c : Code) → Quiet b (refuse c)
+  abbrev Counts : Verdict → Type 0
+  Counts r = OnActs Counted r
+
+  count-none : Counted []
   unfolding afters
-  quiet-refuse c = quiet refl (none-released (b .tasks))
+  count-none = none-released (b .tasks)
 
-  quiet-gives : (x y : ℕ) → Quiet b (gives x y [])
+  count-one : (a : Act) → isRelease a ≡ false → Careful b a → Counted (a ∷ [])
   unfolding afters
-  quiet-gives x y = quiet refl (none-released (b .tasks))
+  count-one a n d = rw n (act-unreleased a b n d)
 
-  quiet-done : (x y : ℕ) (a : Act) → isRelease a ≡ false → Careful b a → Quiet b (gives x y (a ∷ []))
-  unfolding afters
-  quiet-done x y a n d = quiet (rw n) (act-unreleased a b n d)
+  count-release : (i : ℕ) (c : Code) (w : ℕ) → isWaiting (task b i .state) ≡ true → Counted (release i c w ∷ [])
+  count-release i c w h = counted b _ (frees b i c w [] h h (ends _))
 
-  quiet-waits : (i : ℕ) (w : Wait) → Quiet b (waits i w)
-  unfolding afters
-  quiet-waits i w = quiet refl (act-unreleased (wait i w) b refl tt)
-
-  quiet-check : (t : Bool) (c : Code) (r : Verdict) → (t ≡ false → Quiet b r) → Quiet b (check t c r)
-  unfolding check
-  quiet-check true c r h = quiet-refuse c
-  quiet-check false c r h = h refl
-
-  quiet-choose : (t : Bool) (r s : Verdict) → Quiet b r → Quiet b s → Quiet b (choose t r s)
-  unfolding choose
-  quiet-choose true r s h k = h
-  quiet-choose false r s h k = k
-
-  quiet-first : (l : List ℕ) (r : Verdict) (f : ℕ → Verdict) → Quiet b r → ((x : ℕ) → Quiet b (f x)) → Quiet b (onFirst l r f)
-  unfolding onFirst
-  quiet-first [] r f h k = h
-  quiet-first (x ∷ l) r f h k = k x
-
-  quiet-count : (n : ℕ) (r : Verdict) (f : ℕ → Verdict) → Quiet b r → ((x : ℕ) → Quiet b (f x)) → Quiet b (onCount n r f)
-  unfolding onCount
-  quiet-count zero r f h k = h
-  quiet-count (suc n) r f h k = k n
-
-  quiet-wait : (me : ℕ) (a : ℤ) → Quiet b (wai-for me a)
-  unfolding wai-for
-  quiet-wait me (pos zero) = quiet-refuse _
-  quiet-wait me (pos (suc t)) = quiet-waits me _
-  quiet-wait me (negsuc t) = quiet-waits me _
-
-ruleset quietly = (quiet-check, quiet-choose, quiet-first, quiet-count, quiet-wait, quiet-refuse, quiet-gives, quiet-done, quiet-waits, not-false)
+ruleset counting = (acts-check, acts-choose, acts-first, acts-count, acts-wait, on-acts, count-none, count-one, count-release, not-false)
 
 -- ---- every call
 
--- call n on a, where it is done, lets one go (set_flg may let several go, and is left aside)
-abbrev one : View → ℤ → ℤ → Bool
-one v a n =
-    cond (is n 6) true (cond (is n 11) (sleeps (waitOf (stateOf v a))) (cond (is n 13) (some? (line v (waiters semaphore (nat a))))
-    (cond (is n 20) (some? (line v (waiters mailbox (nat a)))) (is n 25 && some? (line v (waiters pool (nat a)))))))
-
-module _ (v : View) (a y z : ℤ) where
-  -- the verdict of call n: what it releases by the states is what it releases by its acts, and how many that is
-  data Told (n : ℤ) (r : Verdict) : Type 0 where
-    told : (Sound v → releasedCount (v .body .tasks) (afters (r .acts) (v .body) .tasks) ≡ releases (r .acts))
-        → (is n 16 ≡ false → releases (r .acts) ≡ once (ok (r .code) && one v a n)) → Told n r
-
-  abbrev Bad : Code → Type 0
-  Bad c = ok c ≡ false
-
-  -- a call that lets nobody go
-  still : (n : ℤ) (r : Verdict) → one v a n ≡ false → Quiet (v .body) r → Told n r
-  still n r e (quiet h k) = told (λ s. k ∙ sym h) (λ d. rw (e, and-false (ok (r .code))) h)
-
-  no-way : (n : ℤ) (c : Code) → Bad c → Told n (refuse c)
-  unfolding afters
-  no-way n c e = told (λ s. none-released (v .body .tasks)) (λ d. rw e)
-
-  -- a call that lets one go
-  lets-go : (n : ℤ) (i : ℕ) (c : Code) (w : ℕ) → (Sound v → isWaiting (task (v .body) i .state) ≡ true) → one v a n ≡ true → Told n (gives 0 0 (release i c w ∷ []))
-  unfolding ok number
-  lets-go n i c w h e = told (λ s. counted (v .body) _ (frees (v .body) i c w [] (h s) (h s) (ends _))) (λ d. rw e)
-
+module _ (v : View) (s : Sound v) (a y z : ℤ) where
   -- the first waiter is let go, if there is one
-  gives-first : (n : ℤ) (k : Kind) (w : ℕ) (r : Verdict) → one v a n ≡ some? (line v (waiters k (nat a))) → Quiet (v .body) r → Told n (to-first v k a w r)
+  counts-to-first : (k : Kind) (o : ℤ) (w : ℕ) (r : Verdict) → Counts (v .body) r → Counts (v .body) (to-first v k o w r)
   unfolding to-first
-  gives-first n k w r e q =
-      by-first Told Bad no-way (λ d. still n r (e ∙ ap some? d) q)
-      (λ x m d. lets-go n x OK w (λ s. first-waits v s k (nat a) x m d) (e ∙ ap some? d))
+  counts-to-first k o w r h = acts-first (λ e. h) (λ x m e. on-acts (count-release (v .body) x OK w (first-waits v s k (nat o) x m e)))
 
-  rel-told : Told (pos 6) (rel-wai v a)
-  unfolding rel-wai ok number
-  rel-told = by-check Told Bad no-way refl (λ e. lets-go (pos 6) (nat a) _ 0 (λ s. not-false _ e) refl)
+  wup-counts : Counts (v .body) (wup-tsk v a)
+  unfolding wup-tsk waking
+  wup-counts = acts-choose (λ e. on-acts (count-release (v .body) (nat a) OK 0 (waits-by sleeps refl (stateOf v a) e))) (λ e. search counting depth 9)
 
-  wup-told : Told (pos 11) (wup-tsk v a)
-  unfolding wup-tsk
-  wup-told = by-choose Told Bad no-way (λ e. lets-go (pos 11) (nat a) OK 0 (λ s. waits-by sleeps refl (stateOf v a) e) e) (λ e. still (pos 11) _ e (search quietly depth 9))
-
-  set-told : outside a (objects (v .body .store) flag) ≡ false → Told (pos 16) (set-flg v a y)
+  set-counts : outside a (objects (v .body .store) flag) ≡ false → Counts (v .body) (set-flg v a y)
   unfolding set-flg
-  set-told o = told (λ s. counted (v .body) _ (flag-frees (v .body) (v .body) (nat a) _ _ (waiters-come v s flag (nat a) (in-by a _ o)))) (λ e. absurd (false≢true (sym e)))
+  set-counts o = on-acts (counted (v .body) _ (flag-frees (v .body) (v .body) (nat a) _ _ (waiters-come v s flag (nat a) (in-by a _ o))))
 
-  rows : (h : Bool) (me : ℕ) → AllRows Told Bad no-way v h me a 1 (table v me a y z)
-  unfolding table sta-tsk ext-tsk ter-tsk chg-pri rot-rdq sus-tsk rsm-tsk take-wakeup slp-tsk wai-tsk can-wup get-tid tsk-sts obj-sts sig-sem take-sem clr-flg take-flg snd-msg take-msg take-blk rel-blk get-tim ok number
+  rows : (h : Bool) (me : ℕ) → AllRows (λ n r. Counts (v .body) r) v h me 1 (table v me a y z)
+  unfolding table staTsk extTsk terTsk chgPri rotRdq relWai susTsk rsmTsk slpTsk waiTsk wupTsk canWup sigSem waiSem preqSem setFlg clrFlg waiFlg polFlg sndMsg rcvMsg prcvMsg getBlk pgetBlk relBlk getTid tskSts semSts flgSts mbxSts mplSts getTim starting sta-tsk ext-tsk ter-tsk chg-pri rot-rdq rel-wai sus-tsk rsm-tsk take-wakeup slp-tsk wai-tsk can-wup get-tid tsk-sts obj-sts sig-sem take-sem clr-flg take-flg snd-msg take-msg take-blk rel-blk get-tim
   rows h me =
-      ((refl, tt), λ w c t d. still (pos 1) _ refl (search quietly depth 9))
-      ⊗ (tt, λ w c t d. still (pos 2) _ refl (search quietly depth 9))
-      ⊗ ((refl, tt), λ w c t d. still (pos 3) _ refl (search quietly depth 9))
-      ⊗ ((refl, (refl, tt)), λ w c t d. still (pos 4) _ refl (search quietly depth 9))
-      ⊗ ((refl, tt), λ w c t d. still (pos 5) _ refl (search quietly depth 9))
-      ⊗ ((refl, tt), λ w c t d. rel-told)
-      ⊗ ((refl, tt), λ w c t d. still (pos 7) _ refl (search quietly depth 9))
-      ⊗ ((refl, tt), λ w c t d. still (pos 8) _ refl (search quietly depth 9))
-      ⊗ (tt, λ w c t d. still (pos 9) _ refl (search quietly depth 9))
-      ⊗ ((refl, tt), λ w c t d. still (pos 10) _ refl (search quietly depth 9))
-      ⊗ ((refl, tt), λ w c t d. wup-told)
-      ⊗ ((refl, tt), λ w c t d. still (pos 12) _ refl (search quietly depth 9))
-      ⊗ ((refl, tt), λ w c t d. gives-first (pos 13) semaphore 0 _ refl (search quietly depth 9))
-      ⊗ ((refl, tt), λ w c t d. still (pos 14) _ refl (search quietly depth 9))
-      ⊗ ((refl, tt), λ w c t d. still (pos 15) _ refl (search quietly depth 9))
-      ⊗ ((refl, tt), λ w c t d. set-told (w .0))
-      ⊗ ((refl, tt), λ w c t d. still (pos 17) _ refl (search quietly depth 9))
-      ⊗ ((refl, (refl, (refl, tt))), λ w c t d. still (pos 18) _ refl (search quietly depth 9))
-      ⊗ ((refl, (refl, (refl, tt))), λ w c t d. still (pos 19) _ refl (search quietly depth 9))
-      ⊗ ((refl, (refl, tt)), λ w c t d. by-check Told Bad no-way refl (λ e. gives-first (pos 20) mailbox (nat y) _ refl (search quietly depth 9)))
-      ⊗ ((refl, tt), λ w c t d. still (pos 21) _ refl (search quietly depth 9))
-      ⊗ ((refl, tt), λ w c t d. still (pos 22) _ refl (search quietly depth 9))
-      ⊗ ((refl, tt), λ w c t d. still (pos 23) _ refl (search quietly depth 9))
-      ⊗ ((refl, tt), λ w c t d. still (pos 24) _ refl (search quietly depth 9))
-      ⊗ ((refl, tt), λ w c t d. by-check Told Bad no-way refl (λ e. gives-first (pos 25) pool (nat y) _ refl (search quietly depth 9)))
-      ⊗ (tt, λ w c t d. still (pos 26) _ refl (search quietly depth 9))
-      ⊗ ((refl, tt), λ w c t d. still (pos 27) _ refl (search quietly depth 9))
-      ⊗ ((refl, tt), λ w c t d. still (pos 28) _ refl (search quietly depth 9))
-      ⊗ ((refl, tt), λ w c t d. still (pos 29) _ refl (search quietly depth 9))
-      ⊗ ((refl, tt), λ w c t d. still (pos 30) _ refl (search quietly depth 9))
-      ⊗ ((refl, tt), λ w c t d. still (pos 31) _ refl (search quietly depth 9))
-      ⊗ (tt, λ w c t d. still (pos 32) _ refl (search quietly depth 9))
+      (λ t. search counting depth 9)
+      ⊗ (λ t. search counting depth 9)
+      ⊗ (λ t. search counting depth 9)
+      ⊗ (λ t. search counting depth 9)
+      ⊗ (λ t. search counting depth 9)
+      ⊗ (λ t. search counting depth 9)
+      ⊗ (λ t. search counting depth 9)
+      ⊗ (λ t. search counting depth 9)
+      ⊗ (λ t. search counting depth 9)
+      ⊗ (λ t. search counting depth 9)
+      ⊗ (λ t. wup-counts)
+      ⊗ (λ t. search counting depth 9)
+      ⊗ (λ t. counts-to-first semaphore a 0 _ (search counting depth 9))
+      ⊗ (λ t. search counting depth 9)
+      ⊗ (λ t. search counting depth 9)
+      ⊗ (λ t. set-counts (t .words .0))
+      ⊗ (λ t. search counting depth 9)
+      ⊗ (λ t. search counting depth 9)
+      ⊗ (λ t. search counting depth 9)
+      ⊗ (λ t. acts-check _ (count-none (v .body)) (λ e. counts-to-first mailbox a (nat y) _ (search counting depth 9)))
+      ⊗ (λ t. search counting depth 9)
+      ⊗ (λ t. search counting depth 9)
+      ⊗ (λ t. search counting depth 9)
+      ⊗ (λ t. search counting depth 9)
+      ⊗ (λ t. acts-check _ (count-none (v .body)) (λ e. counts-to-first pool a (nat y) _ (search counting depth 9)))
+      ⊗ (λ t. search counting depth 9)
+      ⊗ (λ t. search counting depth 9)
+      ⊗ (λ t. search counting depth 9)
+      ⊗ (λ t. search counting depth 9)
+      ⊗ (λ t. search counting depth 9)
+      ⊗ (λ t. search counting depth 9)
+      ⊗ (λ t. search counting depth 9)
       ⊗ tt
-
-  judge-told : (x n : ℤ) → Told n (judge v (call x n a y z))
-  unfolding ok number
-  judge-told x n = by-call Told Bad no-way v a y z refl refl refl refl (λ h. rows h (caller v h)) x n
 
 -- ---- an event
 
@@ -365,36 +272,5 @@ module _ (v : View) (a y z : ℤ) where
 pub released-by-acts : (v : View) (e : Event) → Sound v → releasedCount (v .body .tasks) (next v e .body .tasks) ≡ releases (judge v e .acts)
 unfolding next judge ticked
 released-by-acts v tick s = rw (body-acts (ticked v .acts) v) (counted (v .body) _ (tick-frees (v .body) (v .body) (endings (v .body)) (endings-come (v .body))))
-released-by-acts v (call x n a y z) s = rw (body-acts (judge v (call x n a y z) .acts) v) (elim (judge-told v a y z x n) [ told h k ↦ h s ])
-
--- ---- how many a call releases
-
-count-of : (v : View) (x n a b c : ℤ) → is n 16 ≡ false → releases (judge v (call x n a b c) .acts) ≡ once (ok (judge v (call x n a b c) .code) && one v a n)
-count-of v x n a b c = elim (judge-told v a b c x n) [ told h k ↦ k ]
-
--- nobody, but by rel_wai, wup_tsk and the calls that give
-pub no-release : (v : View) (x n a b c : ℤ) → mayRelease n ≡ false → releases (judge v (call x n a b c) .acts) ≡ 0
-no-release v x n a b c e =
-    let p = neither (is n 6) _ e in
-    let q = neither (is n 11) _ (p .1) in
-    let r = neither (is n 13) _ (q .1) in
-    let s = neither (is n 16) _ (r .1) in
-    let t = neither (is n 20) (is n 25) (s .1) in
-    count-of v x n a b c (s .0) ∙ rw (p .0, q .0, r .0, t .0, t .1, and-false (ok (judge v (call x n a b c) .code)))
-
--- rel_wai: the task named
-pub rel-release : (v : View) (x a b c : ℤ) → releases (judge v (call x (pos 6) a b c) .acts) ≡ once (ok (judge v (call x (pos 6) a b c) .code))
-rel-release v x a b c = count-of v x (pos 6) a b c refl ∙ ap once (and-true (ok (judge v (call x (pos 6) a b c) .code)))
-
--- wup_tsk: a sleeper
-pub wup-release : (v : View) (x a b c : ℤ)
-    → releases (judge v (call x (pos 11) a b c) .acts) ≡ once (ok (judge v (call x (pos 11) a b c) .code) && sleeps (waitOf (stateOf v a)))
-wup-release v x a b c = count-of v x (pos 11) a b c refl
-
--- sig_sem, snd_msg, rel_blk: the first waiter
-pub first-release : (v : View) → Sound v → (k : Kind) → sameKind k flag ≡ false → (x a b c : ℤ)
-    → releases (judge v (call x (pos (giver k)) a b c) .acts) ≡ once (ok (judge v (call x (pos (giver k)) a b c) .code) && not (eqb (first (line v (waiters k (nat a)))) 0))
-first-release v s semaphore e x a b c = count-of v x (pos 13) a b c refl ∙ rw (first-there v s semaphore (nat a))
-first-release v s flag e x a b c = absurd (false≢true (sym e))
-first-release v s mailbox e x a b c = count-of v x (pos 20) a b c refl ∙ rw (first-there v s mailbox (nat a))
-first-release v s pool e x a b c = count-of v x (pos 25) a b c refl ∙ rw (first-there v s pool (nat a))
+released-by-acts v (call x n a y z) s =
+    rw (body-acts (judge v (call x n a y z) .acts) v) (acts-call (Counted (v .body)) (count-none (v .body)) v a y z (λ h. rows v s a y z h (caller v h)) x n)

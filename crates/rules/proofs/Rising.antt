@@ -11,8 +11,8 @@ use lib.Dec.{eqb}
 use lib.ListN.{length}
 use borrow.Author.Tests.{eqb-true, eq-eqb, ne-eqb, not-true}
 use Rattle.rules.specs.Ids.{of, from, ids, In, keep, once, times, first}
-use Rattle.rules.specs.State.{Kind, Wait, asleep, timed, on, State, dormant, ready, suspended, waiting, waiting-suspended, Body, task, waitOf, isReady}
-use Rattle.rules.specs.Places.{Place, readyAt, waiters, mail, Item, aTask, aMessage, item, same, sameKind, many, belongs, waitsOn, awaits, lies, Exists, tabulate}
+use Rattle.rules.specs.State.{Kind, Wait, asleep, timed, on, Body, task, waitOf, isReady}
+use Rattle.rules.specs.Places.{Place, readyAt, waiters, mail, Sort, tasks, messages, sameSort, sortAt, Item, aTask, item, same, population, many, belongs, waitsOn, lies, Exists, tabulate}
 use Rattle.rules.specs.Setup.{Setup}
 use Rattle.rules.specs.Events.{Event}
 use Rattle.rules.specs.Acts.{Act, after, Move, stay, leave, last, move}
@@ -20,12 +20,13 @@ use Rattle.rules.specs.View.{View, line, nonempty, running, alone, witho
 use Rattle.rules.specs.Table.{judge}
 use Rattle.rules.specs.Sound.{Sound}
 use Rattle.rules.specs.Kernel.{starts}
-use Rattle.rules.specs.Plain.{Plain, numberOf, queueOf, viewOf, numbered, plainAct, plainActs, unstarted, plainFresh, plainNext}
+use Rattle.rules.specs.Plain.{Plain, numberOf, queueOf, viewOf, renumbered, plainAct, plainActs, unstarted, plainFresh, plainNext}
 use Rattle.rules.specs.Order.{Rising, Ordered, OneLine, Ready, Before, WhoRuns}
 use Rattle.rules.proofs.Ids.{Each, times-append, times-keep, has-keep, kept-passes, times-ids, times-head, times-tail}
-use Rattle.rules.proofs.Fits.{many-after, in-range}
+use Rattle.rules.proofs.Fits.{population-after, in-range}
 use Rattle.rules.proofs.Sorting.{all-has, times-byNumber}
-use Rattle.rules.proofs.Waits.{both-true, sameKind-true}
+use Rattle.rules.proofs.States.{waits-by, waiting-tells}
+use Rattle.rules.proofs.Waits.{both-true, waits-asks}
 use Rattle.rules.proofs.Queues.{stands-known, stands-belongs}
 use Rattle.rules.proofs.Agree.{Numbers, numbers-act, numbers-unstarted, number-body, number-other, number-new, queue-act, queue-unstarted}
 
@@ -58,39 +59,36 @@ rising-append f (x ∷ l) m a b h = (λ y t. go y t (ℕ-discrete (times y l) 0)
 
 -- ---- an act keeps the order
 
-alone-is : (x : Item) (q : Place) → Each (λ z. item q z ≡ x) (alone x q)
-alone-is (aTask a) (readyAt p) = (refl, tt)
-alone-is (aTask a) (waiters k o) = (refl, tt)
-alone-is (aTask a) (mail m) = tt
-alone-is (aMessage a) (readyAt p) = tt
-alone-is (aMessage a) (waiters k o) = tt
-alone-is (aMessage a) (mail m) = (refl, tt)
-
-rising-one : (f : ℕ → ℕ) (a : ℕ) → Rising f (a ∷ [])
-unfolding times
-rising-one f a = (λ y t. absurd (t refl), tt)
+-- who stands alone is of the place's sort
+alone-is : (x : Item) (q : Place) → Each (λ z. (sameSort (x .sort) (sortAt q) ≡ true) × (x .id ≡ z)) (alone x q)
+alone-is x q = go (sameSort (x .sort) (sortAt q)) refl
+  where
+    go : (t : Bool) → sameSort (x .sort) (sortAt q) ≡ t → Each (λ z. (sameSort (x .sort) (sortAt q) ≡ true) × (x .id ≡ z)) (cond t (x .id ∷ []) [])
+    go true e = ((e, refl), tt)
+    go false e = tt
 
 alone-rises : (f : ℕ → ℕ) (x : Item) (q : Place) → Rising f (alone x q)
-alone-rises f (aTask a) (readyAt p) = rising-one f a
-alone-rises f (aTask a) (waiters k o) = rising-one f a
-alone-rises f (aTask a) (mail m) = tt
-alone-rises f (aMessage a) (readyAt p) = tt
-alone-rises f (aMessage a) (waiters k o) = tt
-alone-rises f (aMessage a) (mail m) = rising-one f a
+unfolding times
+alone-rises f x q = go (sameSort (x .sort) (sortAt q))
+  where
+    go : (t : Bool) → Rising f (cond t (x .id ∷ []) [])
+    go true = (λ y t. absurd (t refl), tt)
+    go false = tt
 
 module _ (c : Body) (s : Plain) (h : Numbers s) (q : Place) (few : many c q ≡ many (s .body) q) where
   -- one that goes last has the largest number
   module _ (x : Item) where
-    stayed : (l : List ℕ) (y : ℕ) → times y (without x q l) ≢ 0 → numberOf (numbered c (last x) s) (item q y) ≡ numberOf s (item q y)
+    stayed : (l : List ℕ) (y : ℕ) → times y (without x q l) ≢ 0 → numberOf (renumbered c (last x) s) (item q y) ≡ numberOf s (item q y)
     stayed l y t = number-other c x s (item q y) (not-true _ (kept-passes (λ i. not (same x (item q i))) y l t))
 
-    newest : (z : ℕ) → times z (keep (belongs c q) (alone x q)) ≢ 0 → numberOf (numbered c (last x) s) (item q z) ≡ s .count
+    newest : (z : ℕ) → times z (keep (belongs c q) (alone x q)) ≢ 0 → numberOf (renumbered c (last x) s) (item q z) ≡ s .count
     newest z t =
-        subst (λ (y : Item). numberOf (numbered c (last y) s) (item q z) ≡ s .count) (all-has (λ i. item q i ≡ x) (alone x q) (alone-is x q) z (has-keep (belongs c q) (alone x q) z t))
-        (number-new c s h q z (rw (← few) (in-range c q z (kept-passes (belongs c q) z (alone x q) t))))
+        let w : (sameSort (x .sort) (sortAt q) ≡ true) × (x .id ≡ z) = all-has _ (alone x q) (alone-is x q) z (has-keep (belongs c q) (alone x q) z t) in
+        subst (λ (i : ℕ). numberOf (renumbered c (last x) s) (item q i) ≡ s .count) (w .1)
+        (number-new c s h x q (w .0) (rw (← few) (in-range c q (x .id) (subst (λ (i : ℕ). belongs c q i ≡ true) (sym (w .1)) (kept-passes (belongs c q) z (alone x q) t)))))
 
-  rising-move : (m : Move) (l : List ℕ) → Rising (λ i. numberOf s (item q i)) l → Rising (λ i. numberOf (numbered c m s) (item q i)) (moved c m q l)
-  unfolding moved numbered
+  rising-move : (m : Move) (l : List ℕ) → Rising (λ i. numberOf s (item q i)) l → Rising (λ i. numberOf (renumbered c m s) (item q i)) (moved c m q l)
+  unfolding moved renumbered
   rising-move stay l r = rising-same _ _ l (λ y t. number-body c s (item q y)) r
   rising-move (leave x) l r = rising-same _ _ (without x q l) (λ y t. number-body c s (item q y)) (rising-keep _ _ l r)
   rising-move (last x) l r =
@@ -102,7 +100,7 @@ pub ordered-act : (a : Act) (s : Plain) → Numbers s → Ordered s → Ordered 
 unfolding plainAct
 ordered-act a s h o q =
     subst (λ (l : List ℕ). Rising (λ i. numberOf (plainAct a s) (item q i)) l) (sym (queue-act a s h q))
-    (rising-move (after a (s .body)) s h q (many-after a (s .body) q) (move (s .body) a) (queueOf s q) (o q))
+    (rising-move (after a (s .body)) s h q (population-after a (s .body) (sortAt q)) (move (s .body) a) (queueOf s q) (o q))
 
 pub ordered-acts : (l : List Act) (s : Plain) → Numbers s → Ordered s → Ordered (plainActs l s)
 unfolding plainActs
@@ -119,26 +117,6 @@ ordered-next s e h o = ordered-acts (judge (viewOf s) e .acts) s h o
 
 -- ---- each stands in one line at most
 
-ready-waits : (s : State) (k : Kind) (o : ℕ) → isReady s ≡ true → awaits s k o ≡ true → ⊥
-ready-waits dormant k o r w = false≢true r
-ready-waits ready k o r w = false≢true w
-ready-waits suspended k o r w = false≢true r
-ready-waits (waiting x) k o r w = false≢true r
-ready-waits (waiting-suspended x) k o r w = false≢true r
-
-one-wait : (w : Option Wait) (k k′ : Kind) (o o′ : ℕ) → waitsOn w k o ≡ true → waitsOn w k′ o′ ≡ true → waiters k o ≡ waiters k′ o′
-one-wait none k k′ o o′ e f = absurd (false≢true e)
-one-wait (some asleep) k k′ o o′ e f = absurd (false≢true e)
-one-wait (some (timed t)) k k′ o o′ e f = absurd (false≢true e)
-one-wait (some (on j n p m)) k k′ o o′ e f =
-    let a : (sameKind j k ≡ true) × (eqb n o ≡ true) = both-true _ _ e in
-    let b : (sameKind j k′ ≡ true) × (eqb n o′ ≡ true) = both-true _ _ f in
-    λ z. waiters ((sym (sameKind-true j k (a .0)) ∙ sameKind-true j k′ (b .0)) z) ((sym (eqb-true n o (a .1)) ∙ eqb-true n o′ (b .1)) z)
-
-one-box : (x : Option ℕ) (m n : ℕ) → lies x m ≡ true → lies x n ≡ true → m ≡ n
-one-box none m n e f = absurd (false≢true e)
-one-box (some k) m n e f = sym (eqb-true k m e) ∙ eqb-true k n f
-
 -- a task that belongs to a ready queue is READY or RUN, of that priority
 ready-is : (b : Body) (p i : ℕ) → belongs b (readyAt p) i ≡ true → (isReady (task b i .state) ≡ true) × (task b i .priority ≡ p)
 unfolding belongs
@@ -146,47 +124,36 @@ ready-is b p i e =
     let h : (isReady (task b i .state) ≡ true) × (eqb (task b i .priority) p ≡ true) = both-true (isReady (task b i .state)) (eqb (task b i .priority) p) e in
     (h .0, eqb-true (task b i .priority) p (h .1))
 
-abbrev idOf : Item → ℕ
-idOf (aTask i) = i
-idOf (aMessage i) = i
+-- the place follows from the state: where one of a sort can stand
+abbrev waitHome : Option Wait → Place
+waitHome none = readyAt 0
+waitHome (some asleep) = readyAt 0
+waitHome (some (timed t)) = readyAt 0
+waitHome (some (on k o p m)) = waiters k o
 
-abbrev isTask : Item → Bool
-isTask (aTask i) = true
-isTask (aMessage i) = false
+abbrev mailHome : Option ℕ → Place
+mailHome none = mail 0
+mailHome (some m) = mail m
 
--- tasks stand there
-abbrev ofTasks : Place → Bool
-ofTasks (readyAt p) = true
-ofTasks (waiters k o) = true
-ofTasks (mail m) = false
+abbrev home : Body → Sort → ℕ → Place
+home b tasks i = cond (isReady (task b i .state)) (readyAt (task b i .priority)) (waitHome (waitOf (task b i .state)))
+home b messages j = mailHome (of (b .store .messages) j none)
 
-id-item : (q : Place) (i : ℕ) → idOf (item q i) ≡ i
-id-item (readyAt p) i = refl
-id-item (waiters k o) i = refl
-id-item (mail m) i = refl
+waits-home : (w : Option Wait) (k : Kind) (o : ℕ) → waitsOn w k o ≡ true → waitHome w ≡ waiters k o
+waits-home w k o e = ap waitHome (waits-asks w k o e .2)
 
-sort-item : (q : Place) (i : ℕ) → isTask (item q i) ≡ ofTasks q
-sort-item (readyAt p) i = refl
-sort-item (waiters k o) i = refl
-sort-item (mail m) i = refl
+lies-home : (x : Option ℕ) (m : ℕ) → lies x m ≡ true → mailHome x ≡ mail m
+lies-home none m e = absurd (false≢true e)
+lies-home (some k) m e = ap mail (eqb-true k m e)
 
--- the place follows from the state
-placed : (b : Body) (q r : Place) (i : ℕ) → ofTasks q ≡ ofTasks r → belongs b q i ≡ true → belongs b r i ≡ true → q ≡ r
+at-home : (b : Body) (q : Place) (i : ℕ) → belongs b q i ≡ true → home b (sortAt q) i ≡ q
 unfolding belongs
-placed b (readyAt p) (readyAt n) i e f g = ap readyAt (sym (ready-is b p i f .1) ∙ ready-is b n i g .1)
-placed b (readyAt p) (waiters k o) i e f g = absurd (ready-waits (task b i .state) k o (ready-is b p i f .0) g)
-placed b (readyAt p) (mail m) i e f g = absurd (false≢true (sym e))
-placed b (waiters k o) (readyAt p) i e f g = absurd (ready-waits (task b i .state) k o (ready-is b p i g .0) f)
-placed b (waiters k o) (waiters k′ o′) i e f g = one-wait (waitOf (task b i .state)) k k′ o o′ f g
-placed b (waiters k o) (mail m) i e f g = absurd (false≢true (sym e))
-placed b (mail m) (readyAt p) i e f g = absurd (false≢true e)
-placed b (mail m) (waiters k o) i e f g = absurd (false≢true e)
-placed b (mail m) (mail n) i e f g = ap mail (one-box (of (b .store .messages) i none) m n f g)
+at-home b (readyAt p) i e = rw (ready-is b p i e .0, ready-is b p i e .1)
+at-home b (waiters k o) i e = rw (waiting-tells (task b i .state) (waits-by (λ w. waitsOn w k o) refl (task b i .state) e) .0) (waits-home (waitOf (task b i .state)) k o e)
+at-home b (mail m) i e = lies-home (of (b .store .messages) i none) m e
 
 pub one-place : (b : Body) (q r : Place) (i j : ℕ) → item q i ≡ item r j → belongs b q i ≡ true → belongs b r j ≡ true → q ≡ r
-one-place b q r i j e f g =
-    let k : i ≡ j = sym (id-item q i) ∙ ap idOf e ∙ id-item r j in
-    placed b q r i (sym (sort-item q i) ∙ ap isTask e ∙ sort-item r j) f (rw k g)
+one-place b q r i j e f g = sym (at-home b q i f) ∙ ap (λ (x : Item). home b (x .sort) (x .id)) e ∙ at-home b r j g
 
 stands-once : (v : View) → Sound v → (q : Place) → Exists (v .body .store) q → (i : ℕ) → times i (line v q) ≤ 1
 stands-once v g q e i = go (ℕ-discrete (times i (line v q)) 0)
@@ -286,7 +253,7 @@ module _ (s : Plain) (g : Sound (viewOf s)) (o : Ordered s) where
       go false e k = absurd (t k)
 
   ready-id : (j : ℕ) → Ready s j → In j (length (s .body .tasks))
-  unfolding many
+  unfolding population
   ready-id j r = in-range (s .body) (readyAt (rank j)) j (ready-belongs j r)
 
   ready-rank : (j : ℕ) → Ready s j → In (rank j) (s .body .store .priorities)

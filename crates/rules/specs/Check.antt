@@ -118,22 +118,16 @@ wait? u (some asleep) = yes tt
 wait? u (some (timed t)) = in? t 2147483647
 wait? u (some (on k o p m)) = both? (in? o (objects u k)) (wish? k p m)
 
-unfoldable pub unserved? : (u : Store) (w : Option Wait) → Dec (Unserved u w)
-unserved? u none = yes tt
-unserved? u (some asleep) = yes tt
-unserved? u (some (timed t)) = yes tt
-unserved? u (some (on k o p m)) = Bool-discrete _ false
-
 unfoldable pub task? : (u : Store) (t : Task) → Dec (SoundTask u t)
-unfolding convert both? if? in? cell? wait? unserved? decLe ℕ-discrete
+unfolding convert both? if? in? cell? wait? decLe ℕ-discrete
 task? u t =
-    convert (λ x. record { priority = x .0 .0; start = x .0 .1; wakeups = x .1 .0 .0; cell = x .1 .0 .1; wait = x .1 .1 .0; unserved = x .1 .1 .1 .0; sleeper = x .1 .1 .1 .1 .0; dormant = x .1 .1 .1 .1 .1 .0; rest = x .1 .1 .1 .1 .1 .1 })
-    (λ r. ((r .priority, r .start), ((r .wakeups, r .cell), (r .wait, (r .unserved, (r .sleeper, (r .dormant, r .rest)))))))
+    convert (λ x. record { priority = x .0 .0; start = x .0 .1; wakeups = x .1 .0 .0; cell = x .1 .0 .1; wait = x .1 .1 .0; sleeper = x .1 .1 .1 .0; dormant = x .1 .1 .1 .1 .0; rest = x .1 .1 .1 .1 .1 })
+    (λ r. ((r .priority, r .start), ((r .wakeups, r .cell), (r .wait, (r .sleeper, (r .dormant, r .rest))))))
     (both? (both? (in? (t .priority) (u .priorities)) (in? (t .start) (u .priorities)))
     (both? (both? (decLe (t .wakeups) 15) (cell? (t .cell)))
-    (both? (wait? u (waitOf (t .state))) (both? (unserved? u (waitOf (t .state)))
+    (both? (wait? u (waitOf (t .state)))
     (both? (if? (sleeps (waitOf (t .state))) (ℕ-discrete (t .wakeups) 0))
-    (both? (if? (isDormant (t .state)) (ℕ-discrete (t .wakeups) 0)) (if? (isDormant (t .state)) (ℕ-discrete (t .priority) (t .start)))))))))
+    (both? (if? (isDormant (t .state)) (ℕ-discrete (t .wakeups) 0)) (if? (isDormant (t .state)) (ℕ-discrete (t .priority) (t .start))))))))
 
 unfoldable pub body? : (b : Body) → Dec (SoundBody b)
 unfolding convert both? every? sizes? store? task?
@@ -172,8 +166,15 @@ places? {P} u d =
     parts : ((q : Place) → Exists u q → P q) → Parts
     parts f = (λ p h. f (readyAt p) h, (λ k o h. f (waiters k o) h, λ m h. f (mail m) h))
 
+unfoldable pub unserved? : (u : Store) (w : Option Wait) → Dec (Unserved u w)
+unserved? u none = yes tt
+unserved? u (some asleep) = yes tt
+unserved? u (some (timed t)) = yes tt
+unserved? u (some (on k o p m)) = Bool-discrete _ false
+
 unfoldable pub sound? : (v : View) → Dec (Sound v)
-unfolding convert both? body? shape? queue? places?
+unfolding convert both? every? unserved? body? shape? queue? places?
 sound? v =
-    convert (λ t. record { body = t .0; shape = t .1 .0; queues = t .1 .1 }) (λ r. (r .body, (r .shape, r .queues)))
-    (both? (body? (v .body)) (both? (shape? (v .body .store) (v .lines)) (places? (v .body .store) (λ q. queue? (v .body) q (line v q)))))
+    convert (λ t. record { body = t .0 .0; shape = t .0 .1; queues = t .1 .0; unserved = t .1 .1 }) (λ r. ((r .body, r .shape), (r .queues, r .unserved)))
+    (both? (both? (body? (v .body)) (shape? (v .body .store) (v .lines)))
+    (both? (places? (v .body .store) (λ q. queue? (v .body) q (line v q))) (every? (length (v .body .tasks)) (λ i. unserved? (v .body .store) (waitOf (task (v .body) i .state))))))

@@ -11,6 +11,7 @@ pub mod Verdicts
 pub mod Tasks
 pub mod Objects
 pub mod Time
+pub mod Rows
 pub mod Table
 pub mod Answers
 pub mod Sound
@@ -23,5 +24,3 @@ pub mod Blocks
 pub mod Releases
 pub mod Demand3
 pub mod Broken
-pub mod BenchSheet
-pub mod Examples

@@ -14,27 +14,48 @@ pub data Place : Type 0 where
   waiters : Kind → ℕ → Place
   mail : ℕ → Place
 
--- what stands in a queue
-pub data Item : Type 0 where
-  aTask aMessage : ℕ → Item
+-- what stands in queues
+pub data Sort : Type 0 where
+  tasks messages : Sort
+
+abbrev pub sameSort : Sort → Sort → Bool
+sameSort tasks tasks = true
+sameSort tasks messages = false
+sameSort messages tasks = false
+sameSort messages messages = true
+
+-- what stands in the queue at that place
+abbrev pub sortAt : Place → Sort
+sortAt (readyAt p) = tasks
+sortAt (waiters k o) = tasks
+sortAt (mail m) = messages
+
+-- one of a sort, by its id
+pub record Item : Type 0 where
+  pub sort : Sort
+  pub id : ℕ
+
+abbrev pub aTask : ℕ → Item
+aTask i = record { sort = tasks; id = i }
+
+abbrev pub aMessage : ℕ → Item
+aMessage j = record { sort = messages; id = j }
 
 -- whose id i is in the queue at that place
 abbrev pub item : Place → ℕ → Item
-item (readyAt p) i = aTask i
-item (waiters k o) i = aTask i
-item (mail m) i = aMessage i
-
--- how many there are of what stands in that queue
-unfoldable pub many : Body → Place → ℕ
-many b (readyAt p) = length (b .tasks)
-many b (waiters k o) = length (b .tasks)
-many b (mail m) = length (b .store .messages)
+item q i = record { sort = sortAt q; id = i }
 
 abbrev pub same : Item → Item → Bool
-same (aTask i) (aTask j) = eqb i j
-same (aTask i) (aMessage j) = false
-same (aMessage i) (aTask j) = false
-same (aMessage i) (aMessage j) = eqb i j
+same x y = sameSort (x .sort) (y .sort) && eqb (x .id) (y .id)
+
+-- how many there are of a sort
+unfoldable pub population : Body → Sort → ℕ
+population b tasks = length (b .tasks)
+population b messages = length (b .store .messages)
+
+-- how many there are of what stands in that queue
+abbrev pub many : Body → Place → ℕ
+many b q = population b (sortAt q)
 
 abbrev pub sameKind : Kind → Kind → Bool
 sameKind semaphore semaphore = true

@@ -5,7 +5,7 @@ use Prim.Native.Nat.{ℕ, suc}
 use lib.ListN.{length, replicate}
 use Rattle.rules.specs.Ids.{of, put, ids, keep, byNumber}
 use Rattle.rules.specs.State.{Body}
-use Rattle.rules.specs.Places.{Place, Item, aTask, aMessage, item, many, belongs, tabulate}
+use Rattle.rules.specs.Places.{Place, Sort, tasks, messages, Item, item, many, belongs, tabulate}
 use Rattle.rules.specs.Setup.{Setup}
 use Rattle.rules.specs.Events.{Event}
 use Rattle.rules.specs.Acts.{Act, after, Move, stay, leave, last, move}
@@ -21,9 +21,13 @@ pub record Plain : Type 0 where
   pub messages : List ℕ
   pub count : ℕ
 
+-- the numbers of a sort, by id
+abbrev pub numbersOf : Plain → Sort → List ℕ
+numbersOf s tasks = s .tasks
+numbersOf s messages = s .messages
+
 abbrev pub numberOf : Plain → Item → ℕ
-numberOf s (aTask i) = of (s .tasks) i 0
-numberOf s (aMessage i) = of (s .messages) i 0
+numberOf s x = of (numbersOf s (x .sort)) (x .id) 0
 
 -- A queue is those that belong to it, by rising number.
 unfoldable pub queueOf : Plain → Place → List ℕ
@@ -33,15 +37,22 @@ queueOf s q = byNumber (λ i. numberOf s (item q i)) (keep (belongs (s .body) q)
 unfoldable pub viewOf : Plain → View
 viewOf s = record { body = s .body; lines = tabulate (s .body .store) (queueOf s) }
 
+-- another body and count; other numbers of a sort
+abbrev pub with-count : Body → ℕ → Plain → Plain
+with-count b n s = record { body = b; tasks = s .tasks; messages = s .messages; count = n }
+
+abbrev pub with-numbers : Sort → List ℕ → Plain → Plain
+with-numbers tasks l s = record { body = s .body; tasks = l; messages = s .messages; count = s .count }
+with-numbers messages l s = record { body = s .body; tasks = s .tasks; messages = l; count = s .count }
+
 -- A task takes a new number when made ready, moved, or put into a wait; a message when laid in a mailbox.
-unfoldable pub numbered : Body → Move → Plain → Plain
-numbered b stay s = record { body = b; tasks = s .tasks; messages = s .messages; count = s .count }
-numbered b (leave x) s = record { body = b; tasks = s .tasks; messages = s .messages; count = s .count }
-numbered b (last (aTask i)) s = record { body = b; tasks = put (s .tasks) i (s .count); messages = s .messages; count = suc (s .count) }
-numbered b (last (aMessage i)) s = record { body = b; tasks = s .tasks; messages = put (s .messages) i (s .count); count = suc (s .count) }
+unfoldable pub renumbered : Body → Move → Plain → Plain
+renumbered b stay s = with-count b (s .count) s
+renumbered b (leave x) s = with-count b (s .count) s
+renumbered b (last x) s = with-count b (suc (s .count)) (with-numbers (x .sort) (put (numbersOf s (x .sort)) (x .id) (s .count)) s)
 
 unfoldable pub plainAct : Act → Plain → Plain
-plainAct a s = numbered (after a (s .body)) (move (s .body) a) s
+plainAct a s = renumbered (after a (s .body)) (move (s .body) a) s
 
 unfoldable pub plainActs : List Act → Plain → Plain
 plainActs [] s = s

@@ -56,25 +56,6 @@ WaitNumbers u (some asleep) = Unit {0}
 WaitNumbers u (some (timed t)) = In t 2147483647
 WaitNumbers u (some (on k o p m)) = In o (objects u k) × WishNumbers k p m
 
--- ---- No waiter beside a nonzero semaphore, a waiting message, a free block or a pattern that meets its condition.
-
-abbrev pub anyLies : List (Option ℕ) → ℕ → Bool
-anyLies [] m = false
-anyLies (x ∷ l) m = lies x m || anyLies l m
-
--- what stands at the object would serve the waiter
-abbrev pub would-serve : Store → Kind → ℕ → ℕ → ℕ → Bool
-would-serve u semaphore o p m = not (eqb (of (u .semaphores) o 0) 0)
-would-serve u flag o p m = met (of (u .flags) o 0) p m
-would-serve u mailbox o p m = anyLies (u .messages) o
-would-serve u pool o p m = not (eqb (free (of (u .pools) o [])) 0)
-
-abbrev pub Unserved : Store → Option Wait → Type 0
-Unserved u none = Unit {0}
-Unserved u (some asleep) = Unit {0}
-Unserved u (some (timed t)) = Unit {0}
-Unserved u (some (on k o p m)) = would-serve u k o p m ≡ false
-
 -- ---- a task
 
 pub record SoundTask (u : Store) (t : Task) : Type 0 where
@@ -83,7 +64,6 @@ pub record SoundTask (u : Store) (t : Task) : Type 0 where
   pub wakeups : t .wakeups ≤ 15
   pub cell : CellNumbers (t .cell)
   pub wait : WaitNumbers u (waitOf (t .state))
-  pub unserved : Unserved u (waitOf (t .state))
   -- A sleeper and a dormant task have wake-up count 0;
   pub sleeper : sleeps (waitOf (t .state)) ≡ true → t .wakeups ≡ 0
   pub dormant : isDormant (t .state) ≡ true → t .wakeups ≡ 0
@@ -114,7 +94,32 @@ pub record Queue (b : Body) (q : Place) (l : List ℕ) : Type 0 where
   pub known : Known (many b q) l
   pub stands : (i : ℕ) → In i (many b q) → times i l ≡ once (belongs b q i)
 
+-- ---- No waiter beside a nonzero semaphore, a waiting message, a free block or a pattern that meets its condition.
+
+abbrev pub anyLies : List (Option ℕ) → ℕ → Bool
+anyLies [] m = false
+anyLies (x ∷ l) m = lies x m || anyLies l m
+
+-- what stands at the object would serve the waiter
+abbrev pub would-serve : Store → Kind → ℕ → ℕ → ℕ → Bool
+would-serve u semaphore o p m = not (eqb (of (u .semaphores) o 0) 0)
+would-serve u flag o p m = met (of (u .flags) o 0) p m
+would-serve u mailbox o p m = anyLies (u .messages) o
+would-serve u pool o p m = not (eqb (free (of (u .pools) o [])) 0)
+
+abbrev pub Unserved : Store → Option Wait → Type 0
+Unserved u none = Unit {0}
+Unserved u (some asleep) = Unit {0}
+Unserved u (some (timed t)) = Unit {0}
+Unserved u (some (on k o p m)) = would-serve u k o p m ≡ false
+
+abbrev pub AllUnserved : Body → Type 0
+AllUnserved b = (i : ℕ) → In i (length (b .tasks)) → Unserved (b .store) (waitOf (task b i .state))
+
+-- ---- a state
+
 pub record Sound (v : View) : Type 0 where
   pub body : SoundBody (v .body)
   pub shape : Shape (v .body .store) (v .lines)
   pub queues : (q : Place) → Exists (v .body .store) q → Queue (v .body) q (line v q)
+  pub unserved : AllUnserved (v .body)

@@ -1,4 +1,4 @@
--- Calls 1 to 12, 26 and 27: tasks. A rule here is what is left of a call once the common refusals are out of the way (Table.antt):
+-- Calls 1 to 12, 26 and 27: tasks. A rule here is what is left of a call once the common refusals are out of the way (Rows.antt):
 -- the task that a word names exists, and is neither oneself nor dormant where that would be refused. `me` is the caller.
 use mathlib.Core.Bool.{Bool, not, cond}
 use mathlib.Core.List.{[], _∷_}
@@ -6,7 +6,7 @@ use Prim.Native.Nat.{ℕ, zero, suc}
 use lib.Dec.{eqb, leb}
 use lib.IntN.{ℤ, pos, negsuc}
 use Rattle.rules.specs.Codes.{OK, H-NODMT, H-SUS, E-NOSUS, E-NOWAI, E-QOVR, E-TMOUT, E-RLWAI}
-use Rattle.rules.specs.State.{asleep, timed, State, dormant, ready, suspended, waiting, waiting-suspended, task, waitOf, isDormant, isSuspended, isWaiting, sleeps}
+use Rattle.rules.specs.State.{asleep, timed, State, dormant, ready, suspended, waiting, waiting-suspended, Body, task, waitOf, isDormant, isSuspended, isWaiting, sleeps}
 use Rattle.rules.specs.Places.{readyAt}
 use Rattle.rules.specs.Events.{nat}
 use Rattle.rules.specs.Acts.{start, retire, rotate, regrade, release, suspend, resume, wakeups}
@@ -17,9 +17,13 @@ use Rattle.rules.specs.Verdicts.{Verdict, refuse, gives, done, waits, ch
 abbrev pub stateOf : View → ℤ → State
 stateOf v a = task (v .body) (nat a) .state
 
+-- task i is started
+unfoldable pub starting : Body → ℕ → Verdict
+starting b i = check (not (isDormant (task b i .state))) H-NODMT (done (start i ∷ []))
+
 -- 1 sta_tsk(a): ready at its starting priority, cell 0 and 0.
 unfoldable pub sta-tsk : View → ℤ → Verdict
-sta-tsk v a = check (not (isDormant (stateOf v a))) H-NODMT (done (start (nat a) ∷ []))
+sta-tsk v a = starting (v .body) (nat a)
 
 -- 2 ext_tsk T: the caller goes dormant, code 0.
 unfoldable pub ext-tsk : ℕ → Verdict
@@ -66,11 +70,15 @@ wai-for me (negsuc t) = waits me asleep
 unfoldable pub wai-tsk : View → ℕ → ℤ → Verdict
 wai-tsk v me a = take-wakeup v me (wai-for me a)
 
--- 11 wup_tsk(a): a sleeper is released, cell 0 and 0; any other task's count rises.
+-- task i is woken up: a sleeper is released, cell 0 and 0; any other task's count rises.
+unfoldable pub waking : Body → ℕ → Verdict
+waking b i =
+    choose (sleeps (waitOf (task b i .state))) (done (release i OK 0 ∷ []))
+    (check (leb 15 (task b i .wakeups)) E-QOVR (done (wakeups i (suc (task b i .wakeups)) ∷ [])))
+
+-- 11 wup_tsk(a): wakes it up.
 unfoldable pub wup-tsk : View → ℤ → Verdict
-wup-tsk v a =
-    choose (sleeps (waitOf (stateOf v a))) (done (release (nat a) OK 0 ∷ []))
-    (check (leb 15 (task (v .body) (nat a) .wakeups)) E-QOVR (done (wakeups (nat a) (suc (task (v .body) (nat a) .wakeups)) ∷ [])))
+wup-tsk v a = waking (v .body) (nat a)
 
 -- 12 can_wup(a): w1 the old count, which becomes 0.
 unfoldable pub can-wup : View → ℤ → Verdict

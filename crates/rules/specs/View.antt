@@ -1,10 +1,10 @@
 -- A view: what the rules are read over. And the running rule.
-use mathlib.Core.Bool.{not}
+use mathlib.Core.Bool.{not, cond}
 use mathlib.Core.List.{List, [], _∷_, _++_}
 use Prim.Native.Nat.{ℕ}
 use Rattle.rules.specs.Ids.{keep, first}
 use Rattle.rules.specs.State.{Body}
-use Rattle.rules.specs.Places.{Place, readyAt, waiters, mail, Item, aTask, aMessage, item, same, belongs, Lines, lineAt, tabulate}
+use Rattle.rules.specs.Places.{Place, sameSort, sortAt, Item, item, same, belongs, Lines, lineAt, tabulate}
 use Rattle.rules.specs.Acts.{Act, after, Move, stay, leave, last, move}
 
 -- The paper's picture of a state: all but the queues, and the queues.
@@ -33,12 +33,7 @@ running v = first (best v)
 
 -- the item's id, at the places of its sort
 abbrev pub alone : Item → Place → List ℕ
-alone (aTask i) (readyAt p) = i ∷ []
-alone (aTask i) (waiters k o) = i ∷ []
-alone (aTask i) (mail m) = []
-alone (aMessage i) (readyAt p) = []
-alone (aMessage i) (waiters k o) = []
-alone (aMessage i) (mail m) = i ∷ []
+alone x q = cond (sameSort (x .sort) (sortAt q)) (x .id ∷ []) []
 
 abbrev pub without : Item → Place → List ℕ → List ℕ
 without x q l = keep (λ i. not (same x (item q i))) l

@@ -2,14 +2,15 @@
 use Prim.Native.Nat.{_≤_, _-_}
 use native.Mathlib.Omega.{arith}
 use borrow.Author.Needs.{needs}
+use Rattle.memory_columns.specs.Layout.{stateWords}
 use Rattle.bench_sheet.proofs.memory.sweep.Statement.{statement}
 use Rattle.bench_sheet.proofs.memory.sweep.Tie as tie
 
 abbrev Inv-loop : tie.InvT-loop
-Inv-loop words₀ messages word at₀ found₀ words at found = (found ≤ at) × (at ≤ 1180)
+Inv-loop words₀ messages word at₀ found₀ words at found = (found ≤ at) × (at ≤ stateWords)
 
 abbrev μ-loop : tie.MeasureT-loop
-μ-loop words₀ messages word at₀ found₀ words at found = 1180 - at
+μ-loop words₀ messages word at₀ found₀ words at found = stateWords - at
 
 loop-holds : tie.Need-loop-holds Inv-loop μ-loop
 loop-holds c = (omega arith, omega arith)

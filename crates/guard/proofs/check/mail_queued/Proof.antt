@@ -1,8 +1,8 @@
 -- `guard::check::mail_queued` meets its contract. By its three tests. Assumes nothing.
 use denote.Ref.{now}
-use Rattle.rings.specs.Links.{nexts}
-use Rattle.columns.specs.Layout as Layout
-use Rattle.columns.specs.Layout.{words}
+use Rattle.memory_rings.specs.Links.{nexts}
+use Rattle.memory_columns.specs.Layout as Layout
+use Rattle.memory_columns.specs.Layout.{words}
 use Rattle.guard.proofs.Steps.{queued-stop, queued-loose, queued-homes}
 use Rattle.guard.specs.Tests.{many, mailSurvey, mailHome, mailQueued}
 use borrow.Author.Needs.{needs}
@@ -21,7 +21,7 @@ returns c =
     let s = c .before .before in
     let st = s .before .before in
     let b = now (st .args .words) in
-    queued-stop (mailSurvey b) (many b 5) (nexts (words Layout.mailLinks b)) (mailHome (now (st .args .messages))) (s .survey-mail .ensures) (c .if1 .taken)
+    queued-stop (mailSurvey b) (many b Layout.messages) (nexts (words Layout.mailLinks b)) (mailHome (now (st .args .messages))) (s .survey-mail .ensures) (c .if1 .taken)
 
 mail-links-requires : tie.Need-mail-links-requires
 mail-links-requires c κs = search needs
@@ -45,7 +45,7 @@ returns-2 c =
     let s = i .before .before in
     let st = s .before .before in
     let b = now (st .args .words) in
-    queued-loose (mailSurvey b) (many b 5) (nexts (words Layout.mailLinks b)) (mailHome (now (st .args .messages))) (s .survey-mail .ensures) (y .system .ensures) (rw (k .mail-links .ensures .0) at (l .loose .ensures)) (c .if2 .taken)
+    queued-loose (mailSurvey b) (many b Layout.messages) (nexts (words Layout.mailLinks b)) (mailHome (now (st .args .messages))) (s .survey-mail .ensures) (y .system .ensures) (rw (k .mail-links .ensures .0) at (l .loose .ensures)) (c .if2 .taken)
 
 slice-aggregate-message-homes-ok : tie.Need-slice-aggregate-message-homes-ok
 slice-aggregate-message-homes-ok c = search needs
@@ -67,7 +67,7 @@ returns-3 c =
     let s = i .before .before in
     let st = s .before .before in
     let b = now (st .args .words) in
-    queued-homes (mailSurvey b) (many b 5) (nexts (words Layout.mailLinks b)) (mailHome (now (st .args .messages))) (s .survey-mail .ensures) (y .system .ensures) (rw (k .mail-links .ensures .0) at (l .loose .ensures)) (i .if1 .left) (j .if2 .left) (c .before .system2 .ensures) (c .message-homes-ok .ensures)
+    queued-homes (mailSurvey b) (many b Layout.messages) (nexts (words Layout.mailLinks b)) (mailHome (now (st .args .messages))) (s .survey-mail .ensures) (y .system .ensures) (rw (k .mail-links .ensures .0) at (l .loose .ensures)) (i .if1 .left) (j .if2 .left) (c .before .system2 .ensures) (c .message-homes-ok .ensures)
 
 pub mail-queued-spec : {M : Type 1} → statement M
 mail-queued-spec =

@@ -1,8 +1,8 @@
 -- `guard::check::tasks_queued` meets its contract. By its three tests. Assumes nothing.
 use denote.Ref.{now}
-use Rattle.rings.specs.Links.{nexts}
-use Rattle.columns.specs.Layout as Layout
-use Rattle.columns.specs.Layout.{words}
+use Rattle.memory_rings.specs.Links.{nexts}
+use Rattle.memory_columns.specs.Layout as Layout
+use Rattle.memory_columns.specs.Layout.{words}
 use Rattle.guard.proofs.Steps.{queued-stop, queued-loose, queued-homes}
 use Rattle.guard.specs.Tests.{many, taskSurvey, taskHome, tasksQueued}
 use borrow.Author.Needs.{needs}
@@ -21,7 +21,7 @@ returns c =
     let s = c .before .before in
     let st = s .before .before in
     let b = now (st .args .words) in
-    queued-stop (taskSurvey b) (many b 1) (nexts (words Layout.links b)) (taskHome b) (s .survey-tasks .ensures) (c .if1 .taken)
+    queued-stop (taskSurvey b) (many b Layout.tasks) (nexts (words Layout.links b)) (taskHome b) (s .survey-tasks .ensures) (c .if1 .taken)
 
 links-requires : tie.Need-links-requires
 links-requires c κs = search needs
@@ -45,7 +45,7 @@ returns-2 c =
     let s = i .before .before in
     let st = s .before .before in
     let b = now (st .args .words) in
-    queued-loose (taskSurvey b) (many b 1) (nexts (words Layout.links b)) (taskHome b) (s .survey-tasks .ensures) (y .system .ensures) (rw (k .links .ensures .0) at (l .loose .ensures)) (c .if2 .taken)
+    queued-loose (taskSurvey b) (many b Layout.tasks) (nexts (words Layout.links b)) (taskHome b) (s .survey-tasks .ensures) (y .system .ensures) (rw (k .links .ensures .0) at (l .loose .ensures)) (c .if2 .taken)
 
 slice-aggregate-task-homes-ok : tie.Need-slice-aggregate-task-homes-ok
 slice-aggregate-task-homes-ok c = search needs
@@ -67,7 +67,7 @@ returns-3 c =
     let s = i .before .before in
     let st = s .before .before in
     let b = now (st .args .words) in
-    queued-homes (taskSurvey b) (many b 1) (nexts (words Layout.links b)) (taskHome b) (s .survey-tasks .ensures) (y .system .ensures) (rw (k .links .ensures .0) at (l .loose .ensures)) (i .if1 .left) (j .if2 .left) (c .before .system2 .ensures) (c .task-homes-ok .ensures)
+    queued-homes (taskSurvey b) (many b Layout.tasks) (nexts (words Layout.links b)) (taskHome b) (s .survey-tasks .ensures) (y .system .ensures) (rw (k .links .ensures .0) at (l .loose .ensures)) (i .if1 .left) (j .if2 .left) (c .before .system2 .ensures) (c .task-homes-ok .ensures)
 
 pub tasks-queued-spec : {M : Type 1} → statement M
 tasks-queued-spec =

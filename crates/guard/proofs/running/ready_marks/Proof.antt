@@ -1,8 +1,9 @@
 -- `guard::running::ready_marks` meets its contract. The priorities that are left give the same marks. Assumes nothing.
 use mathlib.Core.Path.{_≡_, refl, _∙_}
 use mathlib.Core.Logic.{⊎-elim}
-use Prim.Native.Nat.{_+_, _≤_}
+use Prim.Native.Nat.{suc, _+_, _≤_}
 use native.Mathlib.Omega.{arith}
+use Rattle.memory_columns.specs.Layout.{maxPriorities}
 use Rattle.guard.specs.Running.{marksOf}
 use Rattle.guard.proofs.Loops.{marks-none, marks-skip, marks-set}
 use borrow.Author.Needs.{needs}
@@ -10,7 +11,7 @@ use Rattle.guard.proofs.running.ready_marks.Statement.{statement}
 use Rattle.guard.proofs.running.ready_marks.Tie as tie
 
 abbrev Inv-loop : tie.InvT-loop
-Inv-loop words marks₀ p₀ left₀ marks p left = (marksOf left p marks words ≡ marksOf 16 1 0 words) × (p + left ≡ 17) × (1 ≤ p)
+Inv-loop words marks₀ p₀ left₀ marks p left = (marksOf left p marks words ≡ marksOf maxPriorities 1 0 words) × (p + left ≡ suc maxPriorities) × (1 ≤ p)
 
 abbrev μ-loop : tie.MeasureT-loop
 μ-loop words marks₀ p₀ left₀ marks p left = left

@@ -1,42 +1,15 @@
--- `guard::running::running_task` meets its contract. Step by step. Assumes nothing.
-use Rattle.guard.proofs.Loops.{runs-none, runs-first}
+-- `guard::running::running_task` meets its contract. The running task is the best. Assumes nothing.
 use borrow.Author.Needs.{needs}
+use Rattle.guard.specs.Running.{runningOf}
 use Rattle.guard.proofs.running.running_task.Statement.{statement}
 use Rattle.guard.proofs.running.running_task.Tie as tie
 
-system-requires : tie.Need-system-requires
-system-requires c κs = search needs
-
-at-most-requires : tie.Need-at-most-requires
-at-most-requires c κs = search needs
-
-ready-marks-requires : tie.Need-ready-marks-requires
-ready-marks-requires c κs = search needs
-
-best-priority-requires : tie.Need-best-priority-requires
-best-priority-requires c κs = search needs
-
-ready-anchor-requires : tie.Need-ready-anchor-requires
-ready-anchor-requires c κs = search needs
-
-first-requires : tie.Need-first-requires
-first-requires c κs = search needs
+best-task-requires : tie.Need-best-task-requires
+best-task-requires c κs = search needs
 
 returns : tie.Need-returns
-returns c = let p = c .before in let m = p .before in let a = m .before in runs-none _ (a .before .system .ensures) (a .at-most .ensures .0) (m .ready-marks .ensures) (p .best-priority .ensures) (c .if1 .taken)
-
-returns-2 : tie.Need-returns-2
-returns-2 c = let i = c .before .before in let p = i .before in let m = p .before in let a = m .before in runs-first _ (a .before .system .ensures) (a .at-most .ensures .0) (m .ready-marks .ensures) (p .best-priority .ensures) (i .if1 .left) (c .before .ready-anchor .ensures) (c .first .ensures)
+unfolding runningOf
+returns c = c .best-task .ensures
 
 pub running-task-spec : {M : Type 1} → statement M
-running-task-spec =
-    tie.close
-    (tie.spec
-    system-requires
-    at-most-requires
-    ready-marks-requires
-    best-priority-requires
-    ready-anchor-requires
-    first-requires
-    returns
-    returns-2)
+running-task-spec = tie.close (tie.spec best-task-requires returns)

@@ -5,7 +5,7 @@ use Prim.Native.Nat.{_+_, _-_, _*_, _≤_}
 use native.Mathlib.Omega.{arith}
 use lib.ListN.{length, length-set}
 use borrow.Author.Needs.{needs}
-use Rattle.calls.proofs.Judged.{signed as read-back}
+use Rattle.call_words.proofs.Signed.{signed as read-back}
 use Rattle.playback.specs.Recorded.{signedWord}
 use Rattle.playback.specs.Output.{laid}
 use Rattle.playback.specs.Playing.{wordsFrom}

@@ -1,7 +1,7 @@
 -- `event_line`: one part after the other. Assumes nothing.
 use Prim.Native.Nat.{_+_, _≤_}
 use native.Mathlib.Omega.{arith}
-use Rattle.calls.proofs.Judged.{signed as read-back}
+use Rattle.call_words.proofs.Signed.{signed as read-back}
 use Rattle.playback.specs.Text.{signed, fields}
 use Rattle.playback.proofs.Laid.{wrote-then, number-short, field-short}
 use borrow.Author.Needs.{needs}

@@ -4,7 +4,7 @@ use Prim.Native.Nat.{suc, _+_, _-_, _*_, _≤_}
 use native.Mathlib.Omega.{arith}
 use lib.ListN.{length}
 use borrow.Author.Needs.{needs}
-use Rattle.calls.proofs.Judged.{signed as read-back}
+use Rattle.call_words.proofs.Signed.{signed as read-back}
 use Rattle.playback.specs.Text.{lines}
 use Rattle.playback.specs.Playing.{rows}
 use Rattle.playback.proofs.Laid.{Left, left-next, left-none, lines-next, lines-none, lines-all}

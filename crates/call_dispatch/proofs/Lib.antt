@@ -1,0 +1,3 @@
+-- Laws of a call by its number, and of every event.
+pub mod Arms
+pub mod Done

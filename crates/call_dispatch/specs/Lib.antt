@@ -1,0 +1,2 @@
+-- A call by its number.
+pub mod Dispatching

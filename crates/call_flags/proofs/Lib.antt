@@ -1,0 +1,4 @@
+-- Laws of the calls on flags.
+pub mod FlagCalls
+pub mod FlagSteps
+pub mod FlagWalk

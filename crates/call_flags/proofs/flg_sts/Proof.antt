@@ -1,0 +1,23 @@
+-- `call_flags::flg_sts` meets its contract. It is its rule. Assumes nothing.
+use Rattle.call_flags.proofs.FlagCalls.{sts-done}
+use borrow.Author.Needs.{needs}
+use Rattle.call_flags.proofs.flg_sts.Statement.{statement}
+use Rattle.call_flags.proofs.flg_sts.Tie as tie
+
+first-waiter-requires : tie.Need-first-waiter-requires
+first-waiter-requires c κs = search needs
+
+flag-requires : tie.Need-flag-requires
+flag-requires c κs = search needs
+
+gives-requires : tie.Need-gives-requires
+gives-requires c κs = search needs
+
+returns : tie.Need-returns
+returns c =
+    let at-flag = c .before in
+    let at-first-waiter = at-flag .before in
+    sts-done _ (at-flag .flag .ensures) (at-first-waiter .first-waiter .ensures) (c .gives .ensures)
+
+pub flg-sts-spec : {M : Type 1} → statement M
+flg-sts-spec = tie.close (tie.spec first-waiter-requires flag-requires gives-requires returns)

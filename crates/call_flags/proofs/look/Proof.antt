@@ -1,0 +1,41 @@
+-- `call_flags::look` meets its contract. By its test. Assumes nothing.
+use native.Mathlib.Omega.{arith}
+use borrow.Author.Needs.{needs}
+use Rattle.call_flags.proofs.FlagSteps.{look-skips, look-serves}
+use Rattle.call_flags.proofs.look.Statement.{statement}
+use Rattle.call_flags.proofs.look.Tie as tie
+
+wish-requires : tie.Need-wish-requires
+wish-requires c κs = search needs
+
+mode-requires : tie.Need-mode-requires
+mode-requires c κs = search needs
+
+meets-requires : tie.Need-meets-requires
+meets-requires c κs = search needs
+
+returns : tie.Need-returns
+returns c =
+    let m = c .before in
+    let h = m .before in
+    (look-skips _ _ _ _ (h .before .before .wish .ensures) (h .mode .ensures) (m .meets .ensures) (c .if1 .taken), omega arith)
+
+release-requires : tie.Need-release-requires
+release-requires c κs = search needs
+
+left-of-requires : tie.Need-left-of-requires
+left-of-requires c κs = search needs
+
+add-t14 : tie.Need-add-t14
+add-t14 c = search needs
+
+returns-2 : tie.Need-returns-2
+returns-2 c =
+    let r = c .before in
+    let i = r .before .before in
+    let m = i .before in
+    let h = m .before in
+    (look-serves _ _ _ _ (h .before .before .wish .ensures) (h .mode .ensures) (m .meets .ensures) (i .if1 .left) (r .release .ensures) (c .left-of .ensures), omega arith)
+
+pub look-spec : {M : Type 1} → statement M
+look-spec = tie.close (tie.spec wish-requires mode-requires meets-requires returns release-requires left-of-requires add-t14 returns-2)

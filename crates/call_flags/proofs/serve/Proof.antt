@@ -1,0 +1,79 @@
+-- `call_flags::serve` meets its contract. What is left of the walk is the same at each turn. Assumes nothing.
+use Prim.Native.Nat.{_+_, _≤_}
+use mathlib.Core.Path.{_≡_, _∙_}
+use native.Mathlib.Omega.{arith}
+use borrow.Author.Needs.{needs}
+use Rattle.call_flags.specs.Serving.{made, walked, served}
+use Rattle.call_flags.proofs.FlagSteps.{walk-none, walk-ends, walk-on, serve-starts}
+use Rattle.call_flags.proofs.serve.Statement.{statement}
+use Rattle.call_flags.proofs.serve.Tie as tie
+
+abbrev Inv-loop : tie.InvT-loop
+Inv-loop words₀ i pattern n x₀ have₀ count₀ left₀ words x have count left = (walked left n x (made words have count) ≡ served i pattern words₀) × (count + left ≤ 32)
+
+abbrev μ-loop : tie.MeasureT-loop
+μ-loop words₀ i pattern n x₀ have₀ count₀ left₀ words x have count left = left
+
+system-requires : tie.Need-system-requires Inv-loop μ-loop
+system-requires c κs = search needs
+
+at-most-requires : tie.Need-at-most-requires Inv-loop μ-loop
+at-most-requires c κs = search needs
+
+wait-anchor-requires : tie.Need-wait-anchor-requires Inv-loop μ-loop
+wait-anchor-requires c κs = search needs
+
+follow-requires : tie.Need-follow-requires Inv-loop μ-loop
+follow-requires c κs = search needs
+
+loop-holds : tie.Need-loop-holds Inv-loop μ-loop
+loop-holds c =
+    let y = c .before in
+    let n = y .before .before in
+    (serve-starts _ _ _ (n .before .system .ensures) (n .at-most .ensures .0) (y .wait-anchor .ensures) (c .follow .ensures), omega (arith, n .at-most .ensures .1))
+
+returns : tie.Need-returns Inv-loop μ-loop
+returns c = walk-ends _ _ _ _ (c .if1 .taken) ∙ c .before .before .loop .inv .0
+
+follow-requires-2 : tie.Need-follow-requires-2 Inv-loop μ-loop
+follow-requires-2 c κs = search needs
+
+look-requires : tie.Need-look-requires Inv-loop μ-loop
+look-requires c κs = search needs
+
+sub-left : tie.Need-sub-left Inv-loop μ-loop
+sub-left c = search needs
+
+loop-less : tie.Need-loop-less Inv-loop μ-loop
+loop-less c = search needs
+
+loop-again : tie.Need-loop-again Inv-loop μ-loop
+loop-again c =
+    let f = c .before .before in
+    let i = f .before .before in
+    let t = i .before in
+    let h = t .before .loop .inv in
+    let r = c .look .ensures in
+    (walk-on _ _ _ _ (t .loop-test .taken) (i .if1 .left) (f .follow2 .ensures) (r .0) ∙ h .0, omega (arith, r .1, t .loop-test .taken, h .1))
+
+returns-2 : tie.Need-returns-2 Inv-loop μ-loop
+returns-2 c = walk-none _ _ _ _ (c .loop-test .left) ∙ c .before .loop .inv .0
+
+pub serve-spec : {M : Type 1} → statement M
+serve-spec =
+    tie.close
+    (tie.spec
+    Inv-loop
+    μ-loop
+    system-requires
+    at-most-requires
+    wait-anchor-requires
+    follow-requires
+    loop-holds
+    returns
+    follow-requires-2
+    look-requires
+    sub-left
+    loop-less
+    loop-again
+    returns-2)

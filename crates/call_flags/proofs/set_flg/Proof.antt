@@ -1,0 +1,28 @@
+-- `call_flags::set_flg` meets its contract. The walk performs the acts of the rule. Assumes nothing.
+use Rattle.call_flags.proofs.FlagWalk.{set-done}
+use borrow.Author.Needs.{needs}
+use Rattle.call_flags.proofs.set_flg.Statement.{statement}
+use Rattle.call_flags.proofs.set_flg.Tie as tie
+
+flag-requires : tie.Need-flag-requires
+flag-requires c κs = search needs
+
+serve-requires : tie.Need-serve-requires
+serve-requires c κs = search needs
+
+set-flag-requires : tie.Need-set-flag-requires
+set-flag-requires c κs = search needs
+
+releases-requires : tie.Need-releases-requires
+releases-requires c κs = search needs
+
+returns : tie.Need-returns
+returns c =
+    let at-set-flag = c .before in
+    let at-serve = at-set-flag .before .before in
+    let at-flag = at-serve .before .before in
+    let start = at-flag .before .before in
+    set-done _ _ ((start .fits .p) .fits) (at-flag .flag .ensures) (at-serve .serve .ensures) (at-set-flag .set-flag .ensures) (c .releases .ensures)
+
+pub set-flg-spec : {M : Type 1} → statement M
+set-flg-spec = tie.close (tie.spec flag-requires serve-requires set-flag-requires releases-requires returns)

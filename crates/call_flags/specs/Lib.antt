@@ -1,0 +1,2 @@
+-- The walk of set_flg.
+pub mod Serving

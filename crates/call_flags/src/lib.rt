@@ -1,0 +1,157 @@
+// The calls on flags: what is left of each once the common refusals are out of the way (crate `call_judging`). `i` is the flag that the call
+// names, `me` the caller.
+use call_objects::first_waiter;
+use call_words::Outcome;
+use call_words::codes::H_POLL;
+use call_words::done;
+use call_words::gives;
+use call_words::refuse;
+use call_words::releases;
+use call_words::waits;
+use memory_columns::CELL_OK;
+use memory_columns::FLAG;
+use memory_columns::MAX_TASKS;
+use memory_columns::STATE_WORDS;
+use memory_columns::TASKS;
+use memory_columns::at_most;
+use memory_columns::flag;
+use memory_columns::mode;
+use memory_columns::set_flag;
+use memory_columns::system;
+use memory_columns::wish;
+use memory_objects::flags::meets;
+use memory_queues::follow;
+use memory_queues::wait_anchor;
+use memory_tasks::release;
+use memory_tasks::wait;
+ghost use mathlib.Core.Path.{_≡_};
+ghost use Prim.Native.Nat.{_≤_, _+_};
+ghost use lib.IntN.{pos};
+ghost use Rattle.rules.specs.State as Kind;
+ghost use Rattle.rules.specs.State.{on};
+ghost use Rattle.rules.specs.Verdicts as Verdicts;
+ghost use Rattle.rules.specs.Objects.{polls, left, obj-sts, patternOf, set-flg, clr-flg, take-flg};
+ghost use Rattle.call_words.specs.Doing.{DoesOnWords};
+ghost use Rattle.call_words.specs.Naming.{NamesObject};
+ghost use Rattle.call_flags.specs.Serving.{made, lookedAt, served};
+
+// What is left of a pattern that has met a wish.
+fn left_of(have: u32, mode: u32) -> u32
+    ensures { λ r. ⌜ r ≡ left have mode ⌝ }
+{
+    if 2 <= mode { 0 } else { have }
+}
+
+// ---- set_flg: the waiters are looked at in order, in one walk along their queue
+
+// The pattern of this moment, and how many tasks are released so far.
+struct Walked {
+    have: u32,
+    released: u32,
+}
+
+// Task x is released if the pattern of this moment meets what it asks for.
+fn look(words: &mut [u32; STATE_WORDS], x: u32, have: u32, count: u32) -> Walked
+    requires { ⌜ count ≤ 32 ⌝ }
+    ensures { λ r. ⌜ made (now (words .exit)) (r .have) (r .released) ≡ lookedAt x (made (now (words .entry)) have count) ⌝ }
+    ensures { λ r. ⌜ r .released ≤ count + 1 ⌝ }
+{
+    let want = wish(words, x);
+    let how = mode(words, x);
+    if !meets(have, want, how) {
+        return Walked {
+            have: have,
+            released: count,
+        };
+    }
+    release(words, x, CELL_OK, have);
+    Walked {
+        have: left_of(have, how),
+        released: count + 1,
+    }
+}
+
+// The waiters on flag i, in order. More steps than there are tasks only a damaged memory would take.
+fn serve(words: &mut [u32; STATE_WORDS], i: u32, pattern: u32) -> Walked
+    ensures { λ r. ⌜ made (now (words .exit)) (r .have) (r .released) ≡ served i pattern (now (words .entry)) ⌝ }
+{
+    let n = at_most(system(words, TASKS), MAX_TASKS);
+    let mut x = follow(words, wait_anchor(FLAG, i));
+    let mut have = pattern;
+    let mut count: u32 = 0;
+    let mut left = n;
+    while 0 < left {
+        if n < x {
+            return Walked {
+                have: have,
+                released: count,
+            };
+        }
+        // A release changes the links of x.
+        let behind = follow(words, x);
+        let w = look(words, x, have, count);
+        have = w.have;
+        count = w.released;
+        x = behind;
+        left -= 1;
+    }
+    Walked {
+        have: have,
+        released: count,
+    }
+}
+
+// 16 set_flg: p is ORed in, then each waiter whose condition holds is released, in order. The pattern is written last.
+pub fn set_flg(words: &mut [u32; STATE_WORDS], i: u32, p: u32) -> Outcome
+    ensures { λ r. ⌜ DoesOnWords (NamesObject Kind.flag i) (λ v. set-flg v (pos i) (pos p)) r (now (words .entry)) (now (words .exit)) ⌝ }
+{
+    let old = flag(words, i);
+    let w = serve(words, i, old | p);
+    set_flag(words, i, w.have);
+    releases(w.released)
+}
+
+// ---- the others
+
+// 17 clr_flg: the pattern keeps the bits that p has.
+pub fn clr_flg(words: &mut [u32; STATE_WORDS], i: u32, p: u32) -> Outcome
+    ensures { λ r. ⌜ DoesOnWords (NamesObject Kind.flag i) (λ v. clr-flg v (pos i) (pos p)) r (now (words .entry)) (now (words .exit)) ⌝ }
+{
+    let n = flag(words, i);
+    set_flag(words, i, n & p);
+    done()
+}
+
+// 18 wai_flg: the caller takes the pattern p that it asks for in mode t, or waits.
+pub fn wai_flg(words: &mut [u32; STATE_WORDS], me: u32, i: u32, p: u32, t: u32) -> Outcome
+    ensures { λ r. ⌜ DoesOnWords (NamesObject Kind.flag i) (λ v. take-flg v (pos i) (pos p) (pos t) (Verdicts.waits me (on Kind.flag i p t))) r (now (words .entry)) (now (words .exit)) ⌝ }
+{
+    let n = flag(words, i);
+    if !meets(n, p, t) {
+        wait(words, me, FLAG, i, p, t);
+        return waits();
+    }
+    set_flag(words, i, left_of(n, t));
+    gives(n, 0)
+}
+
+// 19 pol_flg: the pattern is taken, if it meets what is asked for.
+pub fn pol_flg(words: &mut [u32; STATE_WORDS], i: u32, p: u32, t: u32) -> Outcome
+    ensures { λ r. ⌜ DoesOnWords (NamesObject Kind.flag i) (λ v. take-flg v (pos i) (pos p) (pos t) polls) r (now (words .entry)) (now (words .exit)) ⌝ }
+{
+    let n = flag(words, i);
+    if !meets(n, p, t) {
+        return refuse(H_POLL);
+    }
+    set_flag(words, i, left_of(n, t));
+    gives(n, 0)
+}
+
+// 29 flg_sts: the first waiter, and the pattern.
+pub fn flg_sts(words: &[u32; STATE_WORDS], i: u32) -> Outcome
+    ensures { λ r. ⌜ DoesOnWords (NamesObject Kind.flag i) (λ v. obj-sts v Kind.flag (pos i) (patternOf v (pos i))) r (now (words .entry)) (now (words .entry)) ⌝ }
+{
+    let x = first_waiter(words, FLAG, i);
+    let n = flag(words, i);
+    gives(x, n)
+}

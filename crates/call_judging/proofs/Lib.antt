@@ -1,0 +1,5 @@
+-- Laws of what is judged.
+pub mod Tests
+pub mod Refused
+pub mod Judged
+pub mod Numbered

@@ -1,0 +1,57 @@
+-- `call_judging::on_priority` meets its contract. The id, the priority, then what is common. Assumes nothing.
+use Rattle.rules.specs.Codes.{number}
+use Rattle.call_words.proofs.Signed.{saying}
+use Rattle.call_judging.proofs.Refused.{word-stops, word-passes}
+use Rattle.rules.specs.Rows.{both}
+use Rattle.call_judging.proofs.Judged.{task-is, priority-is, named-passed}
+use borrow.Author.Needs.{needs}
+use Rattle.call_judging.proofs.on_priority.Statement.{statement}
+use Rattle.call_judging.proofs.on_priority.Tie as tie
+
+system-requires : tie.Need-system-requires
+system-requires c κs = search needs
+
+is-outside-requires : tie.Need-is-outside-requires
+is-outside-requires c κs = search needs
+
+returns : tie.Need-returns
+unfolding number
+returns c =
+    let at-is-outside = c .before in
+    let at-system = at-is-outside .before in
+    let start = at-system .before in
+    λ m A. word-stops _ _ (task-is (start .args .i) _ m (at-system .system .ensures) (at-is-outside .is-outside .ensures)) (c .if1 .taken)
+
+system-requires-2 : tie.Need-system-requires-2
+system-requires-2 c κs = search needs
+
+is-outside-requires-2 : tie.Need-is-outside-requires-2
+is-outside-requires-2 c κs = search needs
+
+returns-2 : tie.Need-returns-2
+unfolding number
+returns-2 c =
+    let at-is-outside2 = c .before in
+    let at-system2 = at-is-outside2 .before in
+    let first = at-system2 .before in
+    let at-is-outside = first .before in
+    let at-system = at-is-outside .before in
+    let start = at-system .before in
+    λ m A. word-passes _ _ (task-is (start .args .i) _ m (at-system .system .ensures) (at-is-outside .is-outside .ensures)) (first .if1 .left) (word-stops _ _ (priority-is (start .args .p) _ m (at-system2 .system2 .ensures) (at-is-outside2 .is-outside2 .ensures)) (c .if2 .taken))
+
+common-requires : tie.Need-common-requires
+common-requires c κs = search needs
+
+returns-3 : tie.Need-returns-3
+returns-3 c =
+    let second = c .before in
+    let at-is-outside2 = second .before in
+    let at-system2 = at-is-outside2 .before in
+    let first = at-system2 .before in
+    let at-is-outside = first .before in
+    let at-system = at-is-outside .before in
+    let start = at-system .before in
+    λ m A. word-passes _ _ (task-is (start .args .i) _ m (at-system .system .ensures) (at-is-outside .is-outside .ensures)) (first .if1 .left) (word-passes _ _ (priority-is (start .args .p) _ m (at-system2 .system2 .ensures) (at-is-outside2 .is-outside2 .ensures)) (second .if2 .left) (named-passed both (start .args .handler) (start .args .me) 2 (start .args .i) _ m (at-system .system .ensures) (at-is-outside .is-outside .ensures) (first .if1 .left) (saying _ (c .common .ok) (c .common .ensures))))
+
+pub on-priority-spec : {M : Type 1} → statement M
+on-priority-spec = tie.close (tie.spec system-requires is-outside-requires returns system-requires-2 is-outside-requires-2 returns-2 common-requires returns-3)

@@ -1,0 +1,71 @@
+-- The refusals before a call's own rule, as numbers: the number of the first that applies, 0 if none does.
+use mathlib.Core.Bool.{Bool, true, false, cond}
+use mathlib.Core.List.{List, [], _∷_, _++_}
+use mathlib.Core.Option.{Option, none, some}
+use mathlib.Core.Path.{_≡_}
+use Prim.Native.Nat.{ℕ, zero, suc}
+use lib.IntN.{ℤ, pos}
+use Rattle.rules.specs.Codes.{number, E-CTX, E-SELF, E-DMT}
+use Rattle.rules.specs.State.{Kind}
+use Rattle.rules.specs.View.{View}
+use Rattle.rules.specs.Rows.{Refusal, Context, T, both, Target, unnamed, anyone, alive, another, Row, object-id}
+use Rattle.rules.specs.Table.{misplaced, names-self, names-dormant, table, entry}
+use Rattle.memory_picture.specs.Picture.{kindNumber, viewShown, Accepted}
+
+unfoldable pub firstCode : List Refusal → ℤ
+firstCode [] = pos 0
+firstCode (x ∷ l) = cond (x .applies) (number (x .code)) (firstCode l)
+
+-- ---- E_CTX, E_SELF, E_DMT
+
+abbrev pub contextOf : Bool → Context
+contextOf true = T
+contextOf false = both
+
+-- 0 none is named, 1 task i, 2 not dormant, 3 nor oneself
+abbrev pub targetOf : ℕ → ℕ → Target
+targetOf zero i = unnamed
+targetOf (suc zero) i = anyone i
+targetOf (suc (suc zero)) i = alive i
+targetOf (suc (suc (suc n))) i = another i
+
+-- d: the task that is named is dormant
+abbrev pub dormantIf : Target → Bool → Bool
+dormantIf unnamed d = false
+dormantIf (anyone i) d = false
+dormantIf (alive i) d = d
+dormantIf (another i) d = d
+
+-- d: E_DMT applies
+abbrev pub common : Context → Target → Bool → ℕ → Bool → List Refusal
+common c t handler me d =
+    record { applies = misplaced c handler me; code = E-CTX } ∷ record { applies = names-self t me; code = E-SELF } ∷ record { applies = d; code = E-DMT } ∷ []
+
+abbrev pub commonCode : Context → Target → Bool → ℕ → Bool → ℤ
+commonCode c t handler me d = firstCode (common c t handler me (dormantIf t d))
+
+-- ---- a row: its words, then these
+
+abbrev pub refusalsOf : View → Bool → ℕ → List Refusal → Context → Target → List Refusal
+refusalsOf v handler me words c t = words ++ common c t handler me (names-dormant (v .body) t)
+
+-- z is the row's code, on any accepted memory
+abbrev pub Judges : (View → List Refusal) → Context → Target → Bool → ℕ → ℤ → List ℕ → Type 0
+Judges words c t handler me z b = (m : List ℕ) → Accepted b m → z ≡ firstCode (refusalsOf (viewShown b m) handler me (words (viewShown b m)) c t)
+
+-- the same of a call that names object i, of the kind that is counted at n, and judges no other word
+abbrev pub JudgesObject : ℕ → Context → Bool → ℕ → ℕ → ℤ → List ℕ → Type 0
+JudgesObject n c handler me i z b = (k : Kind) → kindNumber k ≡ n → Judges (λ v. object-id v k (pos i) ∷ []) c unnamed handler me z b
+
+-- ---- a call by its number; none has no row
+
+unfoldable pub rowAt : View → ℕ → ℕ → ℤ → ℤ → ℤ → Option Row
+rowAt v me zero a b c = none
+rowAt v me (suc n) a b c = entry (table v me a b c) n
+
+unfoldable pub rowCode : View → Bool → ℕ → Option Row → ℤ
+rowCode v handler me none = pos 0
+rowCode v handler me (some r) = firstCode (refusalsOf v handler me (r .words) (r .context) (r .target))
+
+abbrev pub JudgesCall : Bool → ℕ → ℕ → ℤ → ℤ → ℤ → ℤ → List ℕ → Type 0
+JudgesCall handler me n a b c z ws = (m : List ℕ) → Accepted ws m → z ≡ rowCode (viewShown ws m) handler me (rowAt (viewShown ws m) me n a b c)

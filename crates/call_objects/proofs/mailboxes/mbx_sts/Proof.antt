@@ -1,0 +1,27 @@
+-- `call_objects::mailboxes::mbx_sts` meets its contract. It is its rule. Assumes nothing.
+use Rattle.call_objects.proofs.MailboxCalls.{sts-done}
+use borrow.Author.Needs.{needs}
+use Rattle.call_objects.proofs.mailboxes.mbx_sts.Statement.{statement}
+use Rattle.call_objects.proofs.mailboxes.mbx_sts.Tie as tie
+
+first-waiter-requires : tie.Need-first-waiter-requires
+first-waiter-requires c κs = search needs
+
+mail-anchor-requires : tie.Need-mail-anchor-requires
+mail-anchor-requires c κs = search needs
+
+mail-first-requires : tie.Need-mail-first-requires
+mail-first-requires c κs = search needs
+
+gives-requires : tie.Need-gives-requires
+gives-requires c κs = search needs
+
+returns : tie.Need-returns
+returns c =
+    let at-mail-first = c .before in
+    let at-mail-anchor = at-mail-first .before in
+    let at-first-waiter = at-mail-anchor .before in
+    sts-done _ (at-mail-anchor .mail-anchor .ensures) (at-mail-first .mail-first .ensures) (at-first-waiter .first-waiter .ensures) (c .gives .ensures)
+
+pub mbx-sts-spec : {M : Type 1} → statement M
+mbx-sts-spec = tie.close (tie.spec first-waiter-requires mail-anchor-requires mail-first-requires gives-requires returns)

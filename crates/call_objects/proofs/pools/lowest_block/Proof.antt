@@ -1,0 +1,18 @@
+-- `call_objects::pools::lowest_block` meets its contract. Below the lowest bit stand as many bits as are 0 there. Assumes nothing.
+use native.Mathlib.Omega.{arith}
+use Rattle.guard.proofs.Loops.{lowest-at, lowest-none}
+use borrow.Author.Needs.{needs}
+use Rattle.call_objects.proofs.pools.lowest_block.Statement.{statement}
+use Rattle.call_objects.proofs.pools.lowest_block.Tie as tie
+
+add-result : tie.Need-add-result
+add-result c = search needs
+
+returns : tie.Need-returns
+returns c = lowest-at 32 32 1 _ (omega arith) (c .if1 .taken)
+
+returns-2 : tie.Need-returns-2
+returns-2 c = lowest-none 32 32 1 _ (omega arith) (c .if1 .left)
+
+pub lowest-block-spec : {M : Type 1} → statement M
+lowest-block-spec = tie.close (tie.spec add-result returns returns-2)

@@ -1,0 +1,3 @@
+-- What the calls on objects read.
+pub mod Waiting
+pub mod Blocks

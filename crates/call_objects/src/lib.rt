@@ -1,0 +1,18 @@
+// The calls on semaphores, mailboxes and pools: what is left of each once the common refusals are out of the way (crate `call_judging`).
+// `i` is the object that the call names, `me` the caller.
+pub mod mailboxes;
+pub mod pools;
+pub mod semaphores;
+
+use memory_columns::STATE_WORDS;
+use memory_queues::first;
+use memory_queues::wait_anchor;
+ghost use mathlib.Core.Path.{_≡_};
+ghost use Rattle.call_objects.specs.Waiting.{firstWaiter};
+
+// The first task that waits on object o of a kind, 0 if none does.
+pub fn first_waiter(words: &[u32; STATE_WORDS], kind: u32, o: u32) -> u32
+    ensures { λ r. ⌜ r ≡ firstWaiter kind o (now (words .entry)) ⌝ }
+{
+    first(words, wait_anchor(kind, o))
+}

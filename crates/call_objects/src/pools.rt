@@ -1,0 +1,117 @@
+// The calls on pools.
+use crate::first_waiter;
+use call_words::Outcome;
+use call_words::codes::H_ILBLK;
+use call_words::codes::H_POLL;
+use call_words::done;
+use call_words::gives;
+use call_words::refuse;
+use call_words::releases;
+use call_words::waits;
+use memory_columns::CELL_OK;
+use memory_columns::MAX_BLOCKS;
+use memory_columns::POOL;
+use memory_columns::STATE_WORDS;
+use memory_columns::free;
+use memory_columns::size;
+use memory_objects::marks::mark_block;
+use memory_tasks::release;
+use memory_tasks::wait;
+ghost use mathlib.Core.Path.{_≡_};
+ghost use lib.IntN.{pos};
+ghost use Rattle.rules.specs.State.{pool};
+ghost use Rattle.rules.specs.Objects.{polls, waits-on, obj-sts, blocksOf, take-blk, rel-blk};
+ghost use Rattle.rules.specs.Objects as Objects;
+ghost use Rattle.guard.specs.Running.{lowestMark};
+ghost use Rattle.call_words.specs.Doing.{DoesOnWords};
+ghost use Rattle.call_words.specs.Naming.{NamesObject};
+ghost use Rattle.call_objects.specs.Blocks.{bitCount, notOut};
+
+// The lowest block that is free in a mask; 0 if none is.
+fn lowest_block(mask: u32) -> u32
+    ensures { λ r. ⌜ r ≡ lowestMark 32 1 mask ⌝ }
+{
+    let z = u32::trailing_zeros(mask);
+    if z < MAX_BLOCKS { z + 1 } else { 0 }
+}
+
+// How many blocks are free in a mask.
+fn count_blocks(mask: u32) -> u32
+    ensures { λ r. ⌜ r ≡ bitCount 32 mask ⌝ }
+{
+    let mut rest = mask;
+    let mut n: u32 = 0;
+    let mut left = MAX_BLOCKS;
+    while 0 < left {
+        n += rest % 2;
+        rest = rest / 2;
+        left -= 1;
+    }
+    n
+}
+
+// Block k of a pool cannot be given back: there is no such block, or it is free.
+fn is_not_out(words: &[u32; STATE_WORDS], pool: u32, k: u32) -> bool
+    ensures { λ r. ⌜ r ≡ notOut (now (words .entry)) pool k ⌝ }
+{
+    if k == 0 {
+        return true;
+    }
+    if size(words, pool) < k {
+        return true;
+    }
+    if MAX_BLOCKS < k {
+        return true;
+    }
+    (free(words, pool) >> (k - 1)) % 2 == 1
+}
+
+// 23 get_blk: the caller takes the lowest free block, or waits.
+pub fn get_blk(words: &mut [u32; STATE_WORDS], me: u32, i: u32) -> Outcome
+    ensures { λ r. ⌜ DoesOnWords (NamesObject pool i) (λ v. take-blk v (pos i) (waits-on me pool (pos i))) r (now (words .entry)) (now (words .exit)) ⌝ }
+{
+    let k = lowest_block(free(words, i));
+    if k == 0 {
+        wait(words, me, POOL, i, 0, 0);
+        return waits();
+    }
+    mark_block(words, i, k, false);
+    gives(k, 0)
+}
+
+// 24 pget_blk: the lowest free block is taken, if there is one.
+pub fn pget_blk(words: &mut [u32; STATE_WORDS], i: u32) -> Outcome
+    ensures { λ r. ⌜ DoesOnWords (NamesObject pool i) (λ v. take-blk v (pos i) polls) r (now (words .entry)) (now (words .exit)) ⌝ }
+{
+    let k = lowest_block(free(words, i));
+    if k == 0 {
+        return refuse(H_POLL);
+    }
+    mark_block(words, i, k, false);
+    gives(k, 0)
+}
+
+// 25 rel_blk: block k goes to the first waiter, else it is free.
+pub fn rel_blk(words: &mut [u32; STATE_WORDS], i: u32, k: u32) -> Outcome
+    ensures { λ r. ⌜ DoesOnWords (NamesObject pool i) (λ v. rel-blk v (pos i) (pos k)) r (now (words .entry)) (now (words .exit)) ⌝ }
+{
+    if is_not_out(words, i, k) {
+        return refuse(H_ILBLK);
+    }
+    let x = first_waiter(words, POOL, i);
+    if x != 0 {
+        release(words, x, CELL_OK, k);
+        return releases(1);
+    }
+    mark_block(words, i, k, true);
+    done()
+}
+
+// 31 mpl_sts: the first waiter, and the number of free blocks.
+pub fn mpl_sts(words: &[u32; STATE_WORDS], i: u32) -> Outcome
+    ensures { λ r. ⌜ DoesOnWords (NamesObject pool i) (λ v. obj-sts v pool (pos i) (Objects.free (blocksOf v (pos i)))) r (now (words .entry)) (now (words .entry)) ⌝ }
+{
+    let x = first_waiter(words, POOL, i);
+    let n = count_blocks(free(words, i));
+    gives(x, n)
+}

@@ -1,0 +1,5 @@
+-- Laws of the calls on tasks.
+pub mod Readings
+pub mod Heads
+pub mod TaskCalls
+pub mod WakeCalls

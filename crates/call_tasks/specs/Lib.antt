@@ -1,0 +1,2 @@
+-- What the calls on tasks read.
+pub mod Reading

@@ -1,0 +1,2 @@
+-- Laws of the tick.
+pub mod Ticks

@@ -1,0 +1,46 @@
+-- `call_tick::expire_all` meets its contract. What is left of the pass, and the count with it, is the same at each turn. Assumes nothing.
+use Prim.Native.Nat.{_+_, _≤_}
+use mathlib.Core.Path.{_≡_, refl}
+use native.Mathlib.Omega.{arith}
+use borrow.Author.Needs.{needs}
+use Rattle.call_tick.specs.Ticking.{expired, expiries}
+use Rattle.call_tick.proofs.Ticks.{Along, expire-none, expire-step}
+use Rattle.call_tick.proofs.expire_all.Statement.{statement}
+use Rattle.call_tick.proofs.expire_all.Tie as tie
+
+abbrev Inv-loop : tie.InvT-loop
+Inv-loop words₀ n count₀ i₀ left₀ words count i left = Along count left i words (expired n 1 words₀) (expiries n 1 words₀) × (i + left ≡ n + 1) × (count ≤ i)
+
+abbrev μ-loop : tie.MeasureT-loop
+μ-loop words₀ n count₀ i₀ left₀ words count i left = left
+
+loop-holds : tie.Need-loop-holds Inv-loop μ-loop
+loop-holds c = ((refl, omega arith), omega arith, omega arith)
+
+expire-requires : tie.Need-expire-requires Inv-loop μ-loop
+expire-requires c κs = search needs
+
+add-count : tie.Need-add-count Inv-loop μ-loop
+add-count c = search needs
+
+add-i : tie.Need-add-i Inv-loop μ-loop
+add-i c = search needs
+
+sub-left : tie.Need-sub-left Inv-loop μ-loop
+sub-left c = search needs
+
+loop-less : tie.Need-loop-less Inv-loop μ-loop
+loop-less c = search needs
+
+loop-again : tie.Need-loop-again Inv-loop μ-loop
+loop-again c =
+    let i = c .before .before in
+    let h = i .before .loop .inv in
+    let r = c .expire .ensures in
+    (expire-step _ _ _ _ (i .loop-test .taken) (r .0) (r .1 .0) (h .0), omega arith, omega (arith, r .1 .1))
+
+returns : tie.Need-returns Inv-loop μ-loop
+returns c = expire-none _ _ _ _ (c .loop-test .left) (c .before .loop .inv .0)
+
+pub expire-all-spec : {M : Type 1} → statement M
+expire-all-spec = tie.close (tie.spec Inv-loop μ-loop loop-holds expire-requires add-count add-i sub-left loop-less loop-again returns)

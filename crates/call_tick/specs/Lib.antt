@@ -1,0 +1,2 @@
+-- What the first pass of a tick writes.
+pub mod Ticking

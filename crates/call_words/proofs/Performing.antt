@@ -1,0 +1,101 @@
+-- Acts performed one after the other on an accepted memory: it stays accepted, and shows what the acts make of the view. `Pre` says what keeps
+-- a state sound, and is silent on whether what an act names is there: `Names` adds that.
+use mathlib.Core.Bool.{true, false}
+use mathlib.Core.List.{List, [], _∷_}
+use mathlib.Core.Logic.{inl, inr}
+use mathlib.Core.Option.{none}
+use mathlib.Core.Path.{_≡_, refl, sym, ap, _∙_, subst}
+use Prim.Native.Nat.{ℕ}
+use lib.ListN.{length}
+use Rattle.rules.specs.Ids.{of, In}
+use Rattle.rules.specs.Codes.{Code}
+use Rattle.rules.specs.State.{Body, task, isReady}
+use Rattle.rules.specs.Acts.{Act, start, retire, rotate, regrade, wait, release, suspend, resume, wakeups, count, pattern, post, receive, mark, elapse, after}
+use Rattle.rules.specs.View.{View, act, acts}
+use Rattle.rules.specs.Objects.{laid}
+use Rattle.rules.specs.Sound.{CellNumbers, Sound}
+use Rattle.rules.proofs.Keeps.{Pre}
+use Rattle.rules.proofs.Queues.{sound-act, body-act}
+use Rattle.rules.proofs.Calls.{Steps}
+use Rattle.memory_picture.specs.Picture.{codeOf, bodyShown, viewShown, Accepted, Shows}
+use Rattle.memory_picture.specs.Perform.{codeKept, performed, performedMarks, Fit}
+use Rattle.memory_picture.proofs.Perform.{perform-law}
+use Rattle.call_words.specs.Doing.{performs, performsMarks}
+
+-- ---- what an act names is there, as far as `Pre` does not say it
+
+abbrev pub Names : Body → Act → Type 0
+Names b (start i) = In i (length (b .tasks))
+Names b (retire i) = In i (length (b .tasks))
+Names b (rotate i) = In i (length (b .tasks)) × (isReady (task b i .state) ≡ true)
+Names b (regrade i p) = In i (length (b .tasks))
+Names b (wait i w) = In i (length (b .tasks))
+Names b (release i c w) = In i (length (b .tasks))
+Names b (suspend i) = In i (length (b .tasks))
+Names b (resume i) = In i (length (b .tasks))
+Names b (wakeups i n) = In i (length (b .tasks))
+Names b (count s n) = In s (length (b .store .semaphores))
+Names b (pattern f n) = In f (length (b .store .flags))
+Names b (post j m) = In j (length (b .store .messages)) × (laid (of (b .store .messages) j none) ≡ false)
+Names b (receive j) = In j (length (b .store .messages))
+Names b (mark p k t) = In p (length (b .store .pools)) × In k (length (of (b .store .pools) p []))
+Names b elapse = Unit {0}
+
+-- of each act of a list, at its time
+abbrev pub AllNames : Body → List Act → Type 0
+AllNames b [] = Unit {0}
+AllNames b (a ∷ l) = Names b a × AllNames (after a b) l
+
+-- a cell's code is one that the memory keeps
+cell-kept : (c : Code) (w : ℕ) → CellNumbers (record { code = c; word = w }) → codeOf (codeKept c) ≡ c
+unfolding codeOf
+cell-kept c w (inl h) = subst (λ (x : Code). codeOf (codeKept x) ≡ x) (sym (h .0)) refl
+cell-kept c w (inr h) = elim (h .0) [ inl e ↦ subst (λ (x : Code). codeOf (codeKept x) ≡ x) (sym e) refl | inr e ↦ subst (λ (x : Code). codeOf (codeKept x) ≡ x) (sym e) refl ]
+
+pub pre-fits : (b : Body) (a : Act) → Pre b a → Names b a → Fit b a
+pre-fits b (start i) p n = n
+pre-fits b (retire i) p n = n
+pre-fits b (rotate i) p n = n
+pre-fits b (regrade i k) p n = (n, p .0)
+pre-fits b (wait i w) p n = (n, p n .0)
+pre-fits b (release i c w) p n = (n, cell-kept c w p)
+pre-fits b (suspend i) p n = n
+pre-fits b (resume i) p n = n
+pre-fits b (wakeups i k) p n = n
+pre-fits b (count s k) p n = n
+pre-fits b (pattern f k) p n = n
+pre-fits b (post j m) p n = (n .0, p .0, n .1)
+pre-fits b (receive j) p n = n
+pre-fits b (mark q k t) p n = n
+pre-fits b elapse p n = n
+
+-- ---- acts performed one after the other
+
+pub shown-body : (b m : List ℕ) → viewShown b m .body ≡ bodyShown b m
+unfolding viewShown
+shown-body b m = refl
+
+-- one act
+module _ (a : Act) (b m : List ℕ) (A : Accepted b m) (p : Pre (bodyShown b m) a) (n : Names (bodyShown b m) a) where
+  pub shows : Shows (performed a b) (performedMarks a m) (act a (viewShown b m))
+  shows = perform-law a b m A (pre-fits (bodyShown b m) a p n)
+
+  pub accepts : Accepted (performed a b) (performedMarks a m)
+  accepts = record {
+    whole = shows .whole;
+    sound = subst Sound (sym (shows .view)) (sound-act a (viewShown b m) (A .sound) (subst (λ (c : Body). Pre c a) (sym (shown-body b m)) p));
+  }
+
+  body-then : after a (bodyShown b m) ≡ bodyShown (performed a b) (performedMarks a m)
+  body-then = ap (after a) (sym (shown-body b m)) ∙ sym (body-act a (viewShown b m)) ∙ ap (λ (v : View). v .body) (sym (shows .view)) ∙ shown-body _ _
+
+pub performs-law : (l : List Act) (b m : List ℕ) → Accepted b m → Steps (bodyShown b m) l → AllNames (bodyShown b m) l
+    → Accepted (performs l b) (performsMarks l m) × (viewShown (performs l b) (performsMarks l m) ≡ acts l (viewShown b m))
+unfolding performs performsMarks acts
+performs-law [] b m A s n = (A, refl)
+performs-law (a ∷ l) b m A s n =
+    let e = body-then a b m A (s .0) (n .0) in
+    let r =
+    performs-law l (performed a b) (performedMarks a m) (accepts a b m A (s .0) (n .0)) (subst (λ (c : Body). Steps c l) e (s .1))
+    (subst (λ (c : Body). AllNames c l) e (n .1)) in
+    (r .0, r .1 ∙ ap (acts l) (shows a b m A (s .0) (n .0) .view))

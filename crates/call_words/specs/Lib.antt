@@ -1,0 +1,4 @@
+-- What a call answers, and what its function does to the memory.
+pub mod Outcomes
+pub mod Doing
+pub mod Naming

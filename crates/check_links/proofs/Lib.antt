@@ -1,0 +1,3 @@
+-- Laws of the survey.
+pub mod Surveys
+pub mod Steps

@@ -1,0 +1,2 @@
+-- The survey of links that may be damaged.
+pub mod Survey

@@ -1,2 +1,0 @@
--- Laws of the layout.
-pub mod Tiling

@@ -1,2 +1,0 @@
--- What a call by its number does.
-pub mod Calling

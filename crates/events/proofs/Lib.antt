@@ -1,3 +1,0 @@
--- Laws of events.
-pub mod Served
-pub mod Batches

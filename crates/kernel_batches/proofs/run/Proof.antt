@@ -1,0 +1,102 @@
+-- `kernel_batches::run` meets its contract: by whether the batch fits, and the start. Assumes nothing.
+use mathlib.Core.Path.{refl, sym, _∙_}
+use denote.Ref.{now}
+use Rattle.kernel_batches.specs.declared.Batch.the-variants.{Ragged, FewCodes, FewWords}
+use Rattle.kernel_batches.specs.Batches.{lent}
+use Rattle.kernel_batches.proofs.Batches.{isDone, run-done, run-refused, run-none}
+use borrow.Author.Needs.{needs}
+use Rattle.kernel_batches.proofs.run.Statement.{statement}
+use Rattle.kernel_batches.proofs.run.Tie as tie
+
+fit-requires : tie.Need-fit-requires
+fit-requires c κs = search needs
+
+enum-told : tie.Need-enum-told
+enum-told c = search needs
+
+start-requires : tie.Need-start-requires
+start-requires c κs = search needs
+
+enum-told-2 : tie.Need-enum-told-2
+enum-told-2 c = search needs
+
+serve-all-requires : tie.Need-serve-all-requires
+serve-all-requires c κs = let e = c .before .before .before .before .before .before .before .before .before in sym (e .before .before .fit .ensures) ∙ e .enum-told .given .1
+
+enum-known-d : tie.Need-enum-known-d
+enum-known-d c = search needs
+
+enum-told-3 : tie.Need-enum-told-3
+enum-told-3 c = search needs
+
+enum-told-4 : tie.Need-enum-told-4
+enum-told-4 c = search needs
+
+enum-told-5 : tie.Need-enum-told-5
+enum-told-5 c = search needs
+
+same-length : tie.Need-same-length
+same-length c = search needs
+
+same-length-2 : tie.Need-same-length-2
+same-length-2 c = search needs
+
+returns : tie.Need-returns
+returns c =
+    let s = c .before .before .before in
+    let t = s .before .before .before .before .before in
+    let b = t .before .before in
+    let e = b .before .before .before in
+    let f = e .before .before in
+    let g = f .before .before .before in
+    run-done (now (g .args .events)) (lent (now (g .args .words)) (now (g .args .messages)) (now (g .args .codes)) (now (g .args .answers))) (f .fit .ensures) (e .enum-told .given .1) (now (g .args .setup)) _ _ _ (b .start .ensures) _ (t .enum-told2 .given .1) (s .serve-all .ensures)
+
+returns-2 : tie.Need-returns-2
+returns-2 c =
+    let b = c .before .before .before in
+    let e = b .before .before .before in
+    let f = e .before .before in
+    let g = f .before .before .before in
+    run-refused (now (g .args .events)) (lent (now (g .args .words)) (now (g .args .messages)) (now (g .args .codes)) (now (g .args .answers))) (f .fit .ensures) (e .enum-told .given .1) (now (g .args .setup)) _ _ _ (b .start .ensures) _ _ (c .before .d .given .1)
+
+returns-3 : tie.Need-returns-3
+unfolding isDone
+returns-3 c =
+    let f = c .before .before in
+    let g = f .before .before .before in
+    run-none (now (g .args .events)) (lent (now (g .args .words)) (now (g .args .messages)) (now (g .args .codes)) (now (g .args .answers))) (f .fit .ensures) (now (g .args .setup)) Ragged refl (c .enum-told3 .given .1)
+
+returns-4 : tie.Need-returns-4
+unfolding isDone
+returns-4 c =
+    let f = c .before .before in
+    let g = f .before .before .before in
+    run-none (now (g .args .events)) (lent (now (g .args .words)) (now (g .args .messages)) (now (g .args .codes)) (now (g .args .answers))) (f .fit .ensures) (now (g .args .setup)) FewCodes refl (c .enum-told4 .given .1)
+
+returns-5 : tie.Need-returns-5
+unfolding isDone
+returns-5 c =
+    let f = c .before .before in
+    let g = f .before .before .before in
+    run-none (now (g .args .events)) (lent (now (g .args .words)) (now (g .args .messages)) (now (g .args .codes)) (now (g .args .answers))) (f .fit .ensures) (now (g .args .setup)) FewWords refl (c .enum-told5 .given .1)
+
+pub run-spec : {M : Type 1} → statement M
+run-spec =
+    tie.close
+    (tie.spec
+    fit-requires
+    enum-told
+    start-requires
+    enum-told-2
+    serve-all-requires
+    enum-known-d
+    enum-told-3
+    enum-told-4
+    enum-told-5
+    same-length
+    same-length-2
+    returns
+    returns-2
+    returns-3
+    returns-4
+    returns-5)

@@ -1,0 +1,2 @@
+-- Many events at once.
+pub mod Batches

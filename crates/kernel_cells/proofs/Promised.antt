@@ -1,0 +1,60 @@
+-- What is read of a memory, and of its running task, from the verdict on it. Assumes nothing.
+use mathlib.Core.Bool.{Bool, true, false, true≢false}
+use mathlib.Core.List.{List}
+use mathlib.Core.Logic.{_↔_}
+use mathlib.Core.Path.{_≡_, refl, sym, _∙_}
+use Prim.Native.Nat.{ℕ}
+use lib.IntN.{ℤ}
+use lib.ListN.{length}
+use Rattle.rules.specs.Codes.{H-STATE, E-NOEXS, number}
+use Rattle.rules.specs.Events.{nat, outside}
+use Rattle.rules.specs.Answers.{readCell}
+use Rattle.rules.specs.State.{task, nobody}
+use Rattle.rules.proofs.Ids.{of-ids, length-ids}
+use Rattle.rules.proofs.Waits.{in-by}
+use Rattle.memory_columns.specs.Layout as Layout
+use Rattle.memory_columns.specs.Layout.{entry}
+use Rattle.memory_picture.specs.Picture.{taskShown, tasksShown, bodyShown, viewShown, Accepted}
+use Rattle.guard.specs.Running.{runningOf}
+use Rattle.kernel_cells.specs.Promises.{kept, Reads, Runs}
+use Rattle.guard.proofs.Accepts.{running-law}
+
+module _ {b msgs : List ℕ} {r : Bool} (law : (r ≡ true) ↔ Accepted b msgs) where
+  refuted : r ≡ false → Accepted b msgs → ⊥
+  refuted e h = true≢false (sym (law .1 h) ∙ e)
+
+  -- ---- cells
+
+  pub unreadable : (a : ℤ) → r ≡ false → Reads b msgs a (number H-STATE) 0
+  unreadable a e = record { sound = λ h. absurd (refuted e h); damaged = λ h. (refl, refl) }
+
+  module _ (y : r ≡ true) (a : ℤ) {n : ℕ} (en : n ≡ tasksShown b) where
+    count : length (viewShown b msgs .body .tasks) ≡ n
+    unfolding viewShown bodyShown
+    count = length-ids (taskShown b) (tasksShown b) ∙ sym en
+
+    -- t: the id is no task's
+    module _ {t : Bool} (et : t ≡ outside a n) where
+      pub foreign : t ≡ true → Reads b msgs a (number E-NOEXS) 0
+      unfolding readCell
+      foreign e = record { sound = λ h. rw (count, sym et ∙ e) (refl, refl); damaged = λ h. absurd (h (law .0 y)) }
+
+      module _ (e : t ≡ false) where
+        at-id : task (viewShown b msgs .body) (nat a) ≡ taskShown b (nat a)
+        unfolding viewShown bodyShown
+        at-id = of-ids (taskShown b) (tasksShown b) (nat a) nobody (rw en at (in-by a n (sym et ∙ e)))
+
+        pub readable : {k w : ℕ} {c : ℤ} → k ≡ entry Layout.code b (nat a) → c ≡ kept k → w ≡ entry Layout.word b (nat a) → Reads b msgs a c w
+        unfolding readCell taskShown
+        readable ek ec ew = record {
+          sound = λ h. rw (count, sym et ∙ e, at-id) (rw (← ek) ec, ew);
+          damaged = λ h. absurd (h (law .0 y));
+        }
+
+  -- ---- the running task
+
+  pub runs : {t : ℕ} → r ≡ true → t ≡ runningOf b → Runs b msgs t
+  runs y e = record { sound = λ h. e ∙ running-law b msgs h; damaged = λ h. absurd (h (law .0 y)) }
+
+  pub idle : r ≡ false → Runs b msgs 0
+  idle e = record { sound = λ h. absurd (refuted e h); damaged = λ h. refl }

@@ -1,0 +1,64 @@
+-- `kernel_cells::cell` meets its contract. By the verdict on the memory and the id. Assumes nothing.
+use mir.Facts.{toZ-ofZ}
+use borrow.Author.Tests.{not-true, not-false}
+use Rattle.rules.specs.Codes.{number}
+use Rattle.call_words.proofs.Signed.{saying}
+use Rattle.kernel_cells.proofs.Promised.{unreadable, foreign, readable}
+use borrow.Author.Needs.{needs}
+use Rattle.kernel_cells.proofs.cell.Statement.{statement}
+use Rattle.kernel_cells.proofs.cell.Tie as tie
+
+accepts-requires : tie.Need-accepts-requires
+accepts-requires c κs = search needs
+
+returns : tie.Need-returns
+unfolding number
+returns c =
+    let at-accepts = c .before in
+    unreadable (at-accepts .accepts .ensures) _ (not-true _ (c .if1 .taken))
+
+named-requires : tie.Need-named-requires
+named-requires c κs = search needs
+
+system-requires : tie.Need-system-requires
+system-requires c κs = search needs
+
+is-outside-requires : tie.Need-is-outside-requires
+is-outside-requires c κs = search needs
+
+returns-2 : tie.Need-returns-2
+unfolding number
+returns-2 c =
+    let at-is-outside = c .before in
+    let at-system = at-is-outside .before in
+    let at-named = at-system .before in
+    let first = at-named .before in
+    let at-accepts = first .before in
+    let start = at-accepts .before in
+    foreign (at-accepts .accepts .ensures) (not-false _ (first .if1 .left)) (start .args .task) (at-system .system .ensures) (rw (rw (toZ-ofZ (start .fits .task)) at (at-named .named .ensures)) at (at-is-outside .is-outside .ensures)) (c .if2 .taken)
+
+code-requires : tie.Need-code-requires
+code-requires c κs = search needs
+
+code-of-requires : tie.Need-code-of-requires
+code-of-requires c κs = search needs
+
+word-requires : tie.Need-word-requires
+word-requires c κs = search needs
+
+returns-3 : tie.Need-returns-3
+unfolding number
+returns-3 c =
+    let at-code-of = c .before in
+    let at-code = at-code-of .before in
+    let second = at-code .before in
+    let at-is-outside = second .before in
+    let at-system = at-is-outside .before in
+    let at-named = at-system .before in
+    let first = at-named .before in
+    let at-accepts = first .before in
+    let start = at-accepts .before in
+    let f = rw (toZ-ofZ (start .fits .task)) at (at-named .named .ensures) in readable (at-accepts .accepts .ensures) (not-false _ (first .if1 .left)) (start .args .task) (at-system .system .ensures) (rw f at (at-is-outside .is-outside .ensures)) (second .if2 .left) (rw f at (at-code .code .ensures)) (saying _ (at-code-of .code-of .ok) (at-code-of .code-of .ensures)) (rw f at (c .word .ensures))
+
+pub cell-spec : {M : Type 1} → statement M
+cell-spec = tie.close (tie.spec accepts-requires returns named-requires system-requires is-outside-requires returns-2 code-requires code-of-requires word-requires returns-3)

@@ -1,0 +1,74 @@
+// Reading a task's answer cell, and naming the running task, of a memory that may be damaged.
+use call_judging::is_outside;
+use call_words::codes::E_NOEXS;
+use call_words::codes::E_RLWAI;
+use call_words::codes::E_TMOUT;
+use call_words::codes::H_STATE;
+use call_words::codes::OK;
+use call_words::named;
+use guard::check::accepts;
+use guard::running::running_task;
+use memory_columns::CELL_OK;
+use memory_columns::CELL_RLWAI;
+use memory_columns::CELL_TMOUT;
+use memory_columns::STATE_WORDS;
+use memory_columns::TASKS;
+use memory_columns::code;
+use memory_columns::system;
+use memory_columns::word;
+ghost use mathlib.Core.Path.{_≡_};
+ghost use Rattle.kernel_cells.specs.Promises as Promises;
+ghost use Rattle.kernel_cells.specs.Promises.{Reads, Runs};
+
+// An answer cell: code and word.
+#[repr(C)]
+pub struct Reading {
+    pub code: i32,
+    pub word: u32,
+}
+
+// The code that a cell keeps by a small number.
+fn code_of(kept: u32) -> i32
+    ensures { λ r. ⌜ r ≡ Promises.kept kept ⌝ }
+{
+    match kept {
+        CELL_OK => OK,
+        CELL_TMOUT => E_TMOUT,
+        CELL_RLWAI => E_RLWAI,
+        _ => H_STATE,
+    }
+}
+
+// The cell of a task: H_STATE if the state is damaged, then E_NOEXS for a bad id, each with word 0.
+pub fn cell(words: &[u32; STATE_WORDS], messages: &[u32; 256], task: i32) -> Reading
+    ensures { λ r. ⌜ Reads (now (words .entry)) (now (messages .entry)) task (r .code) (r .word) ⌝ }
+{
+    if !accepts(words, messages) {
+        return Reading {
+            code: H_STATE,
+            word: 0,
+        };
+    }
+    let t = named(task);
+    if is_outside(t, system(words, TASKS)) {
+        return Reading {
+            code: E_NOEXS,
+            word: 0,
+        };
+    }
+    Reading {
+        code: code_of(code(words, t)),
+        word: word(words, t),
+    }
+}
+
+// The running task, 0 if there is none or the state is damaged.
+pub fn running(words: &[u32; STATE_WORDS], messages: &[u32; 256]) -> u32
+    ensures { λ r. ⌜ Runs (now (words .entry)) (now (messages .entry)) r ⌝ }
+{
+    if accepts(words, messages) {
+        running_task(words)
+    } else {
+        0
+    }
+}

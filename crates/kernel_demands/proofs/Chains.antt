@@ -1,0 +1,62 @@
+-- Chains from a memory that is accepted and shows a view: each memory on the way is accepted and shows the rules' state, each reply is the
+-- rules' answer. Assumes nothing.
+use mathlib.Core.List.{List, [], _∷_, map}
+use mathlib.Core.Path.{_≡_, refl, sym, ap, _∙_}
+use Prim.Native.Nat.{ℕ}
+use lib.IntN.{ℤ}
+use Rattle.rules.specs.Codes.{number}
+use Rattle.rules.specs.State.{Cell}
+use Rattle.rules.specs.Setup.{got, setup, Setup}
+use Rattle.rules.specs.Events.{Event}
+use Rattle.rules.specs.View.{View, running}
+use Rattle.rules.specs.Answers.{readCell}
+use Rattle.rules.specs.Kernel.{fresh, event, cell}
+use Rattle.rules.specs.Runs.{answers, states}
+use Rattle.rules.proofs.Events.{cell-reads}
+use Rattle.memory_picture.specs.Picture.{viewShown}
+use Rattle.kernel_start.specs.Starting.{Starts}
+use Rattle.kernel_start.specs.declared.Started.{Started}
+use Rattle.kernel_start.proofs.Fresh.{Holds}
+use Rattle.kernel_cells.specs.Promises.{Runs}
+use Rattle.kernel_events.specs.Steps.{Reply, told, Step, Link, Chain, lastWords, lastMarks}
+use Rattle.kernel_demands.specs.Demands.{CellIs}
+
+-- a start leaves the fresh state of its setup
+pub start-holds : (s : List ℕ) (u : Setup) (i : ℕ) → setup s ≡ got u i → (r : Started) (words marks b m : List ℕ) → Starts s r words marks b m → Holds b m (fresh u)
+unfolding Starts
+start-holds s u i e r words marks b m S = let h = rw e at S in record { accepted = h .1; view = h .2 }
+
+-- ---- what is read of such a memory
+
+module _ {b m : List ℕ} {v : View} (H : Holds b m v) where
+  pub runs-is : {r : ℕ} → Runs b m r → r ≡ running v
+  runs-is R = R .sound (H .accepted) ∙ ap running (H .view)
+
+  pub cell-is : (a : ℤ) {c : Cell} → cell v a ≡ c → CellIs b m a c
+  cell-is a {c} e code word R =
+      let f : readCell (viewShown b m .body) a ≡ c = sym (cell-reads (viewShown b m) a (H .accepted .sound)) ∙ ap (λ (w : View). cell w a) (H .view) ∙ e in
+      let r = R .sound (H .accepted) in
+      (r .0 ∙ ap (λ (x : Cell). number (x .code)) f, r .1 ∙ ap (λ (x : Cell). x .word) f)
+
+  -- ---- a step
+
+  module _ {e : Event} {r : Reply} {b′ m′ : List ℕ} (S : Step e b m r b′ m′) where
+    pub step-holds : Holds b′ m′ (event v e .next)
+    step-holds = record { accepted = S .accepted (H .accepted); view = S .shows (H .accepted) ∙ ap (λ (w : View). event w e .next) (H .view) }
+
+    pub step-says : r ≡ told (event v e .answer)
+    step-says = S .answers (H .accepted) ∙ ap (λ (w : View). told (event w e .answer)) (H .view)
+
+-- ---- a chain
+
+pub chain-holds : {b m : List ℕ} {v : View} (l : List Link) → Holds b m v → Chain b m l → Holds (lastWords b l) (lastMarks m l) (states v (map (λ k. k .event) l))
+unfolding states
+chain-holds [] H C = H
+chain-holds (k ∷ l) H C = chain-holds l (step-holds H (C .0)) (C .1)
+
+-- whatever is read of the replies is so of the answers
+pub chain-says : {A : Type 0} (f : Reply → A) {b m : List ℕ} {v : View} (l : List Link) → Holds b m v → Chain b m l
+    → map (λ k. f (k .reply)) l ≡ map (λ a. f (told a)) (answers v (map (λ k. k .event) l))
+unfolding answers
+chain-says f [] H C = refl
+chain-says f (k ∷ l) H C = λ z. f (step-says H (C .0) z) ∷ chain-says f l (step-holds H (C .0)) (C .1) z

@@ -1,0 +1,66 @@
+-- A memory with another clock written is accepted still, and shows what it showed but for the clock. Assumes nothing.
+use mathlib.Core.Bool.{true}
+use mathlib.Core.List.{List}
+use mathlib.Core.Path.{_≡_, refl, _∙_}
+use Prim.Native.Nat.{ℕ, _/_, _%_, _^_, _<_}
+use native.Mathlib.Omega.{arith}
+use lib.Dec.{ltb}
+use lib.ListN.{length, getD, set, length-set}
+use lib.Seq.{getD-set-same, getD-set-other}
+use borrow.Author.Tests.{ltb-true, lt-ltb}
+use Rattle.rules.specs.Places.{tabulate}
+use Rattle.rules_examples.specs.BenchSheet.{at-clock}
+use Rattle.memory_rings.proofs.Columns.{col-store, length-store}
+use Rattle.memory_columns.specs.Layout as Layout
+use Rattle.memory_columns.specs.Layout.{words, entry}
+use Rattle.memory_columns.proofs.Frame.{words-length}
+use Rattle.memory_picture.specs.Picture.{taskShown, storeShown, bodyShown, lineShown, viewShown, Accepted}
+use Rattle.memory_picture.proofs.FormWords.{back-clock}
+use Rattle.guard.specs.Tests.{sizesOk, taskOk, waitOk, stateOk, semaphoreOk, flagOk, poolOk, messageOk, rangesOk, home, taskHome, tasksQueued, mailQueued, waitFree, unservedOk, accepts}
+use Rattle.guard.proofs.Accepts.{accepts-law}
+use Rattle.kernel_demands.specs.Demands.{clockSet}
+
+-- ---- the words of the system
+
+-- the counts stay
+counts : (w : List ℕ) (x y i : ℕ) → ltb i 7 ≡ true → getD (set (set w 7 x) 8 y) i 0 ≡ getD w i 0
+counts w x y i h = let k = ltb-true i 7 h in getD-set-other (set w 7 x) 8 i y 0 (λ e. omega arith) ∙ getD-set-other w 7 i x 0 (λ e. omega arith)
+
+low-half : (w : List ℕ) (x y : ℕ) → length w ≡ Layout.system .width → getD (set (set w 7 x) 8 y) 7 0 ≡ x
+low-half w x y h = getD-set-other (set w 7 x) 8 7 y 0 (λ e. omega arith) ∙ getD-set-same w 7 x 0 (omega arith)
+
+high-half : (w : List ℕ) (x y : ℕ) → length w ≡ Layout.system .width → getD (set (set w 7 x) 8 y) 8 0 ≡ y
+high-half w x y h = getD-set-same (set w 7 x) 8 y 0 (rw (length-set w 7 x) (omega arith))
+
+-- ---- the memory
+
+module _ {b m : List ℕ} (A : Accepted b m) (t : ℕ) where
+  wide : length (words Layout.system b) ≡ Layout.system .width
+  wide = words-length Layout.system b (A .whole .size) refl
+
+  pub clock-shown : viewShown (clockSet t b) m ≡ record { body = at-clock t (viewShown b m .body); lines = viewShown b m .lines }
+  unfolding viewShown bodyShown storeShown taskShown lineShown tabulate
+  clock-shown = simp (col-store, counts, low-half, high-half, wide, back-clock, taskShown, entry)
+
+  module _ (h : t < 2 ^ 48) where
+    -- the clock's halves are in range, before and after
+    halves : (ltb (entry Layout.system b 7) (2 ^ 32) ≡ true) × (ltb (entry Layout.system b 8) (2 ^ 16) ≡ true) × (ltb (t % 2 ^ 32) (2 ^ 32) ≡ true) × (ltb (t / 2 ^ 32) (2 ^ 16) ≡ true)
+    unfolding viewShown bodyShown storeShown
+    halves = (
+      lt-ltb _ _ (A .whole .low),
+      lt-ltb (entry Layout.system b 8) (2 ^ 16) (omega (arith, A .sound .body .store .clock)),
+      lt-ltb (t % 2 ^ 32) (2 ^ 32) (omega arith),
+      lt-ltb (t / 2 ^ 32) (2 ^ 16) (omega arith),
+    )
+
+    sizes : sizesOk (clockSet t b) ≡ sizesOk b
+    unfolding sizesOk
+    sizes = simp (col-store, counts, low-half, high-half, wide, halves .0, halves .1, halves .2, halves .3)
+
+    -- no other test reads the clock
+    tests : accepts (clockSet t b) m ≡ accepts b m
+    unfolding accepts rangesOk tasksQueued mailQueued taskOk stateOk waitOk poolOk taskHome home unservedOk waitFree
+    tests = simp (sizes, col-store, counts, taskOk, semaphoreOk, flagOk, poolOk, messageOk, taskHome, unservedOk)
+
+    pub clock-accepted : Accepted (clockSet t b) m
+    clock-accepted = accepts-law (clockSet t b) m (simp length-store (A .whole .size)) (A .whole .marks) .0 (tests ∙ accepts-law b m (A .whole .size) (A .whole .marks) .1 A)

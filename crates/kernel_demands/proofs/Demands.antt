@@ -1,0 +1,174 @@
+-- What the customer demands of runs holds of every chain of steps, by the theorems of the rules. Assumes nothing.
+use mathlib.Core.Bool.{Bool, true, false, not, _&&_, _||_, false≢true}
+use mathlib.Core.List.{List, [], _∷_, map}
+use mathlib.Core.Path.{_≡_, refl, sym, ap, _∙_, subst}
+use Prim.Native.Nat.{ℕ, _≤_}
+use native.Mathlib.Omega.{arith}
+use lib.Dec.{eqb, lit≤}
+use lib.IntN.{ℤ, pos, negsuc}
+use Rattle.rules.specs.Ids.{once}
+use Rattle.rules.specs.Codes.{Code, OK, WAITS, H-STATE, H-CALL, H-PAR, E-NOEXS, E-TPRI, E-ILTIME, E-CTX, E-SELF, E-DMT, H-NODMT, H-SUS, E-NOSUS, E-NOWAI, E-QOVR, H-POLL, H-MSG, H-ILBLK, E-TMOUT, E-RLWAI, number}
+use Rattle.rules.specs.State.{Body, task}
+use Rattle.rules.specs.Setup.{got, setup, Setup}
+use Rattle.rules.specs.Events.{Event, tick, call, nat, AllWords}
+use Rattle.rules.specs.View.{View}
+use Rattle.rules.specs.Answers.{Answer}
+use Rattle.rules.specs.Kernel.{Outcome, next, served, event}
+use Rattle.rules.specs.Plain.{Plain, plainFresh, plainNext, plainAnswer}
+use Rattle.rules.specs.Blocks.{isFree, Happened, is, ok, taken, returned, granted, gaveBack, AllAccounted}
+use Rattle.rules.specs.Demand3.{Agree, Alike, happened, Demand3}
+use Rattle.rules.specs.Broken.{isFresh, Unless, StaysBroken}
+use Rattle.rules.proofs.Events.{event-served, event-next}
+use Rattle.rules.proofs.Blocks.{Balance, event-balance}
+use Rattle.rules.proofs.Demand3.{demand3}
+use Rattle.rules.proofs.Broken.{stays-broken}
+use Rattle.memory_picture.specs.Picture.{viewShown, Accepted}
+use Rattle.kernel_start.specs.Starting.{Starts}
+use Rattle.kernel_start.specs.declared.Started.{Started}
+use Rattle.kernel_start.proofs.Fresh.{Holds}
+use Rattle.kernel_events.specs.Steps.{Reply, told, Step, Link, Chain}
+use Rattle.kernel_demands.specs.Demands.{Same, seen, Demand3OnCode, OutNotGranted, BlocksOnce, stateIn, StaysBrokenOnCode}
+use Rattle.kernel_demands.proofs.Chains.{start-holds, cell-is, step-holds, step-says}
+
+-- ---- demand 3
+
+abbrev isNine : ℤ → Bool
+isNine (pos n) = false
+isNine (negsuc n) = eqb n 8
+
+-- H_STATE alone has its number
+only-state : (c : Code) → isNine (number c) ≡ true → c ≡ H-STATE
+unfolding number
+only-state H-STATE e = refl
+only-state OK e = absurd (false≢true e)
+only-state WAITS e = absurd (false≢true e)
+only-state H-CALL e = absurd (false≢true e)
+only-state H-PAR e = absurd (false≢true e)
+only-state E-NOEXS e = absurd (false≢true e)
+only-state E-TPRI e = absurd (false≢true e)
+only-state E-ILTIME e = absurd (false≢true e)
+only-state E-CTX e = absurd (false≢true e)
+only-state E-SELF e = absurd (false≢true e)
+only-state E-DMT e = absurd (false≢true e)
+only-state H-NODMT e = absurd (false≢true e)
+only-state H-SUS e = absurd (false≢true e)
+only-state E-NOSUS e = absurd (false≢true e)
+only-state E-NOWAI e = absurd (false≢true e)
+only-state E-QOVR e = absurd (false≢true e)
+only-state H-POLL e = absurd (false≢true e)
+only-state H-MSG e = absurd (false≢true e)
+only-state H-ILBLK e = absurd (false≢true e)
+only-state E-TMOUT e = absurd (false≢true e)
+only-state E-RLWAI e = absurd (false≢true e)
+
+state-number : (c : Code) → number c ≡ number H-STATE → c ≡ H-STATE
+unfolding number
+state-number c e = only-state c (ap isNine e)
+
+-- the claim begins with what holds now
+now-alike : {past : List Happened} {v : View} {s : Plain} (l : List Event) → Demand3 past v s l → Alike past v s
+now-alike [] D = D
+now-alike (e ∷ l) D = D .0
+
+same-body : {b m : List ℕ} {v : View} {s : Plain} → Holds b m v → Agree v s → viewShown b m .body ≡ s .body
+same-body H A = ap (λ (w : View). w .body) (H .view) ∙ A .body
+
+same : {past : List Happened} {b m : List ℕ} {v : View} {s : Plain} → Holds b m v → Alike past v s → Same past b m s
+same {past} {s = s} H A = record {
+  accepted = H .accepted;
+  agree = subst (λ (w : View). Agree w s) (sym (H .view)) (A .agree);
+  cells = λ a. cell-is H a (A .cells a);
+  blocks = subst (λ (x : Body). AllAccounted past x) (sym (same-body H (A .agree))) (A .blocks);
+}
+
+-- the rules' claim along a chain is the claim of the code
+on-code : (past : List Happened) {b m : List ℕ} {v : View} (s : Plain) (l : List Link) → Holds b m v → Chain b m l → Demand3 past v s (map (λ k. k .event) l) → Demand3OnCode past b m s l
+on-code past s [] H C D = same H D
+on-code past {b} {m} {v} s (k ∷ l) H C D = (
+  same H (D .0),
+  step-says H (C .0) ∙ ap told (D .1),
+  (λ h. D .2 (state-number _ (ap (λ (r : Reply). r .code) (sym (step-says H (C .0))) ∙ h))),
+  subst (λ (x : Happened). Demand3OnCode (x ∷ past) (k .words) (k .marks) (plainNext s (k .event)) l) (sym was)
+      (on-code (happened s (k .event) ∷ past) (plainNext s (k .event)) l after (C .1) (D .3)),
+)
+  where
+    after : Holds (k .words) (k .marks) (event v (k .event) .next)
+    after = step-holds H (C .0)
+
+    -- the memories show the plain kernel's tasks
+    was : seen b m k (plainAnswer s (k .event)) ≡ happened s (k .event)
+    was = λ z. record {
+      event = k .event;
+      answer = plainAnswer s (k .event);
+      before = same-body H (D .0 .agree) z;
+      after = same-body after (now-alike (map (λ k. k .event) l) (D .3) .agree) z;
+    }
+
+-- from every start on a setup that is accepted
+pub demand3-on-code : (s : List ℕ) (u : Setup) (i : ℕ) → setup s ≡ got u i → (r : Started) (words marks b m : List ℕ) → Starts s r words marks b m
+    → (l : List Link) → Chain b m l → AllWords (map (λ k. k .event) l) → Demand3OnCode [] b m (plainFresh u) l
+demand3-on-code s u i e r words marks b m S l C w = on-code [] (plainFresh u) l (start-holds s u i e r words marks b m S) C (demand3 s u i e (map (λ k. k .event) l) w)
+
+-- ---- a block is given to one at a time
+
+-- a grant and a return are read from the numbers of an answer
+by-numbers : (e : Event) (a c : Answer) → told a ≡ told c → (p j : ℕ) → (taken e a p j ≡ taken e c p j) × (returned e a p j ≡ returned e c p j)
+unfolding ok
+by-numbers tick a c q p j = (refl, refl)
+by-numbers (call x n y w u) a c q p j = (
+  (λ z. (is n 23 || is n 24) && (is (q z .code) 0 && (eqb (nat y) p && eqb (q z .w1) j))),
+  (λ z. is n 25 && (is (q z .code) 0 && (eqb (nat y) p && eqb (nat w) j))),
+)
+
+once-most : (t : Bool) → once t ≤ 1
+once-most true = lit≤ tt
+once-most false = lit≤ tt
+
+-- in the rules' balance of the block, which is out before, there is no room for a grant
+not-granted : {b m : List ℕ} → Accepted b m → (k : Link) → Step (k .event) b m (k .reply) (k .words) (k .marks) → OutNotGranted b m k
+unfolding granted gaveBack
+not-granted {b} {m} A k S a q p rp j rj out back =
+    omega (arith, balance, back, ap (λ (t : Bool). once (not t)) out, once-most (not (isFree (viewShown (k .words) (k .marks) .body) p j)))
+  where
+    given : Answer
+    given = served (viewShown b m) (k .event) .answer
+
+    read : (taken (k .event) a p j ≡ taken (k .event) given p j) × (returned (k .event) a p j ≡ returned (k .event) given p j)
+    read = by-numbers (k .event) a given (sym q ∙ S .answers A ∙ ap (λ (o : Outcome). told (o .answer)) (event-served (viewShown b m) (k .event) (A .sound))) p j
+
+    balance : Balance (viewShown b m .body) (viewShown (k .words) (k .marks) .body) (taken (k .event) a p j) (returned (k .event) a p j) p j
+    balance = rw (S .shows A ∙ event-next (viewShown b m) (k .event) (A .sound), read .0, read .1) (event-balance (viewShown b m) (A .sound) (k .event) p j rp rj)
+
+-- from every accepted memory
+pub chain-block-once : (b m : List ℕ) → Accepted b m → (l : List Link) → Chain b m l → BlocksOnce b m l
+chain-block-once b m A [] C = tt
+chain-block-once b m A (k ∷ l) C = (not-granted A k (C .0), chain-block-once (k .words) (k .marks) (C .0 .accepted A) l (C .1))
+
+-- ---- a broken wait
+
+unless : (t : Bool) {A B : Type 0} → (A → B) → Unless t A → Unless t B
+unless true f h = tt
+unless false f h = f h
+
+broken-on-code : (a : ℤ) {b m : List ℕ} {v : View} (l : List Link) → Holds b m v → Chain b m l → StaysBroken a v (map (λ k. k .event) l) → StaysBrokenOnCode a b m l
+broken-on-code a [] H C B = cell-is H a B
+broken-on-code a {b} {m} {v} (k ∷ l) H C B = (
+  cell-is H a (B .0),
+  rw (shown H, shown after) (unless (isFresh (task (v .body) (nat a) .state) (task (event v (k .event) .next .body) (nat a) .state)) (broken-on-code a l after (C .1)) (B .1)),
+)
+  where
+    after : Holds (k .words) (k .marks) (event v (k .event) .next)
+    after = step-holds H (C .0)
+
+    shown : {b m : List ℕ} {v : View} → Holds b m v → stateIn b m a ≡ task (v .body) (nat a) .state
+    shown H = ap (λ (w : View). task (w .body) (nat a) .state) (H .view)
+
+-- behind a rel_wai that is answered with 0
+pub stays-broken-on-code : (b m : List ℕ) → Accepted b m → (k : Link) (l : List Link) → Chain b m (k ∷ l) → (x a y z : ℤ) → k .event ≡ call x (pos 6) a y z → k .reply .code ≡ pos 0
+    → AllWords (map (λ k. k .event) (k ∷ l)) → StaysBrokenOnCode a (k .words) (k .marks) l
+stays-broken-on-code b m A k l C x a y z e c w =
+    broken-on-code a l (rw e at (step-holds H (C .0))) (C .1)
+    (stays-broken (viewShown b m) x a y z (A .sound) (rw e at (w .0)) (rw e at (ap (λ (r : Reply). r .code) (sym (step-says H (C .0))) ∙ c)) (map (λ k. k .event) l) (w .1))
+  where
+    H : Holds b m (viewShown b m)
+    H = record { accepted = A; view = refl }

@@ -1,0 +1,5 @@
+-- The theorems on every chain of events.
+pub mod Chains
+pub mod Demands
+pub mod Clocks
+pub mod Sheets

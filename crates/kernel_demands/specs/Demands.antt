@@ -1,0 +1,103 @@
+-- What the customer demands of runs, said of the code: of every chain of steps.
+use mathlib.Core.Bool.{false}
+use mathlib.Core.List.{List, [], _∷_, map}
+use mathlib.Core.Logic.{_≢_}
+use mathlib.Core.Path.{_≡_}
+use Prim.Native.Nat.{ℕ, _/_, _%_, _^_}
+use lib.IntN.{ℤ, pos}
+use lib.ListN.{length}
+use Rattle.rules.specs.Ids.{of, In}
+use Rattle.rules.specs.Codes.{number, H-STATE}
+use Rattle.rules.specs.State.{State, Cell, task}
+use Rattle.rules.specs.Events.{nat}
+use Rattle.rules.specs.Answers.{Answer, readCell}
+use Rattle.rules.specs.Plain.{Plain, plainNext, plainAnswer}
+use Rattle.rules.specs.Blocks.{isFree, Happened, granted, gaveBack, AllAccounted}
+use Rattle.rules.specs.Demand3.{Agree}
+use Rattle.rules.specs.Broken.{broken, isFresh, Unless}
+use Rattle.rules_examples.specs.BenchSheet.{Case, Sheet}
+use Rattle.memory_columns.specs.Layout as Layout
+use Rattle.memory_columns.specs.Layout.{put}
+use Rattle.memory_picture.specs.Picture.{viewShown, Accepted}
+use Rattle.kernel_start.specs.Starting.{Starts}
+use Rattle.kernel_start.specs.declared.Started.{Started}
+use Rattle.kernel_start.specs.declared.Started.the-variants.{Fresh}
+use Rattle.kernel_cells.specs.Promises.{Reads, Runs}
+use Rattle.kernel_events.specs.Steps.{Reply, told, Link, Chain, lastWords, lastMarks}
+
+-- whatever `cell` reads of a task in this memory is this cell
+abbrev pub CellIs : List ℕ → List ℕ → ℤ → Cell → Type 0
+CellIs b m a c = (code : ℤ) (word : ℕ) → Reads b m a code word → (code ≡ number (c .code)) × (word ≡ c .word)
+
+-- ---- demand 3
+
+-- what holds before the first event and after each: the memory shows a view that agrees with the plain state, each task's cell reads as the
+-- plain one's, each block is accounted for
+pub record Same (past : List Happened) (b m : List ℕ) (s : Plain) : Type 0 where
+  pub accepted : Accepted b m
+  pub agree : Agree (viewShown b m) s
+  pub cells : (a : ℤ) → CellIs b m a (readCell (s .body) a)
+  pub blocks : AllAccounted past (viewShown b m .body)
+
+-- an event of the code's run, as the blocks' accounts read it: this answer, and the tasks that the memory shows before and after
+abbrev pub seen : List ℕ → List ℕ → Link → Answer → Happened
+seen b m k a = record { event = k .event; answer = a; before = viewShown b m .body; after = viewShown (k .words) (k .marks) .body }
+
+-- At each link the answer is the plain kernel's and not H_STATE; the accounts are kept from these answers and these memories.
+abbrev pub Demand3OnCode : List Happened → List ℕ → List ℕ → Plain → List Link → Type 0
+Demand3OnCode past b m s [] = Same past b m s
+Demand3OnCode past b m s (k ∷ l) =
+    Same past b m s × (k .reply ≡ told (plainAnswer s (k .event))) × (k .reply .code ≢ number H-STATE)
+    × Demand3OnCode (seen b m k (plainAnswer s (k .event)) ∷ past) (k .words) (k .marks) (plainNext s (k .event)) l
+
+-- ---- a block is given to one at a time
+
+-- a block that the memory shows as out is not granted at this link, unless the same event returns it
+abbrev pub OutNotGranted : List ℕ → List ℕ → Link → Type 0
+OutNotGranted b m k =
+    (a : Answer) → k .reply ≡ told a → (p : ℕ) → In p (length (viewShown b m .body .store .pools)) → (j : ℕ) → In j (length (of (viewShown b m .body .store .pools) p []))
+    → isFree (viewShown b m .body) p j ≡ false → gaveBack (seen b m k a) p j ≡ 0 → granted (seen b m k a) p j ≡ 0
+
+-- along a chain
+abbrev pub BlocksOnce : List ℕ → List ℕ → List Link → Type 0
+BlocksOnce b m [] = Unit {0}
+BlocksOnce b m (k ∷ l) = OutNotGranted b m k × BlocksOnce (k .words) (k .marks) l
+
+-- ---- a broken wait
+
+-- the state of the task that a word names, as the memory shows it
+abbrev pub stateIn : List ℕ → List ℕ → ℤ → State
+stateIn b m a = task (viewShown b m .body) (nat a) .state
+
+-- along a chain `cell` gives E_RLWAI and 0 for task a, now and after each event, up to the event that releases or starts the task
+abbrev pub StaysBrokenOnCode : ℤ → List ℕ → List ℕ → List Link → Type 0
+StaysBrokenOnCode a b m [] = CellIs b m a broken
+StaysBrokenOnCode a b m (k ∷ l) =
+    CellIs b m a broken × Unless (isFresh (stateIn b m a) (stateIn (k .words) (k .marks) a)) (StaysBrokenOnCode a (k .words) (k .marks) l)
+
+-- ---- worked cases
+
+-- the five numbers of a reply
+abbrev pub figures : Reply → List ℤ
+figures r = r .code ∷ pos (r .w1) ∷ pos (r .w2) ∷ pos (r .runs) ∷ pos (r .released) ∷ []
+
+-- the memory with another clock: the halves are written
+abbrev pub clockSet : ℕ → List ℕ → List ℕ
+clockSet t b = put Layout.system 8 (t / 2 ^ 32) (put Layout.system 7 (t % 2 ^ 32) b)
+
+-- from this memory: `running` names the case's task; every chain over the case's events has the case's answers, and at its end `cell` reads the
+-- case's cell
+pub record CaseHolds (b m : List ℕ) (c : Case) : Type 0 where
+  pub runs : (r : ℕ) → Runs b m r → r ≡ c .runs
+  pub says : (l : List Link) → Chain b m l → map (λ k. k .event) l ≡ map (λ s. s .event) (c .steps) → map (λ k. figures (k .reply)) l ≡ map (λ s. s .says) (c .steps)
+  pub cell : (l : List Link) → Chain b m l → map (λ k. k .event) l ≡ map (λ s. s .event) (c .steps)
+      → (code : ℤ) (word : ℕ) → Reads (lastWords b l) (lastMarks m l) (pos (c .who)) code word → (code ≡ c .code) × (word ≡ c .word)
+
+-- each of a list of cases
+abbrev pub Every : (Case → Type 0) → List Case → Type 0
+Every P [] = Unit {0}
+Every P (c ∷ l) = P c × Every P l
+
+-- the start takes a sheet's bytes, and each case holds of the memory that it leaves, once the case's clock is written
+abbrev pub SheetOnCode : Sheet → Type 0
+SheetOnCode s = (r : Started) (words marks b m : List ℕ) → Starts (s .bytes) r words marks b m → (r ≡ Fresh) × Every (λ c. CaseHolds (clockSet (c .clock) b) m c) (s .cases)

@@ -1,0 +1,2 @@
+-- What is demanded of runs.
+pub mod Demands

@@ -1,0 +1,161 @@
+-- An event that is done as it is judged makes a step. Assumes nothing.
+use mathlib.Core.Bool.{Bool, true, false, cond, true≢false}
+use mathlib.Core.List.{List}
+use mathlib.Core.Logic.{_↔_}
+use mathlib.Core.Path.{_≡_, refl, sym, ap, _∙_, subst}
+use Prim.Native.Nat.{ℕ, zero, suc, _<_, _^_}
+use native.Mathlib.Omega.{arith}
+use lib.Dec.{eqb}
+use lib.IntN.{ℤ, pos, negsuc}
+use lib.Signed.{mag}
+use borrow.Author.Tests.{le-leb}
+use mir.Syntax.{w32}
+use mir.Val.{SFits, toZ, ofZ}
+use mir.Facts.{toZ-ofZ}
+use Rattle.rules.specs.Codes.{number, negative, H-CALL}
+use Rattle.rules.specs.Events.{Event, tick, call, eventOf, Word, Words, nat, above}
+use Rattle.rules.specs.View.{View, running}
+use Rattle.rules.specs.Verdicts.{Verdict, refuse}
+use Rattle.rules.specs.Answers.{answer, releasedCount}
+use Rattle.rules.specs.Table.{caller, numbered, called, judge}
+use Rattle.rules.specs.Kernel as Kernel
+use Rattle.rules.specs.Kernel.{event, next, served}
+use Rattle.rules.proofs.Events.{event-served}
+use Rattle.rules.proofs.Released.{released-by-acts}
+use Rattle.memory_picture.specs.Picture.{viewShown, Accepted}
+use Rattle.guard.specs.Running.{runningOf}
+use Rattle.guard.proofs.Accepts.{running-law}
+use Rattle.rules.specs.Time.{ticked}
+use Rattle.call_words.specs.declared.Outcome.{Outcome}
+use Rattle.call_words.specs.Outcomes.{outcome}
+use Rattle.call_words.specs.Doing.{Does, Anything, DoesOnWords}
+use Rattle.call_words.proofs.Verdicts.{refuses-with}
+use Rattle.call_dispatch.specs.Dispatching.{Dispatches}
+use Rattle.call_dispatch.proofs.Done.{does-law}
+use Rattle.kernel_events.specs.Steps.{Reply, reply, told, unsound, Step}
+use Rattle.kernel_events.specs.Serving.{replied, Known}
+
+-- ---- words
+
+word-of : (z : ℤ) → mag z < 2 ^ 31 → Word z
+word-of (pos n) h = h
+word-of (negsuc n) h = h
+
+pub call-words : (x n a b c : ℤ) → SFits w32 x → SFits w32 n → SFits w32 a → SFits w32 b → SFits w32 c → Words (call x n a b c)
+call-words x n a b c p q r s t = (word-of x (p .sfits), word-of n (q .sfits), word-of a (r .sfits), word-of b (s .sfits), word-of c (t .sfits))
+
+-- ---- steps
+
+event-told : (v : View) (e : Event) → told (served v e .answer) ≡ reply (number (judge v e .code)) (judge v e .w1) (judge v e .w2) (running (next v e)) (releasedCount (v .body .tasks) (next v e .body .tasks))
+unfolding served answer
+event-told v e = refl
+
+served-next : (v : View) (e : Event) → served v e .next ≡ next v e
+unfolding served
+served-next v e = refl
+
+-- on a sound state
+module _ (e : Event) (b m b′ m′ : List ℕ) (A : Accepted b m) (w : Words e) where
+  pub done-step : {s : Outcome} {r : ℕ} → Does (judge (viewShown b m) e) s b m b′ m′ → (Accepted b′ m′ → r ≡ running (viewShown b′ m′)) → Step e b m (replied s r) b′ m′
+  done-step {s} {r} D g =
+      let v : View = viewShown b m in
+      let L = does-law b m e D A w in
+      let runs : r ≡ running (next v e) = g (L .0) ∙ ap running (L .1) in
+      record {
+        answers = λ _. rw (event-served v e (A .sound), event-told v e, released-by-acts v e (A .sound), ← runs) (ap (λ (o : Outcome). replied o r) (D .says));
+        accepted = λ _. L .0;
+        shows = λ _. L .1 ∙ sym (ap (λ (o : _). o .next) (event-served v e (A .sound)) ∙ served-next v e);
+        refuses = λ n. absurd (n A);
+        kept = L .2;
+      }
+
+-- on a damaged one
+pub unsound-step : (e : Event) (b m : List ℕ) (r : Reply) → (Accepted b m → ⊥) → r ≡ unsound → Step e b m r b m
+unsound-step e b m r n g = record { answers = λ A. absurd (n A); accepted = λ A. absurd (n A); shows = λ A. absurd (n A); refuses = λ _. g; kept = λ _. (refl, refl) }
+
+-- ---- calls
+
+-- a context other than 0 and 1
+pub misnamed : (v : View) (x n a b c : ℤ) → above x 1 ≡ true → judge v (call x n a b c) ≡ refuse H-CALL
+unfolding judge called
+misnamed v (pos zero) n a b c e = absurd (true≢false (sym e))
+misnamed v (pos (suc zero)) n a b c e = absurd (true≢false (sym e))
+misnamed v (pos (suc (suc k))) n a b c e = refl
+misnamed v (negsuc k) n a b c e = refl
+
+-- a call from a context, by its number; a negative number is no call's, as 0 is
+named-call : (v : View) (x n a b c : ℤ) → above x 1 ≡ false → numbered v (eqb (nat x) 1) (caller v (eqb (nat x) 1)) (nat n) a b c ≡ judge v (call x n a b c)
+unfolding judge called numbered
+named-call v (pos zero) (pos n) a b c e = refl
+named-call v (pos zero) (negsuc n) a b c e = refl
+named-call v (pos (suc zero)) (pos n) a b c e = refl
+named-call v (pos (suc zero)) (negsuc n) a b c e = refl
+named-call v (pos (suc (suc k))) n a b c e = absurd (true≢false (sym (le-leb 2 (suc (suc k)) (omega arith)) ∙ e))
+named-call v (negsuc k) n a b c e = absurd (true≢false e)
+
+module _ {sound : Bool} {me : ℕ} {b m : List ℕ} (K : Known sound me b m) (s : sound ≡ true) (x n a c d : ℤ) (w : Words (call x n a c d)) {t : Bool} (et : t ≡ above x 1) where
+  here : Accepted b m
+  here = K .0 .0 s
+
+  pub call-misnamed : t ≡ true → {o : Outcome} → o ≡ outcome (number H-CALL) 0 0 0 → Step (call x n a c d) b m (replied o me) b m
+  call-misnamed z e = done-step (call x n a c d) b m b m here w (rw (misnamed (viewShown b m) x n a c d (sym et ∙ z)) (refuses-with H-CALL e)) (K .1)
+
+  pub call-done : t ≡ false → {h : Bool} {i j r : ℕ} {o : Outcome} {b′ m′ : List ℕ} → h ≡ eqb (nat x) 1 → j ≡ nat n → i ≡ cond h 0 me → Dispatches h i j a c d o b m b′ m′ → r ≡ runningOf b′
+      → Step (call x n a c d) b m (replied o r) b′ m′
+  call-done z {h} {i} {j} {r} {o} {b′} {m′} eh ej ei D er =
+      let v : View = viewShown b m in
+      let mine : i ≡ caller v h = ei ∙ ap (cond h 0) (K .1 here) in
+      let y : numbered v h i j a c d ≡ judge v (call x n a c d) = rw (mine, ej, eh) (named-call v x n a c d (sym et ∙ z)) in
+      done-step (call x n a c d) b m b′ m′ here w (subst (λ (q : Verdict). Does q o b m b′ m′) y (D here)) (λ A. er ∙ running-law b′ m′ A)
+
+-- ---- events of five words, by the bits of the kind
+
+pub kind-tick : (k n a b c : ℤ) → SFits w32 k → ofZ w32 k ≡ 2 → eventOf k n a b c ≡ tick
+kind-tick k n a b c f e = rw (sym (toZ-ofZ f) ∙ ap (toZ w32) e)
+
+pub kind-call : (k n a b c : ℤ) → (ofZ w32 k ≡ 2 → ⊥) → eventOf k n a b c ≡ call k n a b c
+kind-call (pos zero) n a b c h = refl
+kind-call (pos (suc zero)) n a b c h = refl
+kind-call (pos (suc (suc zero))) n a b c h = absurd (h refl)
+kind-call (pos (suc (suc (suc k)))) n a b c h = refl
+kind-call (negsuc k) n a b c h = refl
+
+-- ---- the tick
+
+pub tick-done : {sound : Bool} {me : ℕ} {b m b′ : List ℕ} → Known sound me b m → sound ≡ true → {o : Outcome} {r : ℕ} → DoesOnWords Anything ticked o b b′ → r ≡ runningOf b′ → Step tick b m (replied o r) b′ m
+unfolding judge
+tick-done {b = b} {m = m} {b′ = b′} K s D e = let A = K .0 .0 s in done-step tick b m b′ m A tt (D m A tt) (λ A′. e ∙ running-law b′ m A′)
+
+-- ---- what is known
+
+answer-runs : (v : View) (e : Event) → served v e .answer .runs ≡ running (served v e .next)
+unfolding served answer
+answer-runs v e = refl
+
+module _ {sound : Bool} {me : ℕ} {b m : List ℕ} (K : Known sound me b m) where
+  pub not-sound : sound ≡ false → Accepted b m → ⊥
+  not-sound e A = true≢false (sym (K .0 .1 A) ∙ e)
+
+  module _ {e : Event} {r : Reply} {b′ m′ : List ℕ} (S : Step e b m r b′ m′) where
+    -- a memory that is not accepted stays as it is
+    back : (t : Bool) → sound ≡ t → Accepted b′ m′ → sound ≡ true
+    unfolding number
+    back true q A = q
+    back false q A =
+        let z = S .refuses (not-sound q) in
+        let k = S .kept (ap (λ (x : Reply). negative (x .code)) z) in
+        absurd (not-sound q (subst (λ (x : List ℕ). Accepted b x) (k .1) (subst (λ (x : List ℕ). Accepted x m′) (k .0) A)))
+
+    -- the same is known after the event
+    pub known-on : Known sound (r .runs) b′ m′
+    known-on = ((λ q. S .accepted (K .0 .0 q), back sound refl), λ A′. runs (K .0 .0 (back sound refl A′)))
+      where
+        runs : Accepted b m → r .runs ≡ running (viewShown b′ m′)
+        runs A =
+            let v : View = viewShown b m in
+            let u : event v e ≡ served v e = event-served v e (A .sound) in
+            ap (λ (x : Reply). x .runs) (S .answers A) ∙ ap (λ (o : Kernel.Outcome). o .answer .runs) u ∙ answer-runs v e ∙ ap (λ (o : Kernel.Outcome). running (o .next)) (sym u) ∙ ap running (sym (S .shows A))
+
+-- the first check tells whether the state is sound
+pub known-first : (b m : List ℕ) {sound : Bool} {me : ℕ} → (sound ≡ true) ↔ Accepted b m → me ≡ runningOf b → Known sound me b m
+known-first b m s e = (s, λ A. e ∙ running-law b m A)

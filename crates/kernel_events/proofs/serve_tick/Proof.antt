@@ -1,0 +1,33 @@
+-- `kernel_events::serve_tick` meets its contract. By what is known, and the tick. Assumes nothing.
+use borrow.Author.Tests.{not-true, not-false}
+use Rattle.kernel_events.proofs.Served.{unsound-step, not-sound, tick-done}
+use borrow.Author.Needs.{needs}
+use Rattle.kernel_events.proofs.serve_tick.Statement.{statement}
+use Rattle.kernel_events.proofs.serve_tick.Tie as tie
+
+damaged-requires : tie.Need-damaged-requires
+damaged-requires c κs = search needs
+
+returns : tie.Need-returns
+returns c =
+    let first = c .before in
+    λ K. unsound-step _ _ _ _ (not-sound K (not-true _ (first .if1 .taken))) (c .damaged .ensures)
+
+tick-requires : tie.Need-tick-requires
+tick-requires c κs = search needs
+
+running-task-requires : tie.Need-running-task-requires
+running-task-requires c κs = search needs
+
+answer-of-requires : tie.Need-answer-of-requires
+answer-of-requires c κs = search needs
+
+returns-2 : tie.Need-returns-2
+returns-2 c =
+    let at-running-task = c .before in
+    let at-tick = at-running-task .before .before in
+    let first = at-tick .before .before in
+    rw (c .answer-of .ensures) (λ K. tick-done K (not-false _ (first .if1 .left)) (at-tick .tick .ensures) (at-running-task .running-task .ensures))
+
+pub serve-tick-spec : {M : Type 1} → statement M
+serve-tick-spec = tie.close (tie.spec damaged-requires returns tick-requires running-task-requires answer-of-requires returns-2)

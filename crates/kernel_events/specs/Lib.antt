@@ -1,0 +1,3 @@
+-- What an event makes of a memory, and runs.
+pub mod Steps
+pub mod Serving

@@ -1,0 +1,256 @@
+-- The memory that the start lays for an accepted setup, before any task is started, shows the idle state with empty queues, and is accepted.
+-- Assumes nothing.
+use Prim.Native.Nat.{ℕ, zero, suc, _+_, _-_, _*_, _^_, _≤_, _<_}
+use mathlib.Core.Bool.{Bool, true, false}
+use mathlib.Core.List.{List, [], _∷_, map}
+use mathlib.Core.Logic.{inl, inr}
+use mathlib.Core.Option.{none}
+use mathlib.Core.Path.{_≡_, refl, sym, ap, _∙_, subst}
+use native.Mathlib.Decide.{ℕ-discrete}
+use native.Mathlib.Nat.{pow-suc}
+use native.Mathlib.Omega.{arith}
+use lib.Dec.{lit<}
+use lib.ListN.{length, getD, replicate, length-replicate, length-map}
+use lib.Pow.{pow-pos}
+use lib.Seq.{ext-getD}
+use borrow.Author.Tests.{lt-ltb}
+use Rattle.rules.specs.Ids.{of, In}
+use Rattle.rules.specs.Setup.{Setup, Entry}
+use Rattle.rules.specs.State.{semaphore, flag, mailbox, pool, nobody, Store}
+use Rattle.rules.specs.Places.{Place, readyAt, waiters, mail, Exists, tabulate}
+use Rattle.rules.specs.Kernel.{idleTask, idle}
+use Rattle.rules.proofs.Ids.{of-replicate}
+use Rattle.rules.proofs.Accepted.{GoodSetup, idle-sound, unstarted-sound}
+use Rattle.rules.proofs.Lines.{tabulate-same}
+use Rattle.memory_rings.specs.Rings.{lineOf, Linked}
+use Rattle.memory_rings.proofs.Columns.{col-at}
+use Rattle.memory_rings.proofs.Laws.{blank-law, linked-ext, line-is}
+use Rattle.setup.specs.declared.Plan.{Plan}
+use Rattle.setup.specs.Layout.{PlanShows, PlanFits}
+use Rattle.memory_columns.specs.Layout as Layout
+use Rattle.memory_columns.specs.Layout.{Column, stateWords, maxTasks, maxMessages, maxBlocks, mailNode, fits, clear, words, entry, Only}
+use Rattle.memory_columns.proofs.Frame.{Sized, words-length, only-both}
+use Rattle.memory_picture.specs.Picture.{codeOf, stateShown, taskShown, messageShown, poolShown, tasksShown, messagesShown, storeShown, bodyShown, anchor, lineShown, viewShown, UsedByTasks, ready-queue, wait-queue, UsedByMail, mailbox-queue, Whole, Accepted}
+use Rattle.memory_picture.specs.Form.{maskOf}
+use Rattle.memory_picture.proofs.FormPile.{table-is}
+use Rattle.memory_picture.proofs.FormWords.{back-pool}
+use Rattle.kernel_start.specs.Starting.{counted, allFree, entered, emptied, anchorsOf}
+use Rattle.kernel_start.proofs.Idle.{counted-size, counted-only, counted-system, entryColumns, entered-size, entered-only, entered-priority, entered-start, entered-semaphore, entered-flag, entered-size-of, entered-free, Among, emptied-size, emptied-only, emptied-anchor, emptied-task, emptied-mailbox, emptied-message}
+
+-- ---- tables of one entry
+
+of-map-in : {A B : Type 0} (f : A → B) (l : List A) (i : ℕ) (a : A) (d : B) → In i (length l) → of (map f l) i d ≡ f (of l i a)
+of-map-in f l zero a d r = absurd (omega (arith, r .0))
+of-map-in f [] (suc i) a d r = absurd (omega (arith, r .1))
+of-map-in f (x ∷ l) (suc zero) a d r = refl
+of-map-in f (x ∷ l) (suc (suc i)) a d r = of-map-in f l (suc i) a d (omega arith, omega (arith, r .1))
+
+zero-at : (n i : ℕ) → _≡_ {A = ℕ} (getD (replicate n 0) i 0) 0
+zero-at n i = of-replicate n (suc i) 0
+
+-- every word is 0
+abbrev pub Blank : List ℕ → Type 0
+Blank b = (d : Column) → fits d ≡ true → words d b ≡ replicate (d .width) 0
+
+pub zeros-blank : Blank (replicate stateWords 0)
+zeros-blank d f =
+    let e = words-length d (replicate stateWords 0) (length-replicate {A = ℕ} stateWords 0) f in
+    ext-getD 0 _ _ (e ∙ sym (length-replicate (d .width) 0)) (λ i k. col-at (d .at) (d .width) (replicate stateWords 0) i (omega arith) ∙ zero-at stateWords (d .at + i) ∙ sym (zero-at (d .width) i))
+
+-- ---- a pool of which every block is free
+
+ones : (k : ℕ) → maskOf (replicate k true) ≡ 2 ^ k - 1
+unfolding maskOf
+ones zero = refl
+ones (suc k) = rw (ones k, pow-suc 2 k) (omega (arith, pow-pos k))
+
+all-free : (k : ℕ) → k ≤ maxBlocks → allFree k ≡ 2 ^ k - 1
+unfolding allFree
+all-free k h = elim (ℕ-discrete k maxBlocks) [ yes e ↦ rw e | no e ↦ rw (lt-ltb k maxBlocks (omega arith)) ]
+
+free-pool : (k : ℕ) → k ≤ maxBlocks → poolShown k (allFree k) ≡ replicate k true
+free-pool k h =
+    rw (all-free k h, ← ones k) (subst (λ (n : ℕ). poolShown n (maskOf (replicate k true)) ≡ replicate k true) (length-replicate k true) (back-pool (replicate k true)))
+
+-- ---- the memory
+
+abbrev noEntry : Entry
+noEntry = record { priority = 0; started = false }
+
+module _ (s : List ℕ) (u : Setup) (G : GoodSetup u) (p : Plan) (S : PlanShows p s u) (F : PlanFits p (length s))
+    (z : List ℕ) (hz : Sized z) (blank : Blank z)
+    (marks : List ℕ) (hm : length marks ≡ maxMessages) (unlaid : (j : ℕ) → of marks j 0 ≡ 0) where
+  abbrev pub memory : List ℕ
+  memory = emptied p (entered s p (counted p z))
+
+  c₀ : Sized (counted p z)
+  c₀ = counted-size p z hz
+
+  c₁ : Sized (entered s p (counted p z))
+  c₁ = entered-size s p F (counted p z) c₀
+
+  size : Sized memory
+  size = emptied-size p _ c₁
+
+  -- what is written before the queues
+  laid-only : Only (Layout.system ∷ entryColumns) z (entered s p (counted p z))
+  laid-only = only-both (counted-only p z) (entered-only s p F (counted p z) c₀)
+
+  zeros : (d : Column) → clear (Layout.system ∷ entryColumns) d ≡ true → fits d ≡ true → words d (entered s p (counted p z)) ≡ replicate (d .width) 0
+  zeros d e f = laid-only .kept d e ∙ blank d f
+
+  as-entered : (d : Column) → clear (Layout.links ∷ Layout.mailLinks ∷ []) d ≡ true → (i : ℕ) → entry d memory i ≡ entry d (entered s p (counted p z)) i
+  as-entered d e i = ap (λ (l : List ℕ). getD l i 0) (emptied-only p _ c₁ .kept d e)
+
+  -- no link is written there either
+  at-zero : (d : Column) → clear (Layout.system ∷ entryColumns) d ≡ true → clear (Layout.links ∷ Layout.mailLinks ∷ []) d ≡ true → fits d ≡ true → (i : ℕ) → entry d memory i ≡ 0
+  at-zero d e e′ f i = as-entered d e′ i ∙ ap (λ (l : List ℕ). getD l i 0) (zeros d e f) ∙ zero-at (d .width) i
+
+  counts : List ℕ
+  counts = p .priorities ∷ p .tasks ∷ p .semaphores ∷ p .flags ∷ p .mailboxes ∷ p .pools ∷ p .messages ∷ replicate (Layout.system .width - Layout.clockLow) 0
+
+  at-system : (k : ℕ) → entry Layout.system memory k ≡ getD counts k 0
+  unfolding counts
+  at-system k =
+      as-entered Layout.system refl k
+      ∙ ap (λ (l : List ℕ). getD l k 0) (entered-only s p F (counted p z) c₀ .kept Layout.system refl ∙ counted-system p z (blank Layout.system refl))
+
+  -- ---- what is shown
+
+  task-shown : (i : ℕ) → In i (length (map idleTask (u .tasks))) → taskShown memory i ≡ of (map idleTask (u .tasks)) i nobody
+  unfolding taskShown stateShown codeOf
+  task-shown i h =
+      let r : In i (length (u .tasks)) = (h .0, omega (arith, h .1, length-map (u .tasks) idleTask)) in
+      let q : In i (p .tasks) = (h .0, omega (arith, r .1, S .tasks)) in
+      rw (
+        at-zero Layout.status refl refl refl i,
+        as-entered Layout.priority refl i,
+        entered-priority s p F (counted p z) c₀ i q,
+        as-entered Layout.start refl i,
+        entered-start s p F (counted p z) c₀ i q,
+        at-zero Layout.wakeups refl refl refl i,
+        at-zero Layout.code refl refl refl i,
+        at-zero Layout.word refl refl refl i,
+        of-map-in idleTask (u .tasks) i noEntry nobody r,
+        S .starts i noEntry q,
+      )
+
+  semaphore-shown : (i : ℕ) → In i (length (u .semaphores)) → entry Layout.semaphore memory i ≡ of (u .semaphores) i 0
+  semaphore-shown i h =
+      let q : In i (p .semaphores) = (h .0, omega (arith, h .1, S .semaphores)) in
+      as-entered Layout.semaphore refl i ∙ entered-semaphore s p F (counted p z) c₀ i q ∙ sym (S .counts i 0 q)
+
+  flag-shown : (i : ℕ) → In i (length (u .flags)) → entry Layout.flag memory i ≡ of (u .flags) i 0
+  flag-shown i h =
+      let q : In i (p .flags) = (h .0, omega (arith, h .1, S .flags)) in
+      as-entered Layout.flag refl i ∙ entered-flag s p F (counted p z) c₀ i q ∙ sym (S .patterns i 0 q)
+
+  message-shown : (j : ℕ) → messageShown (of marks j 0) ≡ of (replicate (u .messages) none) j none
+  message-shown j = rw (unlaid j) (sym (of-replicate (u .messages) j none))
+
+  abbrev freePools : List (List Bool)
+  freePools = map (λ n. replicate n true) (u .pools)
+
+  pool-shown : (i : ℕ) → In i (length freePools) → poolShown (entry Layout.size memory i) (entry Layout.free memory i) ≡ of freePools i []
+  unfolding idle
+  pool-shown i h =
+      let r : In i (length (u .pools)) = (h .0, omega (arith, h .1, length-map (u .pools) (λ n. replicate n true))) in
+      let q : In i (p .pools) = (h .0, omega (arith, r .1, S .pools)) in
+      let e : of freePools i [] ≡ replicate (of (u .pools) i 0) true = of-map-in (λ n. replicate n true) (u .pools) i 0 [] r in
+      let k : of (u .pools) i 0 ≤ maxBlocks = omega (arith, rw (e, length-replicate) at (idle-sound u G .store .pools i h .1)) in
+      rw (as-entered Layout.size refl i, entered-size-of s p F (counted p z) c₀ i q, as-entered Layout.free refl i, entered-free s p F (counted p z) c₀ i q, ← S .blocks i 0 q, e)
+      (free-pool (of (u .pools) i 0) k)
+
+  store-shown : storeShown memory marks ≡ idle u .store
+  unfolding storeShown idle counts
+  store-shown = λ x. record {
+    priorities = (at-system Layout.priorities ∙ S .priorities) x;
+    semaphores = table-is (u .semaphores) _ (entry Layout.semaphore memory) 0 (at-system Layout.semaphores ∙ S .semaphores) semaphore-shown x;
+    flags = table-is (u .flags) _ (entry Layout.flag memory) 0 (at-system Layout.flags ∙ S .flags) flag-shown x;
+    mailboxes = (at-system Layout.mailboxes ∙ S .mailboxes) x;
+    messages = table-is (replicate (u .messages) none) _ (λ j. messageShown (of marks j 0)) none (at-system Layout.messages ∙ S .messages ∙ sym (length-replicate (u .messages) none)) (λ j h. message-shown j) x;
+    pools = table-is freePools _ (λ i. poolShown (entry Layout.size memory i) (entry Layout.free memory i)) [] (at-system Layout.pools ∙ S .pools ∙ sym (length-map (u .pools) (λ n. replicate n true))) pool-shown x;
+    clock = clock x;
+  }
+    where
+      clock : entry Layout.system memory Layout.clockLow + 2 ^ 32 * entry Layout.system memory Layout.clockHigh ≡ 0
+      clock = rw (at-system Layout.clockLow, at-system Layout.clockHigh)
+
+  body-shown : bodyShown memory marks ≡ idle u
+  unfolding bodyShown idle counts
+  body-shown = λ x. record {
+    tasks = table-is (map idleTask (u .tasks)) _ (taskShown memory) nobody (at-system Layout.tasks ∙ S .tasks ∙ sym (length-map (u .tasks) idleTask)) task-shown x;
+    store = store-shown x;
+  }
+
+  -- ---- the links: no task and no message has one, and each anchor in use points to itself
+
+  few-tasks : tasksShown memory ≤ maxTasks
+  unfolding counts
+  few-tasks = omega (arith, at-system Layout.tasks, F .tasks)
+
+  few-messages : messagesShown memory ≤ maxMessages
+  unfolding counts
+  few-messages = omega (arith, at-system Layout.messages, F .messages)
+
+  used : (a : ℕ) → UsedByTasks (idle u .store) a → Among a (anchorsOf p) × (maxTasks < a) × (a < Layout.next .width)
+  unfolding idle anchor
+  used a (ready-queue q e) = (inl (omega (arith, e .0), omega (arith, e .1, S .priorities)), omega (arith, e .0), omega (arith, e .1, S .priorities, F .priorities))
+  used a (wait-queue semaphore o e) = (inr (inl (omega (arith, e .0), omega (arith, e .1, S .semaphores))), omega arith, omega (arith, e .1, S .semaphores, F .semaphores))
+  used a (wait-queue flag o e) = (inr (inr (inl (omega (arith, e .0), omega (arith, e .1, S .flags)))), omega arith, omega (arith, e .1, S .flags, F .flags))
+  used a (wait-queue mailbox o e) = (inr (inr (inr (inl (omega (arith, e .0), omega (arith, e .1, S .mailboxes))))), omega arith, omega (arith, e .1, S .mailboxes, F .mailboxes))
+  used a (wait-queue pool o e) =
+      let k : o ≤ p .pools = omega (arith, e .1, S .pools, length-map (u .pools) (λ n. replicate n true)) in
+      (inr (inr (inr (inr (inl (omega (arith, e .0), omega arith))))), omega arith, omega (arith, F .pools))
+
+  used-mail : (a : ℕ) → UsedByMail (idle u .store) a → (maxMessages < a) × (a < mailNode 1 + p .mailboxes) × (a < Layout.mailNext .width)
+  unfolding idle anchor
+  used-mail a (mailbox-queue m e) = (omega (arith, e .0), omega (arith, e .1, S .mailboxes), omega (arith, e .1, S .mailboxes, F .mailboxes))
+
+  long : (d : Column) → fits d ≡ true → length (words d memory) ≡ d .width
+  long d = words-length d memory size
+
+  tasks-linked : Linked (tasksShown memory) (UsedByTasks (idle u .store)) (words Layout.next memory) (words Layout.prev memory) (λ _. [])
+  tasks-linked = blank-law
+      (λ a v. (omega (arith, few-tasks, used a v .1), rw (long Layout.next refl) (used a v .2)))
+      (long Layout.prev refl ∙ sym (long Layout.next refl))
+      (λ i h. emptied-task p _ c₁ i (omega (arith, h .1, few-tasks)) ∙ ap (λ (l : List ℕ). getD l i 0) (zeros Layout.next refl refl) ∙ zero-at (Layout.next .width) i)
+      (λ a v. emptied-anchor p _ c₁ a (used a v .2) (used a v .0))
+
+  mails-linked : Linked (messagesShown memory) (UsedByMail (idle u .store)) (words Layout.mailNext memory) (words Layout.mailPrev memory) (λ _. [])
+  mails-linked = blank-law
+      (λ a v. (omega (arith, few-messages, used-mail a v .0), rw (long Layout.mailNext refl) (used-mail a v .2)))
+      (long Layout.mailPrev refl ∙ sym (long Layout.mailNext refl))
+      (λ i h. emptied-message p _ c₁ i (omega (arith, h .1, few-messages)) ∙ ap (λ (l : List ℕ). getD l i 0) (zeros Layout.mailNext refl refl) ∙ zero-at (Layout.mailNext .width) i)
+      (λ a v. emptied-mailbox p _ c₁ a (used-mail a v .2) (used-mail a v .0) (used-mail a v .1))
+
+  low : entry Layout.system memory Layout.clockLow < 2 ^ 32
+  unfolding counts
+  low = rw (at-system Layout.clockLow) (lit< tt)
+
+  whole : Whole memory marks
+  whole = record {
+    size = size;
+    marks = hm;
+    low = low;
+    tasks = rw store-shown (linked-ext tasks-linked (lineOf (tasksShown memory) (words Layout.next memory)) (λ a v. sym (line-is tasks-linked a v)));
+    mails = rw store-shown (linked-ext mails-linked (lineOf (messagesShown memory) (words Layout.mailNext memory)) (λ a v. sym (line-is mails-linked a v)));
+  }
+
+  line-shown : (q : Place) → Exists (idle u .store) q → lineShown memory q ≡ []
+  unfolding lineShown
+  line-shown (readyAt q) e = line-is tasks-linked (anchor (readyAt q)) (ready-queue q e)
+  line-shown (waiters k o) e = line-is tasks-linked (anchor (waiters k o)) (wait-queue k o e)
+  line-shown (mail m) e = line-is mails-linked (anchor (mail m)) (mailbox-queue m e)
+
+  -- ---- the whole
+
+  pub idle-shown : viewShown memory marks ≡ record { body = idle u; lines = tabulate (idle u .store) (λ q. []) }
+  unfolding viewShown
+  idle-shown = λ x. record { body = body-shown x; lines = lines x }
+    where
+      lines : tabulate (storeShown memory marks) (lineShown memory) ≡ tabulate (idle u .store) (λ q. [])
+      lines = ap (λ (w : Store). tabulate w (lineShown memory)) store-shown ∙ tabulate-same (idle u .store) (lineShown memory) (λ q. []) line-shown
+
+  pub idle-accepted : Accepted memory marks
+  idle-accepted = record { whole = whole; sound = rw idle-shown (unstarted-sound u G) }

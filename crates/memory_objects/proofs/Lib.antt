@@ -1,0 +1,2 @@
+-- Laws of the acts on objects and time.
+pub mod Steps

@@ -1,0 +1,96 @@
+-- The code's steps put together: each law takes what the calls of a function give, in order, and ends in what the function does.
+-- Assumes nothing.
+use Prim.Native.Nat.{ℕ, zero, suc, pred, _+_, _-_, _*_, _%_, _^_, _≤_, _<_}
+use mathlib.Core.Bool.{Bool, true, false}
+use mathlib.Core.List.{List}
+use mathlib.Core.Path.{_≡_, refl, sym, _∙_}
+use native.Mathlib.Numerals.{sub-one, add-one}
+use native.Mathlib.Nat.{one-mul}
+use native.Mathlib.Omega.{arith}
+use lib.ListN.{getD, set, length, List·getD-eq-default}
+use lib.Pow.{shl-exact}
+use lib.Seq.{set-out}
+use borrow.Author.Tests.{ne-eqb, le-leb, lt-leb}
+use Rattle.rules.specs.Ids.{of, put}
+use Rattle.memory_columns.specs.Layout as Layout
+use Rattle.memory_columns.specs.Layout.{maxBlocks, entry}
+use Rattle.memory_objects.specs.Moves.{masked, marked, isTimed, aged, agedFrom, clocked}
+
+-- ---- tables by id
+
+pub of-at : (l : List ℕ) (i : ℕ) → (i ≡ 0 → ⊥) → getD l (i - 1) 0 ≡ of l i 0
+of-at l zero ne = absurd (ne refl)
+of-at l (suc i) ne = rw sub-one
+
+pub of-past : (l : List ℕ) (i : ℕ) → (i ≡ 0 → ⊥) → length l ≤ i - 1 → 0 ≡ of l i 0
+of-past l zero ne h = refl
+of-past l (suc i) ne h = sym (List·getD-eq-default l 0 (omega arith))
+
+pub put-at : (l : List ℕ) (i v : ℕ) → (i ≡ 0 → ⊥) → set l (i - 1) v ≡ put l i v
+put-at l zero v ne = absurd (ne refl)
+put-at l (suc i) v ne = rw sub-one
+
+pub put-past : (l : List ℕ) (i v : ℕ) → (i ≡ 0 → ⊥) → length l ≤ i - 1 → l ≡ put l i v
+put-past l zero v ne h = refl
+put-past l (suc i) v ne h = sym (set-out l i v (omega arith))
+
+-- ---- blocks
+
+pub one-bit : (i : ℕ) → i < 32 → (1 * 2 ^ i) % 2 ^ 32 ≡ 2 ^ i
+one-bit i h = shl-exact {a = 1} 1 i 32 (omega arith) (omega arith) ∙ one-mul (2 ^ i)
+
+module _ (p k : ℕ) (t : Bool) (b : List ℕ) where
+  pub block-none : k ≡ 0 → b ≡ marked p k t b
+  unfolding marked
+  block-none e = rw e
+
+  pub block-past : maxBlocks < k → b ≡ marked p k t b
+  unfolding marked
+  block-past h = rw (le-leb 1 k (omega arith), lt-leb k maxBlocks h)
+
+pub block-in : (p k : ℕ) (t : Bool) (b : List ℕ) {m n : ℕ} {b₁ : List ℕ} → (k ≡ 0 → ⊥) → k ≤ maxBlocks → m ≡ entry Layout.free b p → n ≡ masked m (k - 1) t
+    → b₁ ≡ Layout.put Layout.free p n b → b₁ ≡ marked p k t b
+unfolding marked
+block-in p zero t b ne h e f g = absurd (ne refl)
+block-in p (suc k) t b ne h e f g = g ∙ rw (le-leb 1 (suc k) (omega arith), le-leb (suc k) maxBlocks h, f, e, sub-one)
+
+-- ---- time
+
+module _ (t : ℕ) (b : List ℕ) where
+  pub age-yes : {s k n m : ℕ} {y : Bool} {b₁ : List ℕ} → s ≡ entry Layout.status b t → k ≡ entry Layout.kind b t → y ≡ isTimed s k → y ≡ true
+      → n ≡ entry Layout.ticks b t → m ≡ pred n → b₁ ≡ Layout.put Layout.ticks t m b → b₁ ≡ aged t b
+  unfolding aged
+  age-yes e f g h e′ f′ g′ =
+      let z : isTimed (entry Layout.status b t) (entry Layout.kind b t) ≡ true = rw (← e, ← f) (sym g ∙ h) in
+      g′ ∙ rw (f′, e′, z)
+
+  pub age-no : {s k : ℕ} {y : Bool} → s ≡ entry Layout.status b t → k ≡ entry Layout.kind b t → y ≡ isTimed s k → y ≡ false → b ≡ aged t b
+  unfolding aged
+  age-no e f g h =
+      let z : isTimed (entry Layout.status b t) (entry Layout.kind b t) ≡ false = rw (← e, ← f) (sym g ∙ h) in
+      rw z
+
+pub age-none : (n t : ℕ) (b : List ℕ) → n ≤ 0 → b ≡ agedFrom n t b
+unfolding agedFrom
+age-none zero t b h = refl
+age-none (suc n) t b h = absurd (omega arith)
+
+pub age-step : (n t : ℕ) (b : List ℕ) {b₁ : List ℕ} → 0 < n → b₁ ≡ aged t b → agedFrom (n - 1) (t + 1) b₁ ≡ agedFrom n t b
+unfolding agedFrom
+age-step zero t b h e = absurd (omega arith)
+age-step (suc n) t b h e = rw (sub-one, add-one, e)
+
+module _ (b : List ℕ) {low : ℕ} (e : low ≡ entry Layout.system b Layout.clockLow) where
+  pub clock-low : {b₁ : List ℕ} → low < 4294967295 → b₁ ≡ Layout.put Layout.system Layout.clockLow (low + 1) b → b₁ ≡ clocked b
+  unfolding clocked
+  clock-low h f =
+      let z : suc low % 2 ^ 32 ≡ low + 1 = omega arith in
+      f ∙ rw (← e, z, ne-eqb (low + 1) 0 (λ k. omega arith))
+
+  pub clock-high : {n : ℕ} {b₁ b₂ : List ℕ} → low < 2 ^ 32 → 4294967295 ≤ low → n ≡ entry Layout.system b Layout.clockHigh → b₁ ≡ Layout.put Layout.system Layout.clockLow 0 b
+      → b₂ ≡ Layout.put Layout.system Layout.clockHigh ((n % 65536 + 1) % 65536) b₁ → b₂ ≡ clocked b
+  unfolding clocked
+  clock-high {n} k h f g g′ =
+      let z : suc low % 2 ^ 32 ≡ 0 = omega arith in
+      let y : (n % 65536 + 1) % 65536 ≡ suc n % 2 ^ 16 = omega arith in
+      g′ ∙ rw (← e, ← f, z, y, g)

@@ -1,0 +1,41 @@
+use borrow.Author.Needs.{needs}
+use Rattle.memory_objects.proofs.Steps.{block-none, block-past, block-in}
+use Rattle.memory_objects.proofs.marks.mark_block.Statement.{statement}
+use Rattle.memory_objects.proofs.marks.mark_block.Tie as tie
+
+returns : tie.Need-returns
+returns c = block-none _ _ _ _ (c .if1 .taken)
+
+returns-2 : tie.Need-returns-2
+returns-2 c = block-past _ _ _ _ (c .if2 .taken)
+
+free-requires : tie.Need-free-requires
+free-requires c κs = search needs
+
+sub-with-bit : tie.Need-sub-with-bit
+sub-with-bit c = search needs
+
+with-bit-requires : tie.Need-with-bit-requires
+with-bit-requires c κs = search needs
+
+set-free-requires : tie.Need-set-free-requires
+set-free-requires c κs = search needs
+
+returns-3 : tie.Need-returns-3
+returns-3 c =
+    let w = c .before in
+    let f = w .before .before in
+    let i = f .before .before in
+    block-in _ _ _ _ (i .before .if1 .left) (i .if2 .left) (f .free .ensures) (w .with-bit .ensures) (c .set-free .ensures)
+
+pub mark-block-spec : {M : Type 1} → statement M
+mark-block-spec =
+    tie.close
+    (tie.spec
+    returns
+    returns-2
+    free-requires
+    sub-with-bit
+    with-bit-requires
+    set-free-requires
+    returns-3)

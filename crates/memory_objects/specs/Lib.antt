@@ -1,0 +1,2 @@
+-- What the acts on blocks and time write.
+pub mod Moves

@@ -1,0 +1,42 @@
+-- What each act on blocks and time does to the words, for any words.
+use mathlib.Core.Bool.{Bool, true, false, cond, _&&_, _||_}
+use mathlib.Core.List.{List}
+use Prim.Native.Nat.{ℕ, zero, suc, pred, _-_, _%_, _^_}
+use lib.Bits.{bitAnd, bitOr}
+use lib.Dec.{eqb, leb}
+use Rattle.memory_columns.specs.Layout as Layout
+use Rattle.memory_columns.specs.Layout.{maxTasks, maxBlocks, status, kind, ticks, free, system, entry, put, atMost}
+
+-- ---- blocks: bit k - 1 of the mask is block k's mark
+
+-- the mask with bit k as t says
+abbrev pub masked : ℕ → ℕ → Bool → ℕ
+masked m k true = bitOr m (2 ^ k)
+masked m k false = bitAnd m (2 ^ 32 - 1 - 2 ^ k)
+
+-- block k of pool p; a number that is no block's changes nothing
+unfoldable pub marked : ℕ → ℕ → Bool → List ℕ → List ℕ
+marked p k t b = cond (leb 1 k && leb k maxBlocks) (put free p (masked (entry free b p) (pred k) t) b) b
+
+-- ---- time
+
+-- a timed wait, suspended or not
+abbrev pub isTimed : ℕ → ℕ → Bool
+isTimed s k = (eqb s 3 || eqb s 5) && eqb k 1
+
+unfoldable pub aged : ℕ → List ℕ → List ℕ
+aged t b = cond (isTimed (entry status b t) (entry kind b t)) (put ticks t (pred (entry ticks b t)) b) b
+
+-- n tasks from t on
+unfoldable pub agedFrom : ℕ → ℕ → List ℕ → List ℕ
+agedFrom zero t b = b
+agedFrom (suc n) t b = agedFrom n (suc t) (aged t b)
+
+-- the clock's low half, and the high half when the low one comes to 0
+unfoldable pub clocked : List ℕ → List ℕ
+clocked b =
+    let low : ℕ = suc (entry system b Layout.clockLow) % 2 ^ 32 in
+    cond (eqb low 0) (put system Layout.clockHigh (suc (entry system b Layout.clockHigh) % 2 ^ 16) (put system Layout.clockLow 0 b)) (put system Layout.clockLow low b)
+
+unfoldable pub elapsed : List ℕ → List ℕ
+elapsed b = clocked (agedFrom (atMost (entry system b Layout.tasks) maxTasks) 1 b)

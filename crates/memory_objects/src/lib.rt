@@ -1,0 +1,4 @@
+// The acts on messages, blocks and time, and what a flag's pattern meets. Each is a total function on the words (specs/Moves.antt).
+pub mod flags;
+pub mod marks;
+pub mod time;

@@ -1,0 +1,280 @@
+-- A tick: each timed wait loses one, task by task, and the clock rises by one.
+use mathlib.Core.Bool.{Bool, true, false, cond, _&&_, _||_}
+use mathlib.Core.List.{List, [], _∷_, _++_, map, map-map}
+use mathlib.Core.Logic.{_⊎_, inl, inr}
+use mathlib.Core.Path.{_≡_, refl, sym, ap, _∙_, subst}
+use Prim.Native.Nat.{ℕ, zero, suc, pred, _+_, _*_, _%_, _^_, _≤_, _<_}
+use native.Mathlib.Decide.{ℕ-discrete, decLe}
+use native.Mathlib.Omega.{arith}
+use lib.Dec.{eqb, lit≤}
+use lib.ListN.{length, getD, set, length-set}
+use lib.Seq.{getD-set-same, getD-set-other}
+use borrow.Author.Tests.{eqb-true, eqb-false, le-leb}
+use Rattle.rules.specs.Ids.{ids, In}
+use Rattle.rules.specs.State.{semaphore, flag, mailbox, pool, Wait, asleep, timed, on, State, dormant, ready, suspended, waiting, waiting-suspended, Task}
+use Rattle.rules.specs.Acts.{elapse, after, move, with-state, with-clock, older, clockAfter}
+use Rattle.rules.proofs.Ids.{map-ids, length-ids}
+use Rattle.memory_rings.proofs.Columns.{col-store, length-store}
+use Rattle.memory_columns.specs.Layout as Layout
+use Rattle.memory_columns.specs.Layout.{stateWords, maxTasks, words, entry, Only}
+use Rattle.memory_columns.proofs.Frame.{words-length, put-only, only-none, only-both, only-on}
+use Rattle.memory_objects.specs.Moves.{isTimed, aged, agedFrom, clocked, elapsed}
+use Rattle.memory_picture.specs.Picture.{noWait, waitShown, stateShown, taskShown, storeShown, bodyShown, viewShown, Accepted}
+use Rattle.memory_queues.proofs.Relinks.{put-at}
+use Rattle.memory_picture.proofs.Lines.{rest, follows-stay}
+use Rattle.memory_picture.proofs.Done.{LowClock, Done}
+use Rattle.memory_picture.proofs.Touched.{kept-shown, store-kept, touchable, Touched, untouched, touched-put}
+use Rattle.memory_picture.proofs.OneTask.{sizes}
+
+-- ---- one task
+
+-- a wait with one tick less
+abbrev shorter : Wait → Wait
+shorter asleep = asleep
+shorter (timed t) = timed (pred t)
+shorter (on k o p m) = on k o p m
+
+older-waiting : (w : Wait) → older (waiting w) ≡ waiting (shorter w)
+older-waiting asleep = refl
+older-waiting (timed t) = refl
+older-waiting (on k o p m) = refl
+
+older-both : (w : Wait) → older (waiting-suspended w) ≡ waiting-suspended (shorter w)
+older-both asleep = refl
+older-both (timed t) = refl
+older-both (on k o p m) = refl
+
+shorter-timed : (k o p m n : ℕ) → eqb k 1 ≡ true → waitShown k o p m (pred n) ≡ shorter (waitShown k o p m n)
+unfolding waitShown
+shorter-timed k o p m n e = rw (eqb-true k 1 e)
+
+shorter-other : (k o p m n : ℕ) → eqb k 1 ≡ false → waitShown k o p m n ≡ shorter (waitShown k o p m n)
+unfolding waitShown
+shorter-other k o p m n e = rw e (go (eqb k 0) (eqb k 2) (eqb k 3) (eqb k 4) (eqb k 5))
+  where
+    W : Bool → Bool → Bool → Bool → Bool → Wait
+    W a c d e f = cond a asleep (cond c (on semaphore o 0 0) (cond d (on flag o p m) (cond e (on mailbox o 0 0) (cond f (on pool o 0 0) noWait))))
+
+    go : (a c d e f : Bool) → W a c d e f ≡ shorter (W a c d e f)
+    go true c d e f = refl
+    go false true d e f = refl
+    go false false true e f = refl
+    go false false false true f = refl
+    go false false false false true = refl
+    go false false false false false = refl
+
+-- the state of a task with one tick less, where it is timed
+older-shown : (s k o p m n : ℕ) → stateShown s (waitShown k o p m (cond (isTimed s k) (pred n) n)) ≡ older (stateShown s (waitShown k o p m n))
+unfolding stateShown
+older-shown s k o p m n = go (eqb s 0) (eqb s 1) (eqb s 3) (eqb s 4) (eqb s 5) (eqb k 1) refl
+  where
+    w : ℕ → Wait
+    w n = waitShown k o p m n
+
+    now : (t : Bool) → eqb k 1 ≡ t → w (cond t (pred n) n) ≡ shorter (w n)
+    now true e = shorter-timed k o p m n e
+    now false e = shorter-other k o p m n e
+
+    S : Bool → Bool → Bool → Bool → Bool → Wait → State
+    S a b c d e w = cond a dormant (cond b ready (cond c (waiting w) (cond d suspended (cond e (waiting-suspended w) (waiting noWait)))))
+
+    go : (a b c d e t : Bool) → eqb k 1 ≡ t → S a b c d e (w (cond ((c || e) && t) (pred n) n)) ≡ older (S a b c d e (w n))
+    go true b c d e t h = refl
+    go false true c d e t h = refl
+    go false false true d e t h = ap waiting (now t h) ∙ sym (older-waiting (w n))
+    go false false false true e t h = refl
+    go false false false false true t h = ap waiting-suspended (now t h) ∙ sym (older-both (w n))
+    go false false false false false t h = refl
+
+abbrev pub olderTask : Task → Task
+olderTask t = with-state (older (t .state)) t
+
+module _ (b : List ℕ) (size : length b ≡ stateWords) (t : ℕ) (h : t < Layout.status .width) where
+  aged-touched : Touched t rest b (aged t b)
+  unfolding aged
+  aged-touched = go (isTimed (entry Layout.status b t) (entry Layout.kind b t))
+    where
+      go : (x : Bool) → Touched t rest b (cond x (Layout.put Layout.ticks t (pred (entry Layout.ticks b t)) b) b)
+      go true = touched-put Layout.ticks _ refl (untouched size)
+      go false = untouched size
+
+  -- its state with n ticks left
+  abbrev left : ℕ → State
+  left n = stateShown (entry Layout.status b t) (waitShown (entry Layout.kind b t) (entry Layout.object b t) (entry Layout.wish b t) (entry Layout.mode b t) n)
+
+  state : (x : Bool) → isTimed (entry Layout.status b t) (entry Layout.kind b t) ≡ x → left (cond x (pred (entry Layout.ticks b t)) (entry Layout.ticks b t)) ≡ older (left (entry Layout.ticks b t))
+  state x e = subst (λ (x : Bool). left (cond x (pred (entry Layout.ticks b t)) (entry Layout.ticks b t)) ≡ older (left (entry Layout.ticks b t))) e (older-shown _ _ _ _ _ _)
+
+  aged-shown : taskShown (aged t b) t ≡ olderTask (taskShown b t)
+  unfolding aged taskShown
+  aged-shown = go (isTimed (entry Layout.status b t) (entry Layout.kind b t)) refl
+    where
+      go : (x : Bool) → isTimed (entry Layout.status b t) (entry Layout.kind b t) ≡ x → taskShown (cond x (Layout.put Layout.ticks t (pred (entry Layout.ticks b t)) b) b) t ≡ olderTask (taskShown b t)
+      go true e = simp (col-store, put-at b size) (λ z. with-state (state true e z) (taskShown b t))
+      go false e = λ z. with-state (state false e z) (taskShown b t)
+
+-- ---- n tasks from t on
+
+record Aged (n t : ℕ) (b c : List ℕ) : Type 0 where
+  size : length c ≡ stateWords
+  inside : (j : ℕ) → t ≤ j → j < t + n → taskShown c j ≡ olderTask (taskShown b j)
+  outside : (j : ℕ) → (j < t) ⊎ (t + n ≤ j) → taskShown c j ≡ taskShown b j
+  only : Only touchable b c
+  next : words Layout.next c ≡ words Layout.next b
+  prev : words Layout.prev c ≡ words Layout.prev b
+
+aged-from : (n t : ℕ) (b : List ℕ) → length b ≡ stateWords → t + n ≤ Layout.status .width → Aged n t b (agedFrom n t b)
+unfolding agedFrom
+aged-from zero t b e h = record { size = e; inside = λ j x y. absurd (omega arith); outside = λ j x. refl; only = only-none touchable b; next = refl; prev = refl }
+aged-from (suc n) t b e h = go (aged-touched b e t (omega arith)) (aged-shown b e t (omega arith)) (λ e′. aged-from n (suc t) (aged t b) e′ (omega arith))
+  where
+    go : Touched t rest b (aged t b) → taskShown (aged t b) t ≡ olderTask (taskShown b t) → (length (aged t b) ≡ stateWords → Aged n (suc t) (aged t b) (agedFrom n (suc t) (aged t b)))
+        → Aged (suc n) t b (agedFrom n (suc t) (aged t b))
+    go T f ih =
+        let R = ih (T .size) in record {
+          size = R .size;
+          inside = λ j x y. elim (ℕ-discrete j t) [
+            | yes q ↦ subst (λ (i : ℕ). taskShown (agedFrom n (suc t) (aged t b)) i ≡ olderTask (taskShown b i)) (sym q) (R .outside t (inl (omega arith)) ∙ f)
+            | no ne ↦ R .inside j (omega arith) (omega arith) ∙ ap olderTask (T .others j ne)
+          ];
+          outside = λ j x. R .outside j (elim x [ inl a ↦ inl (omega arith) | inr a ↦ inr (omega arith) ]) ∙ T .others j (elim x [ inl a ↦ (λ q. omega arith) | inr a ↦ (λ q. omega arith) ]);
+          only = only-on (T .only) (R .only);
+          next = R .next ∙ T .next;
+          prev = R .prev ∙ T .prev;
+        }
+
+-- ---- the clock
+
+clock-carry : (l h : ℕ) → l < 2 ^ 32 → l + 2 ^ 32 * h < 2 ^ 48 → suc l % 2 ^ 32 ≡ 0 → 0 + 2 ^ 32 * (suc h % 2 ^ 16) ≡ clockAfter (l + 2 ^ 32 * h)
+clock-carry l h a b e = go (decLe (2 + h) 65536)
+  where
+    q : l ≡ 4294967295
+    q = omega arith
+
+    go : Dec (2 + h ≤ 65536) → 0 + 2 ^ 32 * (suc h % 2 ^ 16) ≡ clockAfter (l + 2 ^ 32 * h)
+    go (yes k) = let r : suc h % 65536 ≡ suc h = omega arith in rw r (omega arith)
+    go (no k) = let r : h ≡ 65535 = omega arith in rw (q, r)
+
+clock-step : (l h : ℕ) → l < 2 ^ 32 → l + 2 ^ 32 * h < 2 ^ 48 → (suc l % 2 ^ 32 ≡ 0 → ⊥) → suc l % 2 ^ 32 + 2 ^ 32 * h ≡ clockAfter (l + 2 ^ 32 * h)
+clock-step l h a b e = omega arith
+
+-- the clock's halves in the words of the system: the low half comes to 0, or not
+abbrev ticked : List ℕ → Bool → List ℕ
+ticked w t = cond t (set (set w Layout.clockLow 0) Layout.clockHigh (suc (getD w Layout.clockHigh 0) % 2 ^ 16)) (set w Layout.clockLow (suc (getD w Layout.clockLow 0) % 2 ^ 32))
+
+ticked-count : (w : List ℕ) (t : Bool) (i : ℕ) → i < Layout.clockLow → getD (ticked w t) i 0 ≡ getD w i 0
+ticked-count w true i h = getD-set-other (set w Layout.clockLow 0) Layout.clockHigh i _ 0 (λ e. omega arith) ∙ getD-set-other w Layout.clockLow i 0 0 (λ e. omega arith)
+ticked-count w false i h = getD-set-other w Layout.clockLow i _ 0 (λ e. omega arith)
+
+-- the low half
+ticked-zero : (w : List ℕ) → length w ≡ Layout.system .width → getD (ticked w true) Layout.clockLow 0 ≡ 0
+ticked-zero w k = getD-set-other (set w Layout.clockLow 0) Layout.clockHigh Layout.clockLow _ 0 (λ e. omega arith) ∙ getD-set-same w Layout.clockLow 0 0 (omega arith)
+
+ticked-next : (w : List ℕ) → length w ≡ Layout.system .width → getD (ticked w false) Layout.clockLow 0 ≡ suc (getD w Layout.clockLow 0) % 2 ^ 32
+ticked-next w k = getD-set-same w Layout.clockLow _ 0 (omega arith)
+
+ticked-low : (w : List ℕ) (t : Bool) → length w ≡ Layout.system .width → getD (ticked w t) Layout.clockLow 0 < 2 ^ 32
+ticked-low w true k = rw (ticked-zero w k) (lit≤ tt)
+ticked-low w false k = rw (ticked-next w k) (omega arith)
+
+ticked-clock : (w : List ℕ) (t : Bool) → length w ≡ Layout.system .width → eqb (suc (getD w Layout.clockLow 0) % 2 ^ 32) 0 ≡ t → getD w Layout.clockLow 0 < 2 ^ 32 → getD w Layout.clockLow 0 + 2 ^ 32 * getD w Layout.clockHigh 0 < 2 ^ 48
+    → getD (ticked w t) Layout.clockLow 0 + 2 ^ 32 * getD (ticked w t) Layout.clockHigh 0 ≡ clockAfter (getD w Layout.clockLow 0 + 2 ^ 32 * getD w Layout.clockHigh 0)
+ticked-clock w true k e a b = (λ z. ticked-zero w k z + 2 ^ 32 * high z) ∙ clock-carry _ _ a b (eqb-true _ _ e)
+  where
+    high : getD (ticked w true) Layout.clockHigh 0 ≡ suc (getD w Layout.clockHigh 0) % 2 ^ 16
+    high = getD-set-same (set w Layout.clockLow 0) Layout.clockHigh _ 0 (rw (length-set w Layout.clockLow 0) (omega arith))
+ticked-clock w false k e a b = (λ z. ticked-next w k z + 2 ^ 32 * high z) ∙ clock-step _ _ a b (eqb-false _ _ e)
+  where
+    high : getD (ticked w false) Layout.clockHigh 0 ≡ getD w Layout.clockHigh 0
+    high = getD-set-other w Layout.clockLow Layout.clockHigh _ 0 (λ e. omega arith)
+
+record Clocked (c d : List ℕ) : Type 0 where
+  size : length d ≡ length c
+  only : Only (Layout.system ∷ []) c d
+  system : words Layout.system d ≡ ticked (words Layout.system c) (eqb (suc (entry Layout.system c Layout.clockLow) % 2 ^ 32) 0)
+
+clocked-law : (c : List ℕ) → Clocked c (clocked c)
+unfolding clocked
+clocked-law c = go (eqb (suc (entry Layout.system c Layout.clockLow) % 2 ^ 32) 0) refl
+  where
+    D : Bool → List ℕ
+    D t = cond t (Layout.put Layout.system Layout.clockHigh (suc (entry Layout.system c Layout.clockHigh) % 2 ^ 16) (Layout.put Layout.system Layout.clockLow 0 c)) (Layout.put Layout.system Layout.clockLow (suc (entry Layout.system c Layout.clockLow) % 2 ^ 32) c)
+
+    go : (t : Bool) → eqb (suc (entry Layout.system c Layout.clockLow) % 2 ^ 32) 0 ≡ t → Clocked c (D t)
+    go true e = record {
+      size = simp length-store;
+      only = only-on (put-only Layout.system Layout.clockLow 0 c) (put-only Layout.system Layout.clockHigh _ (Layout.put Layout.system Layout.clockLow 0 c));
+      system = rw e (simp col-store);
+    }
+    go false e = record { size = simp length-store; only = put-only Layout.system Layout.clockLow _ c; system = rw e (simp col-store) }
+
+-- ---- the tick
+
+module _ (b msgs : List ℕ) (A : Accepted b msgs) (F : LowClock b) where
+  few-tasks : entry Layout.system b Layout.tasks ≤ maxTasks
+  unfolding bodyShown
+  few-tasks = omega (arith, sizes b msgs A .tasks .1, length-ids (taskShown b) (entry Layout.system b Layout.tasks))
+
+  clock-range : entry Layout.system b Layout.clockLow + 2 ^ 32 * entry Layout.system b Layout.clockHigh < 2 ^ 48
+  unfolding bodyShown viewShown storeShown
+  clock-range = A .sound .body .store .clock
+
+  module _ (c d : List ℕ) (R : Aged (entry Layout.system b Layout.tasks) 1 b c) (K : Clocked c d) where
+    only : Only (touchable ++ (Layout.system ∷ [])) b d
+    only = only-both (R .only) (K .only)
+
+    w : words Layout.system c ≡ words Layout.system b
+    w = R .only .kept Layout.system refl
+
+    system : words Layout.system d ≡ ticked (words Layout.system b) (eqb (suc (entry Layout.system b Layout.clockLow) % 2 ^ 32) 0)
+    system = K .system ∙ ap (λ (l : List ℕ). ticked l (eqb (suc (getD l Layout.clockLow 0) % 2 ^ 32) 0)) w
+
+    counts : (i : ℕ) → i < Layout.clockLow → entry Layout.system d i ≡ entry Layout.system b i
+    counts i h = ap (λ (l : List ℕ). getD l i 0) system ∙ ticked-count (words Layout.system b) (eqb (suc (entry Layout.system b Layout.clockLow) % 2 ^ 32) 0) i h
+
+    shown : (j : ℕ) → In j (entry Layout.system b Layout.tasks) → taskShown d j ≡ olderTask (taskShown b j)
+    shown j h = kept-shown (K .only) refl j ∙ R .inside j (h .0) (omega (arith, h .1))
+
+    tasks : map (taskShown d) (ids (entry Layout.system d Layout.tasks)) ≡ map olderTask (map (taskShown b) (ids (entry Layout.system b Layout.tasks)))
+    tasks =
+        ap (λ (n : ℕ). map (taskShown d) (ids n)) (counts Layout.tasks (lit≤ tt))
+        ∙ map-ids (taskShown d) (λ j. olderTask (taskShown b j)) (entry Layout.system b Layout.tasks) shown
+        ∙ sym (map-map olderTask (taskShown b) (ids (entry Layout.system b Layout.tasks)))
+
+    wide : length (words Layout.system b) ≡ Layout.system .width
+    wide = words-length Layout.system b (A .whole .size) refl
+
+    clock : entry Layout.system d Layout.clockLow + 2 ^ 32 * entry Layout.system d Layout.clockHigh ≡ clockAfter (entry Layout.system b Layout.clockLow + 2 ^ 32 * entry Layout.system b Layout.clockHigh)
+    clock =
+        (λ z. getD (system z) Layout.clockLow 0 + 2 ^ 32 * getD (system z) Layout.clockHigh 0)
+        ∙ ticked-clock (words Layout.system b) _ wide refl F clock-range
+
+    body : bodyShown d msgs ≡ after elapse (bodyShown b msgs)
+    unfolding bodyShown storeShown after
+    body = λ z. record { tasks = tasks z; store = stores z }
+      where
+        stores : storeShown d msgs ≡ after elapse (bodyShown b msgs) .store
+        stores = store-kept b d msgs msgs only refl counts ∙ ap (λ (t : ℕ). with-clock t (storeShown b msgs)) clock
+
+    ticked-done : Done elapse b msgs d msgs
+    unfolding move
+    ticked-done = record {
+      size = K .size ∙ R .size;
+      many = A .whole .marks;
+      body = body;
+      tasks = rest;
+      mails = rest;
+      tasks-fine = tt;
+      mails-fine = tt;
+      next = K .only .kept Layout.next refl ∙ R .next;
+      prev = K .only .kept Layout.prev refl ∙ R .prev;
+      mail-next = only .kept Layout.mailNext refl;
+      mail-prev = only .kept Layout.mailPrev refl;
+      counts = counts;
+      low-half = λ _. subst (λ (l : List ℕ). getD l Layout.clockLow 0 < 2 ^ 32) (sym system) (ticked-low (words Layout.system b) (eqb (suc (entry Layout.system b Layout.clockLow) % 2 ^ 32) 0) wide);
+      lines = follows-stay _ _;
+    }
+
+  pub elapse-done : Done elapse b msgs (elapsed b) msgs
+  unfolding elapsed
+  elapse-done = rw (le-leb (entry Layout.system b Layout.tasks) maxTasks few-tasks) (ticked-done _ _ (aged-from (entry Layout.system b Layout.tasks) 1 b (A .whole .size) (omega (arith, few-tasks))) (clocked-law _))

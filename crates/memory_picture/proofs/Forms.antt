@@ -1,0 +1,132 @@
+-- Each sound view has an accepted form, of 32-bit words; the fresh view of every accepted setup among them. Assumes nothing.
+use mathlib.Core.List.{List, [], _∷_, reverse}
+use mathlib.Core.Logic.{inl, inr}
+use mathlib.Core.Option.{none}
+use mathlib.Core.Path.{_≡_, refl, sym, ap, _∙_, subst}
+use Prim.Native.Nat.{ℕ, zero, suc, _^_, _<_}
+use native.Mathlib.Nat.{zero-add}
+use native.Mathlib.Omega.{arith}
+use lib.Dec.{lit<, lit≤}
+use lib.ListN.{length, getD}
+use Rattle.rules.specs.Ids.{of, In}
+use Rattle.rules.specs.State.{Store, task, nobody, objects}
+use Rattle.rules.specs.Places.{Place, readyAt, waiters, mail, at, each, Lines, lineAt, Exists, tabulate}
+use Rattle.rules.specs.View.{View}
+use Rattle.rules.specs.Sound.{Shape, Sound}
+use Rattle.rules.proofs.Ids.{inside}
+use Rattle.rules.proofs.Lines.{tabulate-same}
+use Rattle.memory_columns.specs.Layout as Layout
+use Rattle.memory_columns.specs.Layout.{maxMessages}
+use Rattle.memory_columns.proofs.Tiling.{columns-tile}
+use Rattle.memory_rings.specs.Rings.{lineOf, Linked}
+use Rattle.memory_picture.specs.Picture.{storeShown, anchor, lineShown, viewShown, Whole, Accepted}
+use Rattle.memory_picture.specs.Form.{Fits32, maskOf, boxNumber, systemWords, entries, parts, formOf, marksOf}
+use Rattle.memory_picture.proofs.FormPile.{length-run, run-all, length-pile, pile-all, entries-all, table-is}
+use Rattle.memory_picture.proofs.FormWords.{mask-small, message-small, Small, task-small, nobody-small}
+use Rattle.memory_picture.proofs.FormBody.{marks, form, tasks-count, messages-count, low-clock, next-words, prev-words, mail-next-words, mail-prev-words, store-shown, body-shown}
+use Rattle.memory_picture.proofs.FormHomes.{tasks-linked, task-line, mails-linked, mail-line, line-small, back-small, task-link-small, mail-link-small}
+
+-- a table of lines is made from its lines
+pub tabulate-shape : (u : Store) (l : Lines) → Shape u l → tabulate u (lineAt l) ≡ l
+unfolding tabulate lineAt
+tabulate-shape u l h = λ z. record {
+  ready = table-is (l .ready) (u .priorities) (λ p. of (l .ready) p []) [] (sym (h .ready)) (λ p r. refl) z;
+  waiting = each (λ k. table-is (at (l .waiting) k) (objects u k) (λ o. of (at (l .waiting) k) o []) [] (sym (h .waiting k)) (λ o r. refl) z);
+  mail = table-is (l .mail) (u .mailboxes) (λ m. of (l .mail) m []) [] (sym (h .mail)) (λ m r. refl) z;
+}
+
+-- ---- 32-bit words
+
+infixr 20 _also_
+abbrev _also_ : {A B : Type 0} → A → B → A × B
+a also b = (a, b)
+
+-- the entry of any id, if that of each id that there is and the default are small
+entries-small : {A : Type 0} (f : A → ℕ) (l : List A) (d : A) → f d < 2 ^ 32 → ((i : ℕ) → In i (length l) → f (of l i d) < 2 ^ 32) → (i : ℕ) → f (of l i d) < 2 ^ 32
+entries-small f l d z h i = elim (inside l i d) [ inl r ↦ h i r | inr e ↦ rw e z ]
+
+word-small : (l : List ℕ) → Fits32 l → (k : ℕ) → getD l k 0 < 2 ^ 32
+word-small [] h k = lit< tt
+word-small (x ∷ l) h zero = h .0
+word-small (x ∷ l) h (suc k) = word-small l (h .1) k
+
+-- the ids of the rings, counted otherwise
+recount : (n m : ℕ) (U : ℕ → Type 0) (nx pv : List ℕ) → n ≡ m → Linked n U nx pv (lineOf n nx) → Linked m U nx pv (lineOf m nx)
+recount n m U nx pv e L = subst (λ (k : ℕ). Linked k U nx pv (lineOf k nx)) e L
+
+-- ---- a sound view
+
+module _ (v : View) (S : Sound v) where
+  abbrev lines : Place → List ℕ
+  lines = lineAt (v .lines)
+
+  -- ---- the view
+
+  line-shown : (q : Place) → Exists (v .body .store) q → lineShown (form (v .body) lines) q ≡ lines q
+  unfolding lineShown
+  line-shown (readyAt p) e = (λ z. lineOf (tasks-count (v .body) lines z) (next-words (v .body) lines z) (anchor (readyAt p))) ∙ task-line v S (readyAt p) e
+  line-shown (waiters k o) e = (λ z. lineOf (tasks-count (v .body) lines z) (next-words (v .body) lines z) (anchor (waiters k o))) ∙ task-line v S (waiters k o) e
+  line-shown (mail m) e = (λ z. lineOf (messages-count (v .body) lines z) (mail-next-words (v .body) lines z) (anchor (mail m))) ∙ mail-line v S (mail m) e
+
+  pub form-shows : viewShown (formOf v) (marksOf v) ≡ v
+  unfolding formOf marksOf viewShown
+  form-shows = λ z. record { body = body-shown (v .body) lines (S .body) z; lines = lines-shown z }
+    where
+      lines-shown : tabulate (storeShown (form (v .body) lines) (marks (v .body))) (lineShown (form (v .body) lines)) ≡ v .lines
+      lines-shown =
+          ap (λ (u : Store). tabulate u (lineShown (form (v .body) lines))) (store-shown (v .body) lines (S .body))
+          ∙ tabulate-same (v .body .store) (lineShown (form (v .body) lines)) lines line-shown
+          ∙ tabulate-shape (v .body .store) (v .lines) (S .shape)
+
+  -- ---- whole
+
+  pub form-whole : Whole (formOf v) (marksOf v)
+  unfolding formOf marksOf
+  form-whole = record {
+    size = rw zero-add at (length-pile (entries (parts (v .body) lines)) 0 Layout.columns Layout.stateWords columns-tile);
+    marks = length-run maxMessages _;
+    low = rw (low-clock (v .body) lines) (omega arith);
+    tasks = rw (store-shown (v .body) lines (S .body), next-words (v .body) lines, prev-words (v .body) lines) (recount _ _ _ _ _ (sym (tasks-count (v .body) lines)) (tasks-linked v S));
+    mails = rw (store-shown (v .body) lines (S .body), mail-next-words (v .body) lines, mail-prev-words (v .body) lines) (recount _ _ _ _ _ (sym (messages-count (v .body) lines)) (mails-linked v S));
+  }
+
+  pub form-accepted : Accepted (formOf v) (marksOf v)
+  form-accepted = record { whole = form-whole; sound = rw form-shows S }
+
+  -- ---- its words
+
+  small : (i : ℕ) → Small (task (v .body) i)
+  small i = elim (inside (v .body .tasks) i nobody) [
+    | inl r ↦ task-small (v .body) (S .body .sizes) (task (v .body) i) (S .body .tasks i r)
+    | inr e ↦ rw e nobody-small
+  ]
+
+  system-small : Fits32 (systemWords (v .body))
+  system-small =
+      let z = S .body .sizes in
+      let c = S .body .store .clock in
+      omega (arith, z .priorities .1) also omega (arith, z .tasks .1) also omega (arith, z .semaphores) also omega (arith, z .flags) also omega (arith, z .mailboxes)
+      also omega (arith, z .pools) also omega (arith, z .messages) also omega arith also omega (arith, c) also tt
+
+  pub form-fits : Fits32 (formOf v)
+  unfolding formOf
+  form-fits = pile-all (entries (parts (v .body) lines)) (λ x. x < 2 ^ 32) Layout.columns (entries-all (λ x. x < 2 ^ 32) (lit< tt) (parts (v .body) lines)
+      ((λ i r. small i .status) also (λ i r. small i .priority) also (λ i r. small i .start) also (λ i r. small i .wakeups)
+      also (λ i r. small i .code) also (λ i r. small i .word)
+      also (λ i r. small i .wait .kind) also (λ i r. small i .wait .object) also (λ i r. small i .wait .wish) also (λ i r. small i .wait .mode) also (λ i r. small i .wait .ticks)
+      also task-link-small v S lines (line-small v S) also task-link-small v S (λ q. reverse (lines q)) (back-small v S)
+      also (λ i r. entries-small (λ n. n) (v .body .store .semaphores) 0 (lit< tt) (λ s e. omega (arith, S .body .store .semaphores s e)) i)
+      also (λ i r. entries-small (λ n. n) (v .body .store .flags) 0 (lit< tt) (S .body .store .flags) i)
+      also (λ i r. entries-small maskOf (v .body .store .pools) [] (mask-small [] (lit≤ tt)) (λ p e. mask-small (of (v .body .store .pools) p []) (S .body .store .pools p e .1)) i)
+      also (λ i r. entries-small length (v .body .store .pools) [] (lit< tt) (λ p e. omega (arith, S .body .store .pools p e .1)) i)
+      also mail-link-small v S lines (line-small v S) also mail-link-small v S (λ q. reverse (lines q)) (back-small v S)
+      also (λ k r. word-small (systemWords (v .body)) system-small k) also tt))
+
+  pub marks-fit : Fits32 (marksOf v)
+  unfolding marksOf
+  marks-fit = run-all (λ x. x < 2 ^ 32) maxMessages _ (λ j r. entries-small boxNumber (v .body .store .messages) none (lit< tt)
+      (λ i e. message-small (v .body .store .mailboxes) (of (v .body .store .messages) i none) (S .body .sizes .mailboxes) (S .body .store .messages i e)) (suc j))
+
+-- THE THEOREM
+pub every-view : (v : View) → Sound v → (b : List ℕ) × (msgs : List ℕ) × Accepted b msgs × (viewShown b msgs ≡ v) × Fits32 b × Fits32 msgs
+every-view v S = (formOf v, marksOf v, form-accepted v S, form-shows v S, form-fits v S, marks-fit v S)

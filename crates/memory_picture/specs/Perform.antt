@@ -1,0 +1,104 @@
+-- The acts of the rules, done on the memory.
+use mathlib.Core.Bool.{true, false}
+use mathlib.Core.List.{List, []}
+use mathlib.Core.Option.{none, some}
+use mathlib.Core.Path.{_≡_}
+use Prim.Native.Nat.{ℕ}
+use lib.ListN.{length}
+use Rattle.rules.specs.Ids.{of, put, In}
+use Rattle.rules.specs.Codes.{Code, OK, WAITS, H-STATE, H-CALL, H-PAR, E-NOEXS, E-TPRI, E-ILTIME, E-CTX, E-SELF, E-DMT, H-NODMT, H-SUS, E-NOSUS, E-NOWAI, E-QOVR, H-POLL, H-MSG, H-ILBLK, E-TMOUT, E-RLWAI}
+use Rattle.rules.specs.State.{Wait, asleep, timed, on, Body, task, isReady}
+use Rattle.rules.specs.Acts.{Act, start, retire, rotate, regrade, wait, release, suspend, resume, wakeups, count, pattern, post, receive, mark, elapse}
+use Rattle.rules.specs.Objects.{laid}
+use Rattle.rules.specs.Sound.{WaitNumbers}
+use Rattle.memory_columns.specs.Layout as Layout
+use Rattle.memory_queues.specs.Moves.{mailAnchor, mailed, unmailed}
+use Rattle.memory_tasks.specs.Moves.{rotated, started, retired, regraded, halted, resumed, released, slept, waited}
+use Rattle.memory_objects.specs.Moves.{marked, elapsed}
+use Rattle.memory_picture.specs.Picture.{codeOf, kindNumber}
+
+-- the number by which a cell keeps a code; no cell keeps any other
+abbrev pub codeKept : Code → ℕ
+codeKept OK = 0
+codeKept E-TMOUT = 1
+codeKept E-RLWAI = 2
+codeKept WAITS = 3
+codeKept H-STATE = 3
+codeKept H-CALL = 3
+codeKept H-PAR = 3
+codeKept E-NOEXS = 3
+codeKept E-TPRI = 3
+codeKept E-ILTIME = 3
+codeKept E-CTX = 3
+codeKept E-SELF = 3
+codeKept E-DMT = 3
+codeKept H-NODMT = 3
+codeKept H-SUS = 3
+codeKept E-NOSUS = 3
+codeKept E-NOWAI = 3
+codeKept E-QOVR = 3
+codeKept H-POLL = 3
+codeKept H-MSG = 3
+codeKept H-ILBLK = 3
+
+-- task i put into a wait
+unfoldable pub put-to-wait : ℕ → Wait → List ℕ → List ℕ
+put-to-wait i asleep b = slept i 0 0 b
+put-to-wait i (timed t) b = slept i 1 t b
+put-to-wait i (on k o p m) b = waited i (kindNumber k) o p m b
+
+-- the words after an act
+unfoldable pub performed : Act → List ℕ → List ℕ
+performed (start i) b = started i b
+performed (retire i) b = retired i b
+performed (rotate i) b = rotated i b
+performed (regrade i p) b = regraded i p b
+performed (wait i w) b = put-to-wait i w b
+performed (release i c w) b = released i (codeKept c) w b
+performed (suspend i) b = halted i b
+performed (resume i) b = resumed i b
+performed (wakeups i n) b = Layout.put Layout.wakeups i n b
+performed (count s n) b = Layout.put Layout.semaphore s n b
+performed (pattern f n) b = Layout.put Layout.flag f n b
+performed (post j m) b = mailed (mailAnchor m) j b
+performed (receive j) b = unmailed j b
+performed (mark p k t) b = marked p k t b
+performed elapse b = elapsed b
+
+-- the marks of the messages after an act
+unfoldable pub performedMarks : Act → List ℕ → List ℕ
+performedMarks (start i) m = m
+performedMarks (retire i) m = m
+performedMarks (rotate i) m = m
+performedMarks (regrade i p) m = m
+performedMarks (wait i w) m = m
+performedMarks (release i c w) m = m
+performedMarks (suspend i) m = m
+performedMarks (resume i) m = m
+performedMarks (wakeups i n) m = m
+performedMarks (count s n) m = m
+performedMarks (pattern f n) m = m
+performedMarks (post j b) m = put m j b
+performedMarks (receive j) m = put m j 0
+performedMarks (mark p k t) m = m
+performedMarks elapse m = m
+
+-- what an act names is there
+abbrev pub Fit : Body → Act → Type 0
+Fit b (start i) = In i (length (b .tasks))
+Fit b (retire i) = In i (length (b .tasks))
+-- only a ready task is moved in a ready queue
+Fit b (rotate i) = In i (length (b .tasks)) × (isReady (task b i .state) ≡ true)
+Fit b (regrade i p) = In i (length (b .tasks)) × In p (b .store .priorities)
+Fit b (wait i w) = In i (length (b .tasks)) × WaitNumbers (b .store) (some w)
+Fit b (release i c w) = In i (length (b .tasks)) × (codeOf (codeKept c) ≡ c)
+Fit b (suspend i) = In i (length (b .tasks))
+Fit b (resume i) = In i (length (b .tasks))
+Fit b (wakeups i n) = In i (length (b .tasks))
+Fit b (count s n) = In s (length (b .store .semaphores))
+Fit b (pattern f n) = In f (length (b .store .flags))
+-- a message that is laid lies nowhere yet
+Fit b (post j m) = In j (length (b .store .messages)) × In m (b .store .mailboxes) × (laid (of (b .store .messages) j none) ≡ false)
+Fit b (receive j) = In j (length (b .store .messages))
+Fit b (mark p k t) = In p (length (b .store .pools)) × In k (length (of (b .store .pools) p []))
+Fit b elapse = Unit {0}

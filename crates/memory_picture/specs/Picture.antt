@@ -1,0 +1,136 @@
+-- What any memory shows (the paper's picture), as a total function: the body from the columns, the lines by bounded walks along the links.
+-- A word that is no code, status, kind or mask shows what no sound state has.
+use mathlib.Core.Bool.{Bool, cond}
+use mathlib.Core.List.{List, [], _∷_, map}
+use mathlib.Core.Option.{Option, none, some}
+use mathlib.Core.Path.{_≡_}
+use Prim.Native.Nat.{ℕ, zero, suc, _+_, _*_, _/_, _%_, _^_, _<_}
+use lib.Dec.{eqb}
+use lib.ListN.{length}
+use Rattle.rules.specs.Ids.{of, ids}
+use Rattle.rules.specs.Codes.{Code, OK, H-STATE, E-TMOUT, E-RLWAI}
+use Rattle.rules.specs.State.{Kind, semaphore, flag, mailbox, pool, Wait, asleep, timed, on, State, dormant, ready, suspended, waiting, waiting-suspended, Task, Store, Body}
+use Rattle.rules.specs.Places.{Place, readyAt, waiters, mail, Exists, tabulate}
+use Rattle.rules.specs.View.{View}
+use Rattle.rules.specs.Sound.{Sound}
+use Rattle.memory_rings.specs.Rings.{lineOf, Linked}
+use Rattle.memory_columns.specs.Layout as Layout
+use Rattle.memory_columns.specs.Layout.{stateWords, maxMessages, readyNode, waitNode, mailNode, words, entry}
+
+-- ---- tasks
+
+unfoldable pub codeOf : ℕ → Code
+codeOf c = cond (eqb c 0) OK (cond (eqb c 1) E-TMOUT (cond (eqb c 2) E-RLWAI H-STATE))
+
+-- no sound wait has 0 ticks left
+abbrev pub noWait : Wait
+noWait = timed 0
+
+-- pattern and mode are a flag wait's alone, ticks a timed wait's
+unfoldable pub waitShown : ℕ → ℕ → ℕ → ℕ → ℕ → Wait
+waitShown k o p m t =
+    cond (eqb k 0) asleep (cond (eqb k 1) (timed t) (cond (eqb k 2) (on semaphore o 0 0) (cond (eqb k 3) (on flag o p m)
+    (cond (eqb k 4) (on mailbox o 0 0) (cond (eqb k 5) (on pool o 0 0) noWait)))))
+
+unfoldable pub stateShown : ℕ → Wait → State
+stateShown s w = cond (eqb s 0) dormant (cond (eqb s 1) ready (cond (eqb s 3) (waiting w) (cond (eqb s 4) suspended (cond (eqb s 5) (waiting-suspended w) (waiting noWait)))))
+
+unfoldable pub taskShown : List ℕ → ℕ → Task
+taskShown b i = record {
+  state = stateShown (entry Layout.status b i) (waitShown (entry Layout.kind b i) (entry Layout.object b i) (entry Layout.wish b i) (entry Layout.mode b i) (entry Layout.ticks b i));
+  priority = entry Layout.priority b i;
+  start = entry Layout.start b i;
+  wakeups = entry Layout.wakeups b i;
+  cell = record { code = codeOf (entry Layout.code b i); word = entry Layout.word b i };
+}
+
+-- ---- objects
+
+-- 0 is no mailbox
+abbrev pub messageShown : ℕ → Option ℕ
+messageShown m = cond (eqb m 0) none (some m)
+
+-- the k lowest bits of a mask
+unfoldable pub bitsOf : ℕ → ℕ → List Bool
+bitsOf zero m = []
+bitsOf (suc k) m = eqb (m % 2) 1 ∷ bitsOf k (m / 2)
+
+-- a pool of k blocks; a mask with more bits shows a pool with none, which no sound state has
+unfoldable pub poolShown : ℕ → ℕ → List Bool
+poolShown k m = cond (eqb (m / 2 ^ k) 0) (bitsOf k m) []
+
+-- how many tasks and messages there are: the ids of the rings. What stands at a number above them is no part of the picture.
+abbrev pub tasksShown : List ℕ → ℕ
+tasksShown b = entry Layout.system b Layout.tasks
+
+abbrev pub messagesShown : List ℕ → ℕ
+messagesShown b = entry Layout.system b Layout.messages
+
+-- ticks since the start, in two halves
+abbrev pub clockShown : List ℕ → ℕ
+clockShown b = entry Layout.system b Layout.clockLow + 2 ^ 32 * entry Layout.system b Layout.clockHigh
+
+unfoldable pub storeShown : List ℕ → List ℕ → Store
+storeShown b msgs = record {
+  priorities = entry Layout.system b Layout.priorities;
+  semaphores = map (entry Layout.semaphore b) (ids (entry Layout.system b Layout.semaphores));
+  flags = map (entry Layout.flag b) (ids (entry Layout.system b Layout.flags));
+  mailboxes = entry Layout.system b Layout.mailboxes;
+  messages = map (λ j. messageShown (of msgs j 0)) (ids (messagesShown b));
+  pools = map (λ p. poolShown (entry Layout.size b p) (entry Layout.free b p)) (ids (entry Layout.system b Layout.pools));
+  clock = clockShown b;
+}
+
+unfoldable pub bodyShown : List ℕ → List ℕ → Body
+bodyShown b msgs = record { tasks = map (taskShown b) (ids (tasksShown b)); store = storeShown b msgs }
+
+-- ---- queues
+
+-- the number of a kind of object, as the memory keeps it: of their count, too
+abbrev pub kindNumber : Kind → ℕ
+kindNumber semaphore = Layout.semaphores
+kindNumber flag = Layout.flags
+kindNumber mailbox = Layout.mailboxes
+kindNumber pool = Layout.pools
+
+-- the anchor of a queue, among the rings of tasks or of messages
+unfoldable pub anchor : Place → ℕ
+anchor (readyAt p) = readyNode p
+anchor (waiters k o) = waitNode (kindNumber k) o
+anchor (mail m) = mailNode m
+
+unfoldable pub lineShown : List ℕ → Place → List ℕ
+lineShown b (readyAt p) = lineOf (tasksShown b) (words Layout.next b) (anchor (readyAt p))
+lineShown b (waiters k o) = lineOf (tasksShown b) (words Layout.next b) (anchor (waiters k o))
+lineShown b (mail m) = lineOf (messagesShown b) (words Layout.mailNext b) (anchor (mail m))
+
+unfoldable pub viewShown : List ℕ → List ℕ → View
+viewShown b msgs = record { body = bodyShown b msgs; lines = tabulate (storeShown b msgs) (lineShown b) }
+
+-- ---- whole links
+
+-- an anchor that is in use, of tasks' queues or of mailboxes
+pub data UsedByTasks (u : Store) : ℕ → Type 0 where
+  ready-queue : (p : ℕ) → Exists u (readyAt p) → UsedByTasks u (anchor (readyAt p))
+  wait-queue : (k : Kind) (o : ℕ) → Exists u (waiters k o) → UsedByTasks u (anchor (waiters k o))
+
+pub data UsedByMail (u : Store) : ℕ → Type 0 where
+  mailbox-queue : (m : ℕ) → Exists u (mail m) → UsedByMail u (anchor (mail m))
+
+-- the memory has its size, the clock's low half is a word, and the links are rings, forwards and backwards
+pub record Whole (b msgs : List ℕ) : Type 0 where
+  pub size : length b ≡ stateWords
+  pub marks : length msgs ≡ maxMessages
+  pub low : entry Layout.system b Layout.clockLow < 2 ^ 32
+  pub tasks : Linked (tasksShown b) (UsedByTasks (storeShown b msgs)) (words Layout.next b) (words Layout.prev b) (lineOf (tasksShown b) (words Layout.next b))
+  pub mails : Linked (messagesShown b) (UsedByMail (storeShown b msgs)) (words Layout.mailNext b) (words Layout.mailPrev b) (lineOf (messagesShown b) (words Layout.mailNext b))
+
+-- the memory shows the view
+pub record Shows (b msgs : List ℕ) (v : View) : Type 0 where
+  pub whole : Whole b msgs
+  pub view : viewShown b msgs ≡ v
+
+-- the links are whole and the view shown is sound
+pub record Accepted (b msgs : List ℕ) : Type 0 where
+  pub whole : Whole b msgs
+  pub sound : Sound (viewShown b msgs)

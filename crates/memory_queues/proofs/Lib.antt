@@ -1,0 +1,3 @@
+-- Laws of the queues.
+pub mod Parts
+pub mod Relinks

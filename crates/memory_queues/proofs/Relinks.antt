@@ -1,0 +1,88 @@
+-- What a move of a task or a message makes of each column. Assumes nothing.
+use mathlib.Core.Bool.{Bool, true, false, cond}
+use mathlib.Core.List.{List, [], _∷_}
+use mathlib.Core.Path.{_≡_, refl, _∙_, subst}
+use Prim.Native.Nat.{ℕ, _+_, _≤_, _<_}
+use native.Mathlib.Nat.{add-zero}
+use native.Mathlib.Omega.{arith}
+use lib.Dec.{leb}
+use lib.ListN.{length, getD, set}
+use lib.Seq.{getD-set-same}
+use borrow.Author.Tests.{leb-true}
+use Rattle.memory_rings.specs.Columns.{col, splice}
+use Rattle.memory_rings.specs.Links.{pushNext, pushPrev, leftNext, leftPrev, half, nexts, prevs, pushed, left, cleared}
+use Rattle.memory_rings.proofs.Columns.{length-col, col-splice-inside}
+use Rattle.memory_rings.proofs.Halves.{nexts-pushed, prevs-pushed, length-pushed, nexts-left, prevs-left, length-left, nexts-cleared, prevs-cleared, length-cleared}
+use Rattle.memory_columns.specs.Layout.{Column, stateWords, fits, back, both, next, prev, mailNext, mailPrev, words, Only}
+use Rattle.memory_columns.proofs.Frame.{Sized, fits-in, words-length, nexts-both, prevs-both, splice-size, splice-only}
+use Rattle.memory_queues.specs.Moves.{queued, unqueued, clearedQueue, mailed, unmailed, clearedMail}
+
+-- ---- rings: the links forth in column n, and the links back behind them, are others
+
+pub record Relinked (n : Column) (b c nx pv : List ℕ) : Type 0 where
+  pub size : Sized c
+  pub only : Only (both n ∷ []) b c
+  pub next : words n c ≡ nx
+  pub prev : words (back n) c ≡ pv
+
+module _ (b : List ℕ) (size : Sized b) where
+  module _ (n : Column) (k : fits (both n) ≡ true) where
+    relinked : (l : List ℕ) → length l ≡ both n .width → Relinked n b (splice (n .at) l b) (nexts l) (prevs l)
+    unfolding nexts prevs
+    relinked l e = record {
+      size = splice-size (both n) l b size k e;
+      only = splice-only (both n) l b size k e;
+      next = rw halved (subst (λ (j : ℕ). col j (n .width) (splice (n .at) l b) ≡ col 0 (n .width) l) (add-zero (n .at)) (col-splice-inside (n .at) l b room 0 (n .width) (omega arith)));
+      prev = rw halved (col-splice-inside (n .at) l b room (n .width) (n .width) (omega arith));
+    }
+      where
+        room : n .at + length l ≤ length b
+        room = rw e (fits-in (both n) b size k)
+
+        halved : half l ≡ n .width
+        halved = omega arith
+
+    long : length (words (both n) b) ≡ both n .width
+    long = words-length (both n) b size k
+
+    push : (a t : ℕ) → Relinked n b (splice (n .at) (pushed a t (words (both n) b)) b) (pushNext (words n b) (words (back n) b) a t) (pushPrev (words (back n) b) a t)
+    push a t = rw (← nexts-both n b size k, ← prevs-both n b size k, ← nexts-pushed, ← prevs-pushed) (relinked (pushed a t (words (both n) b)) (length-pushed a t (words (both n) b) ∙ long))
+
+    take-out : (t : ℕ) → Relinked n b (splice (n .at) (left t (words (both n) b)) b) (leftNext (words n b) (words (back n) b) t) (leftPrev (words n b) (words (back n) b) t)
+    take-out t = rw (← nexts-both n b size k, ← prevs-both n b size k, ← nexts-left, ← prevs-left) (relinked (left t (words (both n) b)) (length-left t (words (both n) b) ∙ long))
+
+    clear : (a : ℕ) → Relinked n b (splice (n .at) (cleared a (words (both n) b)) b) (set (words n b) a a) (set (words (back n) b) a a)
+    clear a = rw (← nexts-both n b size k, ← prevs-both n b size k, ← nexts-cleared, ← prevs-cleared) (relinked (cleared a (words (both n) b)) (length-cleared a (words (both n) b) ∙ long))
+
+  -- the rings of tasks, and those of messages
+  pub queued-law : (a t : ℕ) → Relinked next b (queued a t b) (pushNext (words next b) (words prev b) a t) (pushPrev (words prev b) a t)
+  unfolding queued
+  queued-law = push next refl
+
+  pub unqueued-law : (t : ℕ) → Relinked next b (unqueued t b) (leftNext (words next b) (words prev b) t) (leftPrev (words next b) (words prev b) t)
+  unfolding unqueued
+  unqueued-law = take-out next refl
+
+  pub cleared-queue-law : (a : ℕ) → Relinked next b (clearedQueue a b) (set (words next b) a a) (set (words prev b) a a)
+  unfolding clearedQueue
+  cleared-queue-law = clear next refl
+
+  pub mailed-law : (a j : ℕ) → Relinked mailNext b (mailed a j b) (pushNext (words mailNext b) (words mailPrev b) a j) (pushPrev (words mailPrev b) a j)
+  unfolding mailed
+  mailed-law = push mailNext refl
+
+  pub unmailed-law : (j : ℕ) → Relinked mailNext b (unmailed j b) (leftNext (words mailNext b) (words mailPrev b) j) (leftPrev (words mailNext b) (words mailPrev b) j)
+  unfolding unmailed
+  unmailed-law = take-out mailNext refl
+
+  pub cleared-mail-law : (a : ℕ) → Relinked mailNext b (clearedMail a b) (set (words mailNext b) a a) (set (words mailPrev b) a a)
+  unfolding clearedMail
+  cleared-mail-law = clear mailNext refl
+
+  -- a word that was just written: with numerals for p and q it computes
+  pub put-at : (p q i v : ℕ) → i < q → getD (set (col p q b) i v) i 0 ≡ cond (leb (p + q) stateWords) v (getD (set (col p q b) i v) i 0)
+  put-at p q i v h = go (leb (p + q) stateWords) refl
+    where
+      go : (t : Bool) → leb (p + q) stateWords ≡ t → getD (set (col p q b) i v) i 0 ≡ cond t v (getD (set (col p q b) i v) i 0)
+      go true e = getD-set-same (col p q b) i v 0 (rw (length-col p q b (rw size (leb-true _ _ e))) h)
+      go false e = refl

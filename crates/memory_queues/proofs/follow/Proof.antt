@@ -1,0 +1,20 @@
+-- `follow`: over the part of the memory that has the rings. Assumes nothing.
+use mathlib.Core.List.{List}
+use mathlib.Core.Path.{_∙_, ap}
+use Prim.Native.Nat.{ℕ}
+use lib.ListN.{getD}
+use borrow.Author.Needs.{needs}
+use Rattle.memory_queues.proofs.follow.Statement.{statement}
+use Rattle.memory_queues.proofs.follow.Tie as tie
+
+links-requires : tie.Need-links-requires
+links-requires c κs = search needs
+
+follow-requires : tie.Need-follow-requires
+follow-requires c κs = search needs
+
+returns : tie.Need-returns
+returns c = c .follow .ensures ∙ ap (λ (l : List ℕ). getD l (c .before .before .args .x) 0) (c .before .links .ensures .1)
+
+pub follow-spec : {M : Type 1} → statement M
+follow-spec = tie.close (tie.spec links-requires follow-requires returns)

@@ -1,0 +1,2 @@
+-- What the functions on queues write.
+pub mod Moves

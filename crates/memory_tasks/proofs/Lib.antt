@@ -1,0 +1,2 @@
+-- Laws of the acts on tasks.
+pub mod Steps

@@ -1,0 +1,28 @@
+use borrow.Author.Tests.{eq-eqb, ne-eqb}
+use borrow.Author.Needs.{needs}
+use Rattle.memory_tasks.specs.Moves.{regraded}
+use Rattle.memory_tasks.proofs.regrade.Statement.{statement}
+use Rattle.memory_tasks.proofs.regrade.Tie as tie
+
+status-requires : tie.Need-status-requires
+status-requires c κs = search needs
+
+set-priority-requires : tie.Need-set-priority-requires
+set-priority-requires c κs = search needs
+
+rotate-requires : tie.Need-rotate-requires
+rotate-requires c κs = search needs
+
+returns : tie.Need-returns
+unfolding regraded
+returns c =
+    let i = c .before .before in
+    simp (← i .before .before .before .status .ensures, eq-eqb _ _ (i .if1 .taken)) (cc)
+
+returns-2 : tie.Need-returns-2
+unfolding regraded
+returns-2 c = simp (← c .before .before .before .status .ensures, ne-eqb _ _ (c .if1 .left)) (c .before .set-priority .ensures)
+
+pub regrade-spec : {M : Type 1} → statement M
+regrade-spec =
+    tie.close (tie.spec status-requires set-priority-requires rotate-requires returns returns-2)

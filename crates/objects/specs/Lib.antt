@@ -1,6 +1,0 @@
--- What the calls on objects do.
-pub mod Objects
-pub mod Blocks
-pub mod Flags
-pub mod Serving
-pub mod Messages

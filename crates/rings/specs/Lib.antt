@@ -1,4 +1,0 @@
-pub mod Columns
-pub mod Links
-pub mod Rings
-pub mod Survey

@@ -1,0 +1,27 @@
+-- The worked examples hold on both kernels, damaged states are refused, and setups are read as the table says, by computation.
+-- Assumes nothing.
+use mathlib.Core.List.{[], _∷_, map}
+use mathlib.Core.Path.{_≡_, refl}
+use lib.IntN.{ℤ, pos}
+use Rattle.rules.specs.Codes.{minus}
+use Rattle.rules.specs.Events.{Event}
+use Rattle.rules_examples.specs.BenchSheet.{get-tid, X, ran, plainRan, expected, Holds}
+use Rattle.rules_examples.specs.Examples.{examples, damages, repairs, touched, unchanged, readings, read}
+
+pub examples-hold : Holds examples
+unfolding ran plainRan expected
+examples-hold = (refl, refl)
+
+-- any event, and the cell of any task: H_STATE, words 0, the running task given as 0, 0 released, the state unchanged
+pub damage-refused : (e : Event) (a : ℤ) → touched damages e a ≡ unchanged damages (minus 9 ∷ pos 0 ∷ pos 0 ∷ pos 0 ∷ pos 0 ∷ []) (minus 9)
+unfolding touched unchanged
+damage-refused e a = refl
+
+-- get_tid is served: w1 the running task, 1
+pub repair-served : touched repairs (X get-tid 0 0 0) (pos 1) ≡ unchanged repairs (pos 0 ∷ pos 1 ∷ pos 0 ∷ pos 1 ∷ pos 0 ∷ []) (pos 0)
+unfolding touched unchanged
+repair-served = refl
+
+pub readings-hold : read readings ≡ map (λ r. r .gives) readings
+unfolding read
+readings-hold = refl

@@ -1,0 +1,3 @@
+-- The worked cases hold.
+pub mod BenchSheet
+pub mod Examples

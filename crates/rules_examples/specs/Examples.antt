@@ -1,0 +1,723 @@
+-- Worked examples: every call in use and every code that a run can give; damaged states; setups that are refused.
+use mathlib.Core.Bool.{cond}
+use mathlib.Core.List.{List, [], _∷_, _++_, map}
+use mathlib.Core.Option.{none, some}
+use Prim.Native.Nat.{ℕ, _-_, _/_, _%_, _^_}
+use lib.IntN.{ℤ, pos}
+use lib.ListN.{replicate}
+use Rattle.rules.specs.Ids.{put}
+use Rattle.rules.specs.Codes.{H-POLL, E-RLWAI, minus, number}
+use Rattle.rules.specs.Setup.{Fault, S1, S2, S3, S4, Read, got, refused, and-then, setup}
+use Rattle.rules.specs.Events.{Event, tick, call}
+use Rattle.rules.specs.State.{Kind, semaphore, flag, mailbox, pool, asleep, timed, on, State, suspended, waiting, Body}
+use Rattle.rules.specs.Places.{sameKind, at, each}
+use Rattle.rules.specs.Acts.{with-state, with-priority, with-wakeups, with-cell, with-semaphores, with-messages, with-store, change}
+use Rattle.rules.specs.View.{View}
+use Rattle.rules.specs.Answers.{numbers}
+use Rattle.rules.specs.Kernel.{fresh, event, cell}
+use Rattle.rules.specs.Runs.{answers}
+use Rattle.rules_examples.specs.BenchSheet.{step, sta-tsk, ext-tsk, ter-tsk, chg-pri, rot-rdq, rel-wai, sus-tsk, rsm-tsk, slp-tsk, wai-tsk, wup-tsk, can-wup, sig-sem, wai-sem, preq-sem, set-flg, clr-flg, wai-flg, pol-flg, snd-msg, rcv-msg, prcv-msg, get-blk, pget-blk, rel-blk, get-tid, tsk-sts, sem-sts, flg-sts, mbx-sts, mpl-sts, get-tim, X, H, X±, H±, case, Sheet, at-clock, benchBytes}
+
+-- a word as four bytes, least significant first
+abbrev pub bytes : List ℕ → List ℕ
+bytes [] = []
+bytes (w ∷ l) = w % 256 ∷ w / 256 % 256 ∷ w / 65536 % 256 ∷ w / 16777216 ∷ bytes l
+
+-- ---- the calls and the codes
+
+-- Priorities 1 to 4. Tasks 1, 2 and 5 start at priority 2, task 4 at 3; task 3, of priority 1, is not started. Semaphores 0, 1, 65535;
+-- flags 0 and 5; two mailboxes, three messages; pools of two blocks and one.
+abbrev pub exampleBytes : List ℕ
+exampleBytes = bytes (4 ∷ 5 ∷ 2 ∷ 1 ∷ 2 ∷ 1 ∷ 1 ∷ 0 ∷ 3 ∷ 1 ∷ 2 ∷ 1 ∷ 3 ∷ 0 ∷ 1 ∷ 65535 ∷ 2 ∷ 0 ∷ 5 ∷ 2 ∷ 3 ∷ 2 ∷ 2 ∷ 1 ∷ [])
+
+-- Each case has the paper's words above it.
+abbrev pub examples : Sheet
+examples = record {
+  bytes = exampleBytes;
+  cases =
+      -- 1 sta_tsk(a): ready at its starting priority. The running task is the head of the nonempty ready queue with the smallest priority
+      -- number: task 3 preempts task 1, which keeps the head of its queue and runs again before its peers 2 and 5.
+      case 0 1
+      (step (X sta-tsk 3 0 0) (pos 0) 0 0 3 0
+      ∷ step (X tsk-sts 3 0 0) (pos 0) 2 1 3 0
+      ∷ step (X tsk-sts 1 0 0) (pos 0) 1 2 3 0
+      ∷ step (X slp-tsk 0 0 0) (pos 1) 0 0 1 0
+      ∷ step (X tsk-sts 3 0 0) (pos 0) 3 1 1 0
+      ∷ [])
+      3 (pos 0) 0
+      -- H_NODMT: sta_tsk on a task not dormant. E_NOEXS: id outside 1..count.
+      ∷ case 0 1
+      (step (X sta-tsk 2 0 0) (minus 3) 0 0 1 0
+      ∷ step (X sta-tsk 0 0 0) (minus 2100) 0 0 1 0
+      ∷ step (H sta-tsk 6 0 0) (minus 2100) 0 0 1 0
+      ∷ step (H± sta-tsk (minus 1) (pos 0) (pos 0)) (minus 2100) 0 0 1 0
+      ∷ [])
+      1 (pos 0) 0
+      -- 2 ext_tsk: the caller goes dormant, code 0; clears the wake-up count and restores the starting priority; returns no blocks.
+      ∷ case 0 1
+      (step (H wup-tsk 1 0 0) (pos 0) 0 0 1 0
+      ∷ step (X chg-pri 1 1 0) (pos 0) 0 0 1 0
+      ∷ step (X get-blk 2 0 0) (pos 0) 1 0 1 0
+      ∷ step (X ext-tsk 0 0 0) (pos 0) 0 0 2 0
+      ∷ step (X tsk-sts 1 0 0) (pos 0) 0 2 2 0
+      ∷ step (X mpl-sts 2 0 0) (pos 0) 0 0 2 0
+      ∷ step (X can-wup 1 0 0) (minus 2101) 0 0 2 0
+      ∷ step (X sta-tsk 1 0 0) (pos 0) 0 0 2 0
+      ∷ step (X can-wup 1 0 0) (pos 0) 0 0 2 0
+      ∷ step (H ext-tsk 0 0 0) (minus 2629) 0 0 2 0
+      ∷ [])
+      1 (pos 0) 0
+      -- 3 ter_tsk(a): leaves every queue, goes dormant. A terminated wait writes no cell, and such a task is not counted as released. (The
+      -- cell was written by rel_wai, before.)
+      ∷ case 0 1
+      (step (X slp-tsk 0 0 0) (pos 1) 0 0 2 0
+      ∷ step (X rel-wai 1 0 0) (pos 0) 0 0 2 1
+      ∷ step (X rot-rdq 0 0 0) (pos 0) 0 0 5 0
+      ∷ step (X rot-rdq 2 0 0) (pos 0) 0 0 1 0
+      ∷ step (X wai-sem 1 0 0) (pos 1) 0 0 2 0
+      ∷ step (X sem-sts 1 0 0) (pos 0) 1 0 2 0
+      ∷ step (X ter-tsk 1 0 0) (pos 0) 0 0 2 0
+      ∷ step (X sem-sts 1 0 0) (pos 0) 0 0 2 0
+      ∷ step (X tsk-sts 1 0 0) (pos 0) 0 2 2 0
+      ∷ step (X sig-sem 1 0 0) (pos 0) 0 0 2 0
+      ∷ step (X sem-sts 1 0 0) (pos 0) 0 1 2 0
+      ∷ [])
+      1 (minus 3414) 0
+      -- Only release and sta_tsk change a cell: ready at its starting priority, cell 0 and 0.
+      ∷ case 0 1
+      (step (X slp-tsk 0 0 0) (pos 1) 0 0 2 0
+      ∷ step (X rel-wai 1 0 0) (pos 0) 0 0 2 1
+      ∷ step (X ter-tsk 1 0 0) (pos 0) 0 0 2 0
+      ∷ step (X sta-tsk 1 0 0) (pos 0) 0 0 2 0
+      ∷ step (X tsk-sts 1 0 0) (pos 0) 1 2 2 0
+      ∷ [])
+      1 (pos 0) 0
+      -- E_SELF: ter_tsk on oneself. E_DMT: on a dormant task. E_CTX: task-only call from a handler. The id is judged before all of these.
+      ∷ case 0 1
+      (step (X ter-tsk 1 0 0) (minus 2097) 0 0 1 0
+      ∷ step (X ter-tsk 3 0 0) (minus 2101) 0 0 1 0
+      ∷ step (H ter-tsk 2 0 0) (minus 2629) 0 0 1 0
+      ∷ step (H ter-tsk 3 0 0) (minus 2629) 0 0 1 0
+      ∷ step (H ter-tsk 6 0 0) (minus 2100) 0 0 1 0
+      ∷ step (X tsk-sts 2 0 0) (pos 0) 1 2 1 0
+      ∷ [])
+      2 (pos 0) 0
+      -- 4 chg_pri(a, b): new priority; a READY or RUN task goes last in its queue, even at the same priority.
+      ∷ case 0 1
+      (step (X chg-pri 1 2 0) (pos 0) 0 0 2 0
+      ∷ step (X chg-pri 2 3 0) (pos 0) 0 0 5 0
+      ∷ step (X tsk-sts 2 0 0) (pos 0) 1 3 5 0
+      ∷ step (X chg-pri 5 4 0) (pos 0) 0 0 1 0
+      ∷ step (X chg-pri 4 1 0) (pos 0) 0 0 4 0
+      ∷ step (X chg-pri 4 3 0) (pos 0) 0 0 1 0
+      ∷ step (X slp-tsk 0 0 0) (pos 1) 0 0 2 0
+      ∷ step (X slp-tsk 0 0 0) (pos 1) 0 0 4 0
+      ∷ step (X slp-tsk 0 0 0) (pos 1) 0 0 5 0
+      ∷ [])
+      1 (pos 0) 0
+      -- E_TPRI: priority outside 1..P. The parameters are judged left to right, then E_DMT.
+      ∷ case 0 1
+      (step (X chg-pri 1 0 0) (minus 1830) 0 0 1 0
+      ∷ step (X chg-pri 1 5 0) (minus 1830) 0 0 1 0
+      ∷ step (X chg-pri 9 9 0) (minus 2100) 0 0 1 0
+      ∷ step (X chg-pri 3 5 0) (minus 1830) 0 0 1 0
+      ∷ step (X chg-pri 3 1 0) (minus 2101) 0 0 1 0
+      ∷ step (X tsk-sts 1 0 0) (pos 0) 2 2 1 0
+      ∷ [])
+      1 (pos 0) 0
+      -- 5 rot_rdq(a): the head of that queue goes last; 0 means the running task's queue; an empty queue is code 0. E_TPRI: outside 0..P.
+      ∷ case 0 1
+      (step (X rot-rdq 2 0 0) (pos 0) 0 0 2 0
+      ∷ step (X rot-rdq 0 0 0) (pos 0) 0 0 5 0
+      ∷ step (X rot-rdq 1 0 0) (pos 0) 0 0 5 0
+      ∷ step (H rot-rdq 0 0 0) (pos 0) 0 0 1 0
+      ∷ step (X rot-rdq 5 0 0) (minus 1830) 0 0 1 0
+      ∷ step (X± rot-rdq (minus 1) (pos 0) (pos 0)) (minus 1830) 0 0 1 0
+      ∷ [])
+      1 (pos 0) 0
+      -- 0 while nothing runs is code 0. E_CTX: task context while nothing runs; it comes behind the parameters and before E_DMT.
+      ∷ case 0 1
+      (step (X slp-tsk 0 0 0) (pos 1) 0 0 2 0
+      ∷ step (X slp-tsk 0 0 0) (pos 1) 0 0 5 0
+      ∷ step (X slp-tsk 0 0 0) (pos 1) 0 0 4 0
+      ∷ step (X slp-tsk 0 0 0) (pos 1) 0 0 0 0
+      ∷ step (H rot-rdq 0 0 0) (pos 0) 0 0 0 0
+      ∷ step (X get-tim 0 0 0) (minus 2629) 0 0 0 0
+      ∷ step (X get-tid 0 0 0) (minus 2629) 0 0 0 0
+      ∷ step (X sus-tsk 3 0 0) (minus 2629) 0 0 0 0
+      ∷ step (X sus-tsk 6 0 0) (minus 2100) 0 0 0 0
+      ∷ step (H get-tid 0 0 0) (pos 0) 0 0 0 0
+      ∷ step (H wup-tsk 4 0 0) (pos 0) 0 0 4 1
+      ∷ step (H wup-tsk 2 0 0) (pos 0) 0 0 2 1
+      ∷ step (H wup-tsk 1 0 0) (pos 0) 0 0 2 1
+      ∷ step (X tsk-sts 4 0 0) (pos 0) 1 3 2 0
+      ∷ [])
+      4 (pos 0) 0
+      -- 6 rel_wai(a): the waiting task is released, cell E_RLWAI and 0. E_NOWAI: on a task not waiting (a dormant one too).
+      ∷ case 0 1
+      (step (X wai-sem 1 0 0) (pos 1) 0 0 2 0
+      ∷ step (X rel-wai 1 0 0) (pos 0) 0 0 2 1
+      ∷ step (X sem-sts 1 0 0) (pos 0) 0 0 2 0
+      ∷ step (X tsk-sts 1 0 0) (pos 0) 1 2 2 0
+      ∷ step (X rel-wai 1 0 0) (minus 2110) 0 0 2 0
+      ∷ step (X rel-wai 2 0 0) (minus 2110) 0 0 2 0
+      ∷ step (X rel-wai 3 0 0) (minus 2110) 0 0 2 0
+      ∷ step (X rel-wai 6 0 0) (minus 2100) 0 0 2 0
+      ∷ [])
+      1 (minus 3414) 0
+      -- 7 sus_tsk(a): a READY or RUN task leaves its ready queue. 8 rsm_tsk(a): SUSPEND is made ready, last in the queue of its priority.
+      -- H_SUS: sus_tsk on a suspended task. E_NOSUS: rsm_tsk on a task not suspended.
+      ∷ case 0 1
+      (step (X sus-tsk 2 0 0) (pos 0) 0 0 1 0
+      ∷ step (X tsk-sts 2 0 0) (pos 0) 4 2 1 0
+      ∷ step (X sus-tsk 2 0 0) (minus 4) 0 0 1 0
+      ∷ step (X sus-tsk 1 0 0) (minus 2097) 0 0 1 0
+      ∷ step (X sus-tsk 3 0 0) (minus 2101) 0 0 1 0
+      ∷ step (H sus-tsk 1 0 0) (pos 0) 0 0 5 0
+      ∷ step (X rsm-tsk 1 0 0) (pos 0) 0 0 5 0
+      ∷ step (H rsm-tsk 2 0 0) (pos 0) 0 0 5 0
+      ∷ step (X rsm-tsk 2 0 0) (minus 2104) 0 0 5 0
+      ∷ step (X rsm-tsk 3 0 0) (minus 2104) 0 0 5 0
+      ∷ step (X rot-rdq 0 0 0) (pos 0) 0 0 1 0
+      ∷ step (X rot-rdq 0 0 0) (pos 0) 0 0 2 0
+      ∷ [])
+      1 (pos 0) 0
+      -- A waiting task keeps its place; WAIT-SUSPEND becomes WAIT; a released task in WAIT-SUSPEND becomes SUSPEND.
+      ∷ case 0 1
+      (step (X wai-sem 1 0 0) (pos 1) 0 0 2 0
+      ∷ step (X wai-sem 1 0 0) (pos 1) 0 0 5 0
+      ∷ step (X sus-tsk 1 0 0) (pos 0) 0 0 5 0
+      ∷ step (X tsk-sts 1 0 0) (pos 0) 5 2 5 0
+      ∷ step (X sem-sts 1 0 0) (pos 0) 1 0 5 0
+      ∷ step (X sus-tsk 1 0 0) (minus 4) 0 0 5 0
+      ∷ step (X rsm-tsk 1 0 0) (pos 0) 0 0 5 0
+      ∷ step (X tsk-sts 1 0 0) (pos 0) 3 2 5 0
+      ∷ step (X sem-sts 1 0 0) (pos 0) 1 0 5 0
+      ∷ step (X sus-tsk 1 0 0) (pos 0) 0 0 5 0
+      ∷ step (X sig-sem 1 0 0) (pos 0) 0 0 5 1
+      ∷ step (X tsk-sts 1 0 0) (pos 0) 4 2 5 0
+      ∷ step (X sem-sts 1 0 0) (pos 0) 2 0 5 0
+      ∷ [])
+      1 (pos 0) 0
+      -- 9 slp_tsk: with a stored wake-up, takes one, code 0; else waits. 11 wup_tsk(a): a sleeper is released, cell 0 and 0; any other task's
+      -- count rises. 12 can_wup(a): w1 the old count, which becomes 0.
+      ∷ case 0 1
+      (step (H wup-tsk 1 0 0) (pos 0) 0 0 1 0
+      ∷ step (H wup-tsk 1 0 0) (pos 0) 0 0 1 0
+      ∷ step (X slp-tsk 0 0 0) (pos 0) 0 0 1 0
+      ∷ step (X can-wup 1 0 0) (pos 0) 1 0 1 0
+      ∷ step (X can-wup 1 0 0) (pos 0) 0 0 1 0
+      ∷ step (X slp-tsk 0 0 0) (pos 1) 0 0 2 0
+      ∷ step (X wup-tsk 1 0 0) (pos 0) 0 0 2 1
+      ∷ step (H slp-tsk 0 0 0) (minus 2629) 0 0 2 0
+      ∷ [])
+      1 (pos 0) 0
+      -- Any other task's count rises: one that waits on a semaphore is no sleeper. E_SELF and E_DMT.
+      ∷ case 0 1
+      (step (X wai-sem 1 0 0) (pos 1) 0 0 2 0
+      ∷ step (X wup-tsk 1 0 0) (pos 0) 0 0 2 0
+      ∷ step (X tsk-sts 1 0 0) (pos 0) 3 2 2 0
+      ∷ step (X can-wup 1 0 0) (pos 0) 1 0 2 0
+      ∷ step (X wup-tsk 2 0 0) (minus 2097) 0 0 2 0
+      ∷ step (X wup-tsk 3 0 0) (minus 2101) 0 0 2 0
+      ∷ step (X can-wup 3 0 0) (minus 2101) 0 0 2 0
+      ∷ [])
+      1 (pos 0) 0
+      -- E_QOVR: wake-up count already 15.
+      ∷ case 0 1
+      (replicate 15 (step (H wup-tsk 2 0 0) (pos 0) 0 0 1 0) ++
+      step (H wup-tsk 2 0 0) (minus 2889) 0 0 1 0
+      ∷ step (X wup-tsk 2 0 0) (minus 2889) 0 0 1 0
+      ∷ step (X can-wup 2 0 0) (pos 0) 15 0 1 0
+      ∷ step (X wup-tsk 2 0 0) (pos 0) 0 0 1 0
+      ∷ [])
+      1 (pos 0) 0
+      -- 10 wai_tsk(a): the same, but with none stored 0 gives E_TMOUT, -1 waits for ever, and 1 to 2147483647 waits so many ticks. E_ILTIME:
+      -- time below -1.
+      ∷ case 0 1
+      (step (X wai-tsk 0 0 0) (minus 3413) 0 0 1 0
+      ∷ step (H wup-tsk 1 0 0) (pos 0) 0 0 1 0
+      ∷ step (X wai-tsk 0 0 0) (pos 0) 0 0 1 0
+      ∷ step (X± wai-tsk (minus 2) (pos 0) (pos 0)) (minus 1831) 0 0 1 0
+      ∷ step (H± wai-tsk (minus 2) (pos 0) (pos 0)) (minus 1831) 0 0 1 0
+      ∷ step (H wai-tsk 1 0 0) (minus 2629) 0 0 1 0
+      ∷ step (X± wai-tsk (minus 1) (pos 0) (pos 0)) (pos 1) 0 0 2 0
+      ∷ step tick (pos 0) 0 0 2 0
+      ∷ step (X tsk-sts 1 0 0) (pos 0) 3 2 2 0
+      ∷ step (X wai-tsk 2147483647 0 0) (pos 1) 0 0 5 0
+      ∷ step tick (pos 0) 0 0 5 0
+      ∷ step (X wup-tsk 1 0 0) (pos 0) 0 0 5 1
+      ∷ step (X wup-tsk 2 0 0) (pos 0) 0 0 5 1
+      ∷ [])
+      2 (pos 0) 0
+      -- Each timed wait loses one, suspended or not; a sleeper in WAIT-SUSPEND whose time runs out becomes SUSPEND, cell E_TMOUT.
+      ∷ case 0 1
+      (step (X wai-tsk 2 0 0) (pos 1) 0 0 2 0
+      ∷ step (X sus-tsk 1 0 0) (pos 0) 0 0 2 0
+      ∷ step tick (pos 0) 0 0 2 0
+      ∷ step (X tsk-sts 1 0 0) (pos 0) 5 2 2 0
+      ∷ step tick (pos 0) 0 0 2 1
+      ∷ step (X tsk-sts 1 0 0) (pos 0) 4 2 2 0
+      ∷ [])
+      1 (minus 3413) 0
+      -- Those that reach 0 are released in id order, whoever slept first: 1 before 2.
+      ∷ case 0 1
+      (step (X rot-rdq 0 0 0) (pos 0) 0 0 2 0
+      ∷ step (X wai-tsk 2 0 0) (pos 1) 0 0 5 0
+      ∷ step tick (pos 0) 0 0 5 0
+      ∷ step (X rot-rdq 0 0 0) (pos 0) 0 0 1 0
+      ∷ step (X wai-tsk 1 0 0) (pos 1) 0 0 5 0
+      ∷ step tick (pos 0) 0 0 5 2
+      ∷ step (X slp-tsk 0 0 0) (pos 1) 0 0 1 0
+      ∷ step (X slp-tsk 0 0 0) (pos 1) 0 0 2 0
+      ∷ [])
+      2 (minus 3413) 0
+      -- 13 sig_sem(a): releases the first waiter, else adds one. Wait queues are first come, first served, whatever the priority.
+      ∷ case 0 1
+      (step (X wai-sem 1 0 0) (pos 1) 0 0 2 0
+      ∷ step (X wai-sem 1 0 0) (pos 1) 0 0 5 0
+      ∷ step (X chg-pri 2 1 0) (pos 0) 0 0 5 0
+      ∷ step (X sem-sts 1 0 0) (pos 0) 1 0 5 0
+      ∷ step (X sig-sem 1 0 0) (pos 0) 0 0 5 1
+      ∷ step (X sem-sts 1 0 0) (pos 0) 2 0 5 0
+      ∷ step (X sig-sem 1 0 0) (pos 0) 0 0 2 1
+      ∷ step (X sem-sts 1 0 0) (pos 0) 0 0 2 0
+      ∷ step (X sig-sem 1 0 0) (pos 0) 0 0 2 0
+      ∷ step (X sem-sts 1 0 0) (pos 0) 0 1 2 0
+      ∷ [])
+      2 (pos 0) 0
+      -- 14 wai_sem(a), 15 preq_sem(a): takes one if the count is above 0. H_POLL: a poll that can't be served at once. E_QOVR: semaphore
+      -- already 65535.
+      ∷ case 0 1
+      (step (X wai-sem 2 0 0) (pos 0) 0 0 1 0
+      ∷ step (X sem-sts 2 0 0) (pos 0) 0 0 1 0
+      ∷ step (X preq-sem 2 0 0) (minus 5) 0 0 1 0
+      ∷ step (X sig-sem 3 0 0) (minus 2889) 0 0 1 0
+      ∷ step (H preq-sem 3 0 0) (pos 0) 0 0 1 0
+      ∷ step (H sem-sts 3 0 0) (pos 0) 0 65534 1 0
+      ∷ step (H sig-sem 3 0 0) (pos 0) 0 0 1 0
+      ∷ step (H sem-sts 3 0 0) (pos 0) 0 65535 1 0
+      ∷ step (H wai-sem 2 0 0) (minus 2629) 0 0 1 0
+      ∷ step (H wai-sem 9 0 0) (minus 2100) 0 0 1 0
+      ∷ [])
+      1 (pos 0) 0
+      -- 16 set_flg(a, b): ORs b in. 17 clr_flg(a, b): ANDs. A flag pattern is the unsigned number with the same bits. 29 flg_sts: w2 pattern.
+      ∷ case 0 1
+      (step (X set-flg 2 2 0) (pos 0) 0 0 1 0
+      ∷ step (X flg-sts 2 0 0) (pos 0) 0 7 1 0
+      ∷ step (X clr-flg 2 6 0) (pos 0) 0 0 1 0
+      ∷ step (X flg-sts 2 0 0) (pos 0) 0 6 1 0
+      ∷ step (X± set-flg (pos 2) (minus 1) (pos 0)) (pos 0) 0 0 1 0
+      ∷ step (X flg-sts 2 0 0) (pos 0) 0 4294967295 1 0
+      ∷ step (X± clr-flg (pos 2) (minus 2) (pos 0)) (pos 0) 0 0 1 0
+      ∷ step (X flg-sts 2 0 0) (pos 0) 0 4294967294 1 0
+      ∷ step (X clr-flg 2 0 0) (pos 0) 0 0 1 0
+      ∷ step (X flg-sts 2 0 0) (pos 0) 0 0 1 0
+      ∷ step (H set-flg 3 1 0) (minus 2100) 0 0 1 0
+      ∷ step (H clr-flg 0 1 0) (minus 2100) 0 0 1 0
+      ∷ [])
+      1 (pos 0) 0
+      -- 18 wai_flg(a, b, c), 19 pol_flg: mode 1-bit set means any bit of b, unset means all bits; mode 2-bit set means clear the whole pattern
+      -- on success. w1 is the pattern before clearing. (Flag 2 starts as 5.)
+      ∷ case 0 1
+      (step (X wai-flg 2 5 0) (pos 0) 5 0 1 0
+      ∷ step (X flg-sts 2 0 0) (pos 0) 0 5 1 0
+      ∷ step (X pol-flg 2 6 0) (minus 5) 0 0 1 0
+      ∷ step (X pol-flg 2 6 1) (pos 0) 5 0 1 0
+      ∷ step (X pol-flg 2 2 3) (minus 5) 0 0 1 0
+      ∷ step (X flg-sts 2 0 0) (pos 0) 0 5 1 0
+      ∷ step (X pol-flg 2 4 2) (pos 0) 5 0 1 0
+      ∷ step (X flg-sts 2 0 0) (pos 0) 0 0 1 0
+      ∷ step (X set-flg 2 12 0) (pos 0) 0 0 1 0
+      ∷ step (H± pol-flg (pos 2) (minus 1) (pos 3)) (pos 0) 12 0 1 0
+      ∷ step (X flg-sts 2 0 0) (pos 0) 0 0 1 0
+      ∷ [])
+      1 (pos 0) 0
+      -- H_PAR: flag pattern 0 in a wait or poll, mode not 0..3. The parameters left to right, then E_CTX.
+      ∷ case 0 1
+      (step (X wai-flg 99 0 9) (minus 2100) 0 0 1 0
+      ∷ step (X wai-flg 1 0 9) (minus 2) 0 0 1 0
+      ∷ step (X wai-flg 1 1 4) (minus 2) 0 0 1 0
+      ∷ step (X pol-flg 1 0 0) (minus 2) 0 0 1 0
+      ∷ step (X± pol-flg (pos 1) (pos 1) (minus 1)) (minus 2) 0 0 1 0
+      ∷ step (H wai-flg 1 0 0) (minus 2) 0 0 1 0
+      ∷ step (H wai-flg 1 1 0) (minus 2629) 0 0 1 0
+      ∷ [])
+      1 (pos 0) 0
+      -- set_flg goes through the waiters in order; each whose condition holds is released with the pattern of that moment, and if it asked for
+      -- clearing the pattern becomes 0 before the next is looked at: task 2, which asks for the same bit, is not served.
+      ∷ case 0 1
+      (step (X wai-flg 1 1 3) (pos 1) 0 0 2 0
+      ∷ step (X wai-flg 1 1 0) (pos 1) 0 0 5 0
+      ∷ step (X set-flg 1 1 0) (pos 0) 0 0 5 1
+      ∷ step (X flg-sts 1 0 0) (pos 0) 2 0 5 0
+      ∷ step (X tsk-sts 2 0 0) (pos 0) 3 2 5 0
+      ∷ [])
+      1 (pos 0) 1
+      -- Two waiters that ask for no clearing are both served, each with the whole pattern.
+      ∷ case 0 1
+      (step (X wai-flg 1 1 0) (pos 1) 0 0 2 0
+      ∷ step (X wai-flg 1 6 1) (pos 1) 0 0 5 0
+      ∷ step (X set-flg 1 3 0) (pos 0) 0 0 5 2
+      ∷ step (X flg-sts 1 0 0) (pos 0) 0 3 5 0
+      ∷ [])
+      2 (pos 0) 3
+      -- A waiter whose condition does not hold keeps its place, and the next is looked at.
+      ∷ case 0 1
+      (step (X wai-flg 1 4 0) (pos 1) 0 0 2 0
+      ∷ step (X wai-flg 1 1 2) (pos 1) 0 0 5 0
+      ∷ step (X set-flg 1 1 0) (pos 0) 0 0 5 1
+      ∷ step (X flg-sts 1 0 0) (pos 0) 1 0 5 0
+      ∷ [])
+      2 (pos 0) 1
+      -- 20 snd_msg(a, b): to the first waiter, else last in the mailbox. 21 rcv_msg(a), 22 prcv_msg(a): w1 the first message. A received
+      -- message may be sent again. 30 mbx_sts: w1 the first waiter or 0, w2 the first message or 0.
+      ∷ case 0 1
+      (step (X snd-msg 1 1 0) (pos 0) 0 0 1 0
+      ∷ step (H snd-msg 1 2 0) (pos 0) 0 0 1 0
+      ∷ step (X mbx-sts 1 0 0) (pos 0) 0 1 1 0
+      ∷ step (X rcv-msg 1 0 0) (pos 0) 1 0 1 0
+      ∷ step (X snd-msg 1 1 0) (pos 0) 0 0 1 0
+      ∷ step (X prcv-msg 1 0 0) (pos 0) 2 0 1 0
+      ∷ step (H prcv-msg 1 0 0) (pos 0) 1 0 1 0
+      ∷ step (X prcv-msg 1 0 0) (minus 5) 0 0 1 0
+      ∷ step (H rcv-msg 1 0 0) (minus 2629) 0 0 1 0
+      ∷ step (X rcv-msg 1 0 0) (pos 1) 0 0 2 0
+      ∷ step (X mbx-sts 1 0 0) (pos 0) 1 0 2 0
+      ∷ step (X snd-msg 1 3 0) (pos 0) 0 0 2 1
+      ∷ step (X mbx-sts 1 0 0) (pos 0) 0 0 2 0
+      ∷ [])
+      1 (pos 0) 3
+      -- H_PAR: message number outside 1..count. H_MSG: the message already lies in a mailbox, be it another one than a that has a waiter.
+      ∷ case 0 1
+      (step (X snd-msg 1 4 0) (minus 2) 0 0 1 0
+      ∷ step (X snd-msg 1 0 0) (minus 2) 0 0 1 0
+      ∷ step (X snd-msg 3 4 0) (minus 2100) 0 0 1 0
+      ∷ step (X snd-msg 2 1 0) (pos 0) 0 0 1 0
+      ∷ step (X snd-msg 2 1 0) (minus 6) 0 0 1 0
+      ∷ step (X rcv-msg 1 0 0) (pos 1) 0 0 2 0
+      ∷ step (X snd-msg 1 1 0) (minus 6) 0 0 2 0
+      ∷ step (X mbx-sts 1 0 0) (pos 0) 1 0 2 0
+      ∷ step (X prcv-msg 2 0 0) (pos 0) 1 0 2 0
+      ∷ step (X snd-msg 1 1 0) (pos 0) 0 0 2 1
+      ∷ [])
+      1 (pos 0) 1
+      -- 23 get_blk(a), 24 pget_blk(a): w1 is the lowest-numbered free block. 25 rel_blk(a, b): to the first waiter, else free. H_ILBLK: block
+      -- number outside the pool, or free. 31 mpl_sts: w2 number of free blocks.
+      ∷ case 0 1
+      (step (X mpl-sts 1 0 0) (pos 0) 0 2 1 0
+      ∷ step (X get-blk 1 0 0) (pos 0) 1 0 1 0
+      ∷ step (H pget-blk 1 0 0) (pos 0) 2 0 1 0
+      ∷ step (X pget-blk 1 0 0) (minus 5) 0 0 1 0
+      ∷ step (X mpl-sts 1 0 0) (pos 0) 0 0 1 0
+      ∷ step (X rel-blk 1 3 0) (minus 10) 0 0 1 0
+      ∷ step (X rel-blk 1 0 0) (minus 10) 0 0 1 0
+      ∷ step (X± rel-blk (pos 1) (minus 1) (pos 0)) (minus 10) 0 0 1 0
+      ∷ step (X rel-blk 1 2 0) (pos 0) 0 0 1 0
+      ∷ step (X mpl-sts 1 0 0) (pos 0) 0 1 1 0
+      ∷ step (X rel-blk 1 2 0) (minus 10) 0 0 1 0
+      ∷ step (H rel-blk 1 1 0) (pos 0) 0 0 1 0
+      ∷ step (X pget-blk 1 0 0) (pos 0) 1 0 1 0
+      ∷ step (H get-blk 1 0 0) (minus 2629) 0 0 1 0
+      ∷ step (H rel-blk 3 9 0) (minus 2100) 0 0 1 0
+      ∷ [])
+      1 (pos 0) 0
+      -- A returned block goes straight to the first waiter: it is never free in between.
+      ∷ case 0 1
+      (step (X get-blk 1 0 0) (pos 0) 1 0 1 0
+      ∷ step (X get-blk 1 0 0) (pos 0) 2 0 1 0
+      ∷ step (X get-blk 1 0 0) (pos 1) 0 0 2 0
+      ∷ step (X mpl-sts 1 0 0) (pos 0) 1 0 2 0
+      ∷ step (X rel-blk 1 2 0) (pos 0) 0 0 2 1
+      ∷ step (X mpl-sts 1 0 0) (pos 0) 0 0 2 0
+      ∷ step (X pget-blk 1 0 0) (minus 5) 0 0 2 0
+      ∷ [])
+      1 (pos 0) 2
+      -- 26 get_tid: w1 the running task. 27 tsk_sts(a): w1 state (0 DORMANT, 1 READY, 2 RUN), w2 priority.
+      ∷ case 0 1
+      (step (X get-tid 0 0 0) (pos 0) 1 0 1 0
+      ∷ step (H get-tid 0 0 0) (pos 0) 1 0 1 0
+      ∷ step (X tsk-sts 1 0 0) (pos 0) 2 2 1 0
+      ∷ step (X tsk-sts 2 0 0) (pos 0) 1 2 1 0
+      ∷ step (X tsk-sts 3 0 0) (pos 0) 0 1 1 0
+      ∷ step (X tsk-sts 6 0 0) (minus 2100) 0 0 1 0
+      ∷ [])
+      1 (pos 0) 0
+      -- 32 get_tim: the clock, w1 its quotient by 2^32, w2 the remainder. Tick: the clock rises by one.
+      ∷ case 4294967295 1
+      (step (X get-tim 0 0 0) (pos 0) 0 4294967295 1 0
+      ∷ step tick (pos 0) 0 0 1 0
+      ∷ step (H get-tim 0 0 0) (pos 0) 1 0 1 0
+      ∷ step tick (pos 0) 0 0 1 0
+      ∷ step (X get-tim 0 0 0) (pos 0) 1 1 1 0
+      ∷ [])
+      1 (pos 0) 0
+      -- After 2^48 - 1 comes 0, and not sooner.
+      ∷ case (2 ^ 47 - 1) 1
+      (step tick (pos 0) 0 0 1 0 ∷ step (X get-tim 0 0 0) (pos 0) 32768 0 1 0 ∷ [])
+      1 (pos 0) 0
+      -- E_NOEXS: id outside 1..count, in every call that names a task or an object.
+      ∷ case 0 1
+      (step (X sta-tsk 6 0 0) (minus 2100) 0 0 1 0
+      ∷ step (X ter-tsk 6 0 0) (minus 2100) 0 0 1 0
+      ∷ step (X chg-pri 6 1 0) (minus 2100) 0 0 1 0
+      ∷ step (X rel-wai 6 0 0) (minus 2100) 0 0 1 0
+      ∷ step (X sus-tsk 6 0 0) (minus 2100) 0 0 1 0
+      ∷ step (X rsm-tsk 6 0 0) (minus 2100) 0 0 1 0
+      ∷ step (X wup-tsk 6 0 0) (minus 2100) 0 0 1 0
+      ∷ step (X can-wup 6 0 0) (minus 2100) 0 0 1 0
+      ∷ step (X sig-sem 4 0 0) (minus 2100) 0 0 1 0
+      ∷ step (X wai-sem 4 0 0) (minus 2100) 0 0 1 0
+      ∷ step (X preq-sem 4 0 0) (minus 2100) 0 0 1 0
+      ∷ step (X set-flg 3 1 0) (minus 2100) 0 0 1 0
+      ∷ step (X clr-flg 3 1 0) (minus 2100) 0 0 1 0
+      ∷ step (X wai-flg 3 1 0) (minus 2100) 0 0 1 0
+      ∷ step (X pol-flg 3 1 0) (minus 2100) 0 0 1 0
+      ∷ step (X snd-msg 3 1 0) (minus 2100) 0 0 1 0
+      ∷ step (X rcv-msg 3 0 0) (minus 2100) 0 0 1 0
+      ∷ step (X prcv-msg 3 0 0) (minus 2100) 0 0 1 0
+      ∷ step (X get-blk 3 0 0) (minus 2100) 0 0 1 0
+      ∷ step (X pget-blk 3 0 0) (minus 2100) 0 0 1 0
+      ∷ step (X rel-blk 3 1 0) (minus 2100) 0 0 1 0
+      ∷ step (X tsk-sts 6 0 0) (minus 2100) 0 0 1 0
+      ∷ step (X sem-sts 4 0 0) (minus 2100) 0 0 1 0
+      ∷ step (X flg-sts 3 0 0) (minus 2100) 0 0 1 0
+      ∷ step (X mbx-sts 3 0 0) (minus 2100) 0 0 1 0
+      ∷ step (X mpl-sts 3 0 0) (minus 2100) 0 0 1 0
+      ∷ [])
+      1 (pos 0) 0
+      -- T marks task-only: every other call is served from a handler too.
+      ∷ case 7 1
+      (step (X slp-tsk 0 0 0) (pos 1) 0 0 2 0
+      ∷ step (H rel-wai 1 0 0) (pos 0) 0 0 2 1
+      ∷ step (H sta-tsk 3 0 0) (pos 0) 0 0 3 0
+      ∷ step (H chg-pri 3 4 0) (pos 0) 0 0 2 0
+      ∷ step (H rot-rdq 2 0 0) (pos 0) 0 0 5 0
+      ∷ step (H sus-tsk 5 0 0) (pos 0) 0 0 1 0
+      ∷ step (H rsm-tsk 5 0 0) (pos 0) 0 0 1 0
+      ∷ step (H wup-tsk 5 0 0) (pos 0) 0 0 1 0
+      ∷ step (H can-wup 5 0 0) (pos 0) 1 0 1 0
+      ∷ step (H sig-sem 1 0 0) (pos 0) 0 0 1 0
+      ∷ step (H sem-sts 1 0 0) (pos 0) 0 1 1 0
+      ∷ step (H preq-sem 1 0 0) (pos 0) 0 0 1 0
+      ∷ step (H set-flg 1 3 0) (pos 0) 0 0 1 0
+      ∷ step (H clr-flg 1 1 0) (pos 0) 0 0 1 0
+      ∷ step (H flg-sts 1 0 0) (pos 0) 0 1 1 0
+      ∷ step (H pol-flg 1 1 0) (pos 0) 1 0 1 0
+      ∷ step (H snd-msg 1 2 0) (pos 0) 0 0 1 0
+      ∷ step (H mbx-sts 1 0 0) (pos 0) 0 2 1 0
+      ∷ step (H prcv-msg 1 0 0) (pos 0) 2 0 1 0
+      ∷ step (H pget-blk 1 0 0) (pos 0) 1 0 1 0
+      ∷ step (H mpl-sts 1 0 0) (pos 0) 0 1 1 0
+      ∷ step (H rel-blk 1 1 0) (pos 0) 0 0 1 0
+      ∷ step (H get-tid 0 0 0) (pos 0) 1 0 1 0
+      ∷ step (H tsk-sts 3 0 0) (pos 0) 1 4 1 0
+      ∷ step (H get-tim 0 0 0) (pos 0) 0 7 1 0
+      ∷ [])
+      1 (minus 3414) 0
+      -- H_CALL: call number not 1..32, or context not 0 or 1; before the parameters.
+      ∷ case 0 1
+      (step (call (pos 0) (pos 0) (pos 0) (pos 0) (pos 0)) (minus 1) 0 0 1 0
+      ∷ step (call (pos 0) (pos 33) (pos 0) (pos 0) (pos 0)) (minus 1) 0 0 1 0
+      ∷ step (call (pos 1) (minus 1) (pos 0) (pos 0) (pos 0)) (minus 1) 0 0 1 0
+      ∷ step (call (pos 2) (pos 26) (pos 0) (pos 0) (pos 0)) (minus 1) 0 0 1 0
+      ∷ step (call (minus 1) (pos 26) (pos 0) (pos 0) (pos 0)) (minus 1) 0 0 1 0
+      ∷ step (call (pos 2) (pos 14) (pos 9) (pos 0) (pos 0)) (minus 1) 0 0 1 0
+      ∷ [])
+      1 (pos 0) 0
+      -- A negative code leaves the state unchanged and the running task as before, as status calls show.
+      ∷ case 41 1
+      (step (X preq-sem 1 0 0) (minus 5) 0 0 1 0
+      ∷ step (X sem-sts 1 0 0) (pos 0) 0 0 1 0
+      ∷ step (X pol-flg 2 2 2) (minus 5) 0 0 1 0
+      ∷ step (X flg-sts 2 0 0) (pos 0) 0 5 1 0
+      ∷ step (X snd-msg 2 9 0) (minus 2) 0 0 1 0
+      ∷ step (X mbx-sts 2 0 0) (pos 0) 0 0 1 0
+      ∷ step (X rel-blk 1 1 0) (minus 10) 0 0 1 0
+      ∷ step (X mpl-sts 1 0 0) (pos 0) 0 2 1 0
+      ∷ step (X wai-tsk 0 0 0) (minus 3413) 0 0 1 0
+      ∷ step (X tsk-sts 1 0 0) (pos 0) 2 2 1 0
+      ∷ step (X get-tim 0 0 0) (pos 0) 0 41 1 0
+      ∷ [])
+      1 (pos 0) 0
+      -- A cell is read by task id: E_NOEXS for a bad id, with word 0.
+      ∷ case 0 1
+      (step (X wai-sem 1 0 0) (pos 1) 0 0 2 0
+      ∷ [])
+      6 (minus 2100) 0
+      ∷ [];
+}
+
+-- ---- damaged states
+
+abbrev with-body : (Body → Body) → View → View
+with-body f v = record { body = f (v .body); lines = v .lines }
+
+-- the lines of a priority, of an object and of a mailbox changed
+abbrev with-ready : ℕ → List ℕ → View → View
+with-ready p l v = record { body = v .body; lines = record { ready = put (v .lines .ready) p l; waiting = v .lines .waiting; mail = v .lines .mail } }
+
+abbrev with-waiters : Kind → ℕ → List ℕ → View → View
+with-waiters k o l v = record {
+  body = v .body;
+  lines = record {
+    ready = v .lines .ready;
+    waiting = each (λ j. cond (sameKind k j) (put (at (v .lines .waiting) j) o l) (at (v .lines .waiting) j));
+    mail = v .lines .mail;
+  };
+}
+
+abbrev with-mail : ℕ → List ℕ → View → View
+with-mail m l v = record { body = v .body; lines = record { ready = v .lines .ready; waiting = v .lines .waiting; mail = put (v .lines .mail) m l } }
+
+-- message 1 laid by hand in a mailbox
+abbrev pub with-message : ℕ → View → View
+with-message m v = with-mail m (1 ∷ []) (with-body (λ b. with-store (with-messages (some m ∷ none ∷ none ∷ []) (b .store)) b) v)
+
+-- task 2 put by hand into a wait on an object, with a pattern and a mode; everything else as it must then be
+abbrev pub with-waiter : Kind → ℕ → ℕ → ℕ → View → View
+with-waiter k o p m v = with-waiters k o (2 ∷ []) (with-ready 2 (1 ∷ 5 ∷ []) (with-body (change (with-state (waiting (on k o p m))) 2) v))
+
+-- task 2 put by hand into a sleep
+abbrev pub with-sleeper : State → View → View
+with-sleeper s v = with-ready 2 (1 ∷ 5 ∷ []) (with-body (change (with-state s) 2) v)
+
+-- each breaks one rule in the fresh state of the examples' setup
+abbrev pub damages : List (View → View)
+damages =
+    -- A READY or RUN task stands once in its priority's queue and nowhere else: task 1 stands in it twice;
+    with-ready 2 (1 ∷ 2 ∷ 5 ∷ 1 ∷ [])
+    -- task 5 stands in none;
+    ∷ with-ready 2 (1 ∷ 2 ∷ [])
+    -- task 4 stands in another priority's as well;
+    ∷ with-ready 2 (1 ∷ 2 ∷ 5 ∷ 4 ∷ [])
+    -- a task 9, that there is not, stands in one.
+    ∷ with-ready 4 (9 ∷ [])
+    -- Others stand in none: task 2, SUSPEND, has kept its place.
+    ∷ with-body (change (with-state suspended) 2)
+    -- A waiter on an object stands once in that object's queue: task 2 stands in none; in another's as well.
+    ∷ (λ v. with-waiters semaphore 1 [] (with-waiter semaphore 1 0 0 v))
+    ∷ (λ v. with-waiters semaphore 2 (2 ∷ []) (with-waiter semaphore 1 0 0 v))
+    -- No waiter beside a nonzero semaphore (semaphore 2 has the count 1), a waiting message, a free block or a pattern that meets its
+    -- condition (flag 2 has the pattern 5).
+    ∷ with-waiter semaphore 2 0 0
+    ∷ (λ v. with-message 1 (with-waiter mailbox 1 0 0 v))
+    ∷ with-waiter pool 1 0 0
+    ∷ with-waiter flag 2 4 0
+    -- A wait names an object that exists: there is no semaphore 4. A flag wait has a nonzero pattern and a mode 0..3.
+    ∷ with-waiter semaphore 4 0 0
+    ∷ with-waiter flag 1 0 1
+    ∷ with-waiter flag 1 2 4
+    -- Numbers lie in their ranges: the clock is 2^48; a wake-up count is 16; a priority is 5; a semaphore has the
+    -- count 65536.
+    ∷ with-body (at-clock (2 ^ 48))
+    ∷ with-body (change (with-wakeups 16) 1)
+    ∷ (λ v. with-ready 3 [] (with-body (change (with-priority 5) 4) v))
+    ∷ with-body (λ b. with-store (with-semaphores (0 ∷ 1 ∷ 65536 ∷ []) (b .store)) b)
+    -- A cell's code is 0, E_TMOUT or E_RLWAI, its word 0 unless the code is 0.
+    ∷ with-body (change (with-cell (record { code = H-POLL; word = 0 })) 1)
+    ∷ with-body (change (with-cell (record { code = E-RLWAI; word = 5 })) 1)
+    -- A message lies in one mailbox at most, once: message 1 stands in both; twice in one; it lies in one in which it does not stand;
+    -- it lies in one that there is not.
+    ∷ (λ v. with-mail 2 (1 ∷ []) (with-message 1 v))
+    ∷ (λ v. with-mail 1 (1 ∷ 1 ∷ []) (with-message 1 v))
+    ∷ (λ v. with-mail 1 [] (with-message 1 v))
+    ∷ with-message 3
+    -- A sleeper and a dormant task have wake-up count 0; a dormant task has its starting priority.
+    ∷ (λ v. with-body (change (with-wakeups 1) 2) (with-sleeper (waiting asleep) v))
+    ∷ with-body (change (with-wakeups 1) 3)
+    ∷ with-body (change (with-priority 2) 3)
+    -- A timed wait has 1 to 2147483647 ticks left.
+    ∷ with-sleeper (waiting (timed 0))
+    ∷ with-sleeper (waiting (timed 2147483648))
+    ∷ []
+
+-- close to these, but no rule is broken: a waiter on semaphore 1, whose count is 0; one on flag 2 that asks for a bit that is not set; one
+-- beside another mailbox's message; a sleeper with one tick left; the last clock; a message that lies in a mailbox
+abbrev pub repairs : List (View → View)
+repairs =
+    with-waiter semaphore 1 0 0
+    ∷ with-waiter flag 2 2 3
+    ∷ (λ v. with-message 1 (with-waiter mailbox 2 0 0 v))
+    ∷ with-sleeper (waiting (timed 1))
+    ∷ with-body (at-clock (2 ^ 48 - 1))
+    ∷ with-message 1
+    ∷ []
+
+-- what comes back of an event there, the state after it, and the cell of a task before it
+pub record Touched : Type 0 where
+  pub says : List ℤ
+  pub next : View
+  pub code : ℤ
+  pub word : ℕ
+
+abbrev pub touch : Event → ℤ → View → Touched
+touch e a v = record { says = numbers (event v e .answer); next = event v e .next; code = number (cell v a .code); word = cell v a .word }
+
+-- over the fresh state of the examples' setup
+unfoldable pub touched : List (View → View) → Event → ℤ → Read (List Touched)
+unfolding answers
+touched l e a = and-then (setup exampleBytes) (λ u i. got (map (λ f. touch e a (f (fresh u))) l) i)
+
+-- the same answer everywhere, the state unchanged, the same code in the cell with word 0
+unfoldable pub unchanged : List (View → View) → List ℤ → ℤ → Read (List Touched)
+unfolding answers
+unchanged l n c = and-then (setup exampleBytes) (λ u i. got (map (λ f. record { says = n; next = f (fresh u); code = c; word = 0 }) l) i)
+
+-- ---- setups
+
+-- the bytes, and what the reader says: accepted, up to which offset, or the first fault and its place
+pub record Reading : Type 0 where
+  pub bytes : List ℕ
+  pub gives : Read (Unit {0})
+
+abbrev pub accepts : List ℕ → ℕ → Reading
+accepts s i = record { bytes = s; gives = got tt i }
+
+abbrev pub refuses : List ℕ → Fault → ℕ → Reading
+refuses s f i = record { bytes = s; gives = refused f i }
+
+abbrev pub readings : List Reading
+readings =
+    -- Empty input is S1 at 0.
+    refuses [] S1 0
+    -- S1 the bytes end before a needed word is whole. The place is the offset of that word.
+    ∷ refuses (4 ∷ 0 ∷ 0 ∷ []) S1 0
+    ∷ refuses (bytes (4 ∷ 3 ∷ 2 ∷ 1 ∷ [])) S1 16
+    ∷ refuses (bytes (4 ∷ 3 ∷ 2 ∷ 1 ∷ []) ++ 2 ∷ 0 ∷ 0 ∷ []) S1 16
+    -- S2 a count outside its range: priorities 1..16, the first fault deciding
+    ∷ refuses (bytes (0 ∷ [])) S2 0
+    ∷ refuses (bytes (17 ∷ [])) S2 0
+    -- least significant first: this is 4 + 2^24
+    ∷ refuses (4 ∷ 0 ∷ 0 ∷ 1 ∷ []) S2 0
+    -- tasks 1..32
+    ∷ refuses (bytes (4 ∷ 0 ∷ [])) S2 4
+    ∷ refuses (bytes (4 ∷ 33 ∷ [])) S2 4
+    -- S3 an entry outside its range: starting priority 1..P; 1 if started, else 0
+    ∷ refuses (bytes (4 ∷ 1 ∷ 0 ∷ 1 ∷ [])) S3 8
+    ∷ refuses (bytes (4 ∷ 1 ∷ 5 ∷ 1 ∷ [])) S3 8
+    ∷ refuses (bytes (4 ∷ 1 ∷ 4 ∷ 2 ∷ [])) S3 12
+    -- semaphores 0..16, count 0..65535
+    ∷ refuses (bytes (4 ∷ 1 ∷ 4 ∷ 1 ∷ 17 ∷ [])) S2 16
+    ∷ refuses (bytes (4 ∷ 1 ∷ 4 ∷ 1 ∷ 1 ∷ 65536 ∷ [])) S3 20
+    -- flags 0..16, mailboxes 0..16, messages 0..256
+    ∷ refuses (bytes (4 ∷ 1 ∷ 4 ∷ 1 ∷ 0 ∷ 17 ∷ [])) S2 20
+    ∷ refuses (bytes (4 ∷ 1 ∷ 4 ∷ 1 ∷ 0 ∷ 0 ∷ 17 ∷ [])) S2 24
+    ∷ refuses (bytes (4 ∷ 1 ∷ 4 ∷ 1 ∷ 0 ∷ 0 ∷ 0 ∷ 257 ∷ [])) S2 28
+    -- pools 0..8, blocks 1..32
+    ∷ refuses (bytes (4 ∷ 1 ∷ 4 ∷ 1 ∷ 0 ∷ 0 ∷ 0 ∷ 0 ∷ 9 ∷ [])) S2 32
+    ∷ refuses (bytes (4 ∷ 1 ∷ 4 ∷ 1 ∷ 0 ∷ 0 ∷ 0 ∷ 0 ∷ 1 ∷ 0 ∷ [])) S3 36
+    ∷ refuses (bytes (4 ∷ 1 ∷ 4 ∷ 1 ∷ 0 ∷ 0 ∷ 0 ∷ 0 ∷ 1 ∷ 33 ∷ [])) S3 36
+    -- S4 bytes left over. The place is the offset of the first byte left over.
+    ∷ refuses (benchBytes ++ 0 ∷ []) S4 64
+    ∷ refuses (benchBytes ++ benchBytes) S4 64
+    -- one without a fault is accepted: the bench sheet's; the shortest
+    ∷ accepts benchBytes 64
+    ∷ accepts (bytes (1 ∷ 1 ∷ 1 ∷ 0 ∷ 0 ∷ 0 ∷ 0 ∷ 0 ∷ 0 ∷ [])) 36
+    -- The longest is 111 words, 444 bytes.
+    ∷ accepts (bytes (16 ∷ 32 ∷ replicate 64 1 ++ 16 ∷ replicate 16 65535 ++ 16 ∷ replicate 16 (2 ^ 32 - 1) ++ 16 ∷ 256 ∷ 8 ∷ replicate 8 32)) 444
+    ∷ []
+
+unfoldable pub read : List Reading → List (Read (Unit {0}))
+unfolding answers
+read l = map (λ r. and-then (setup (r .bytes)) (λ u i. got tt i)) l

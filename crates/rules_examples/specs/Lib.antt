@@ -1,0 +1,3 @@
+-- Worked cases of the rules, in the order in which to read them.
+pub mod BenchSheet
+pub mod Examples
