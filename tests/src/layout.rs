@@ -1,5 +1,5 @@
-//! The kernel's memory as it is described: docs/ARCHITECTURE.md, the table of columns (crates/columns/specs/Layout.antt) and what their words stand
-//! for (crates/state/specs/Picture.antt). What any two arrays show, and arrays that show a picture. An id is an index into a column; entry
+//! The kernel's memory as it is described: docs/ARCHITECTURE.md, the table of columns (crates/memory_columns/specs/Layout.antt) and what their words stand
+//! for (crates/memory_picture/specs/Picture.antt). What any two arrays show, and arrays that show a picture. An id is an index into a column; entry
 //! 0 is unused.
 use crate::picture::{Breach, Object, Picture, Queues, Standing, Task, Wait};
 use okrozumba::{State, MESSAGES, STATE_WORDS};

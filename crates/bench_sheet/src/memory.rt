@@ -35,7 +35,7 @@ pub fn fault(digit: u32, place: usize) {
 
 // What a state shows at once: whether it is sound, and who runs.
 pub fn look(words: &[u32; STATE_WORDS], messages: &[u32; 256]) {
-    if guard::check::accepts(words, messages) {
+    if check_state::accepts(words, messages) {
         say(b", sound");
     } else {
         say(b", damaged");
@@ -80,7 +80,7 @@ fn hurts(words: &mut [u32; STATE_WORDS], messages: &[u32; 256], at: usize, v: u3
     }
     let kept = words[at];
     words[at] = v;
-    let sound = guard::check::accepts(words, messages);
+    let sound = check_state::accepts(words, messages);
     words[at] = kept;
     if sound { 0 } else { 1 }
 }

@@ -38,7 +38,7 @@ use Rattle.memory_tasks.specs.Moves.{released}
 use Rattle.memory_picture.specs.Picture.{waitShown, stateShown, taskShown, tasksShown, storeShown, UsedByTasks, anchor, lineShown, viewShown, wait-queue, Accepted}
 use Rattle.memory_picture.specs.Perform.{performed, performedMarks}
 use Rattle.memory_picture.proofs.Lines.{keep-without}
-use Rattle.guard.proofs.Cases.{asked, kind-cases, status-cases}
+use Rattle.memory_picture.proofs.Cases.{asked, kind-cases, status-cases}
 use Rattle.call_words.specs.declared.Outcome.{Outcome}
 use Rattle.call_words.specs.Outcomes.{outcome}
 use Rattle.call_words.specs.Doing.{performs, performsMarks, DoesOnWords}

@@ -14,8 +14,8 @@ use Rattle.rules.specs.Ids.{In}
 use Rattle.rules.specs.View.{View}
 use Rattle.rules.specs.Rows.{Row}
 use Rattle.rules.specs.Table.{table, entry, callCount}
-use Rattle.guard.specs.Tests.{every}
-use Rattle.guard.proofs.Decisions.{decides-every}
+use Rattle.check_ranges.specs.Ranges.{every}
+use Rattle.check_ranges.proofs.Decisions.{decides-every}
 use Rattle.call_judging.specs.Judging.{rowAt}
 
 -- n is a key of none of the arms; the last stands first

@@ -82,6 +82,9 @@ const ANOTHER: u32 = 3;
 
 const MOST_MODE: u32 = 3;
 
+// The time that waits for ever; no time is below it.
+const FOR_EVER: i32 = -1;
+
 // ---- one test
 
 // Not one of 1 to n.
@@ -206,7 +209,7 @@ fn on_queue(words: &[u32; STATE_WORDS], handler: bool, me: u32, a: i32) -> i32
 fn on_time(words: &[u32; STATE_WORDS], handler: bool, me: u32, a: i32) -> i32
     ensures { λ r. ⌜ Judges (λ v. time a ∷ []) T unnamed handler me r (now (words .entry)) ⌝ }
 {
-    if a < -1 {
+    if a < FOR_EVER {
         return E_ILTIME;
     }
     common(words, TASK_ONLY, UNNAMED, handler, me, 0)

@@ -19,7 +19,7 @@ use Rattle.rules.proofs.Waits.{in-by}
 use Rattle.memory_columns.specs.Layout as Layout
 use Rattle.memory_columns.specs.Layout.{entry}
 use Rattle.memory_picture.specs.Picture.{bitsOf, poolShown, storeShown, bodyShown, viewShown, Accepted}
-use Rattle.guard.specs.Running.{lowestMark}
+use Rattle.memory_running.specs.Running.{lowestMark}
 use Rattle.call_words.specs.Naming.{NamesObject}
 use Rattle.call_objects.proofs.Waiters.{counted}
 use Rattle.call_objects.specs.Blocks.{bitCount, notOut}

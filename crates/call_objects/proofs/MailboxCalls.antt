@@ -25,7 +25,7 @@ use Rattle.memory_queues.specs.Moves.{mailAnchor, mailed, unmailed}
 use Rattle.memory_tasks.specs.Moves.{released, waited}
 use Rattle.memory_picture.specs.Perform.{put-to-wait, performed, performedMarks}
 use Rattle.memory_picture.specs.Picture.{messageShown, messagesShown, storeShown, bodyShown, viewShown, anchor, lineShown, mailbox-queue, Accepted}
-use Rattle.guard.proofs.Lowest.{HeadOf, head-of}
+use Rattle.memory_running.proofs.Lowest.{HeadOf, head-of}
 use Rattle.call_words.specs.declared.Outcome.{Outcome}
 use Rattle.call_words.specs.Outcomes.{outcome}
 use Rattle.call_words.specs.Doing.{performs, performsMarks, Does, DoesOnWords, DoesOnBoth}

@@ -15,7 +15,7 @@ use Rattle.memory_tasks.specs.Moves.{released, waited}
 use Rattle.memory_objects.specs.Moves.{marked}
 use Rattle.memory_picture.specs.Perform.{put-to-wait, performed, performedMarks}
 use Rattle.memory_picture.specs.Picture.{viewShown, Accepted}
-use Rattle.guard.specs.Running.{lowestMark}
+use Rattle.memory_running.specs.Running.{lowestMark}
 use Rattle.call_words.specs.declared.Outcome.{Outcome}
 use Rattle.call_words.specs.Outcomes.{outcome}
 use Rattle.call_words.specs.Doing.{Does, DoesOnWords}

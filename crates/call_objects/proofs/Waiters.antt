@@ -23,7 +23,7 @@ use Rattle.memory_queues.specs.Moves.{waitAnchor}
 use Rattle.memory_tasks.specs.Moves.{released}
 use Rattle.memory_picture.specs.Picture.{kindNumber, tasksShown, storeShown, bodyShown, anchor, lineShown, viewShown, wait-queue, Accepted}
 use Rattle.memory_picture.specs.Perform.{performed, performedMarks}
-use Rattle.guard.proofs.Lowest.{HeadOf, head-of}
+use Rattle.memory_running.proofs.Lowest.{HeadOf, head-of}
 use Rattle.call_words.specs.declared.Outcome.{Outcome}
 use Rattle.call_words.specs.Outcomes.{outcome}
 use Rattle.call_words.specs.Doing.{Does}

@@ -22,7 +22,7 @@ ghost use lib.IntN.{pos};
 ghost use Rattle.rules.specs.State.{pool};
 ghost use Rattle.rules.specs.Objects.{polls, waits-on, obj-sts, blocksOf, take-blk, rel-blk};
 ghost use Rattle.rules.specs.Objects as Objects;
-ghost use Rattle.guard.specs.Running.{lowestMark};
+ghost use Rattle.memory_running.specs.Running.{lowestMark};
 ghost use Rattle.call_words.specs.Doing.{DoesOnWords};
 ghost use Rattle.call_words.specs.Naming.{NamesObject};
 ghost use Rattle.call_objects.specs.Blocks.{bitCount, notOut};

@@ -15,9 +15,9 @@ use Rattle.memory_rings.proofs.Laws.{first-law}
 use Rattle.memory_columns.specs.Layout as Layout
 use Rattle.memory_columns.specs.Layout.{entry}
 use Rattle.memory_picture.specs.Picture.{tasksShown, storeShown, bodyShown, anchor, lineShown, viewShown, ready-queue, Accepted}
-use Rattle.guard.specs.Running.{headAt, bestOf}
-use Rattle.guard.proofs.Lowest.{HeadOf, head-of}
-use Rattle.guard.proofs.Accepts.{best-law}
+use Rattle.memory_running.specs.Running.{headAt, bestOf}
+use Rattle.memory_running.proofs.Lowest.{HeadOf, head-of}
+use Rattle.memory_running.proofs.Running.{best-law}
 use Rattle.call_words.specs.Naming.{NamesQueue}
 use Rattle.call_tasks.specs.Reading.{turnAt}
 

@@ -13,9 +13,9 @@ use Rattle.rules.specs.Ids.{In}
 use Rattle.rules.specs.State.{Kind, semaphore, flag, mailbox, pool, Wait, Store, dormant, ready, suspended, waiting, waiting-suspended, task, nobody, waitOf, isDormant, isSuspended, isWaiting, sleeps}
 use Rattle.rules.specs.Tasks.{stateNumber}
 use Rattle.rules.specs.View.{running}
-use Rattle.guard.proofs.Accepts.{running-law}
+use Rattle.memory_running.proofs.Running.{running-law}
 use Rattle.rules.specs.Sound.{WaitNumbers}
-use Rattle.guard.proofs.Cases.{kind-cases, status-cases}
+use Rattle.memory_picture.proofs.Cases.{kind-cases, status-cases}
 use Rattle.call_words.specs.Naming.{NamesTask}
 use Rattle.call_words.proofs.Tasks.{tasks-count, task-shown, dormant-read}
 use Rattle.call_tasks.specs.Reading.{waitsAt, haltedAt, sleepsAt, wakeupsAt, numberAt}

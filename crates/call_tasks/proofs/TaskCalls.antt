@@ -16,8 +16,8 @@ use Rattle.memory_columns.specs.Layout.{entry}
 use Rattle.memory_tasks.specs.Moves.{started, retired, rotated, regraded, released, halted, resumed}
 use Rattle.memory_picture.specs.Picture.{tasksShown, storeShown, bodyShown, viewShown}
 use Rattle.memory_picture.specs.Perform.{performed, performedMarks}
-use Rattle.guard.specs.Running.{runningOf}
-use Rattle.guard.proofs.Accepts.{running-law}
+use Rattle.memory_running.specs.Running.{runningOf}
+use Rattle.memory_running.proofs.Running.{running-law}
 use Rattle.call_words.specs.declared.Outcome.{Outcome}
 use Rattle.call_words.specs.Outcomes.{outcome}
 use Rattle.call_words.specs.Doing.{Anything, DoesOnWords}

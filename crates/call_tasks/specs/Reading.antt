@@ -5,7 +5,7 @@ use Prim.Native.Nat.{ℕ}
 use lib.Dec.{eqb, leb}
 use Rattle.memory_columns.specs.Layout as Layout
 use Rattle.memory_columns.specs.Layout.{entry}
-use Rattle.guard.specs.Running.{headAt, bestOf, runningOf}
+use Rattle.memory_running.specs.Running.{headAt, bestOf, runningOf}
 
 -- WAIT or WAIT-SUSPEND
 abbrev pub waitsAt : List ℕ → ℕ → Bool

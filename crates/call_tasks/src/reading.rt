@@ -1,6 +1,4 @@
 // What is asked of a task's state.
-use guard::running::best_task;
-use guard::running::running_task;
 use memory_columns::READY;
 use memory_columns::RUN;
 use memory_columns::STATE_WORDS;
@@ -15,6 +13,8 @@ use memory_columns::system;
 use memory_columns::wakeups;
 use memory_queues::first;
 use memory_queues::ready_anchor;
+use memory_running::best_task;
+use memory_running::running_task;
 ghost use mathlib.Core.Path.{_≡_};
 ghost use Rattle.call_tasks.specs.Reading.{waitsAt, haltedAt, sleepsAt, wakeupsAt, numberAt, turnAt};
 

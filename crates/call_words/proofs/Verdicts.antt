@@ -12,7 +12,7 @@ use Rattle.rules.specs.Codes.{Code, number}
 use Rattle.rules.specs.Releases.{releases}
 use Rattle.rules.specs.Verdicts.{Verdict, refuse, gives, check, choose, onFirst, onCount, waits}
 use Rattle.memory_picture.specs.Perform.{performed, performedMarks}
-use Rattle.guard.proofs.Lowest.{HeadOf}
+use Rattle.memory_running.proofs.Lowest.{HeadOf}
 use Rattle.call_words.specs.declared.Outcome.{Outcome}
 use Rattle.call_words.specs.Outcomes.{outcome}
 use Rattle.call_words.specs.Doing.{performs, performsMarks, Does}

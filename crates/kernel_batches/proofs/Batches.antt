@@ -12,7 +12,7 @@ use lib.ListN.{length, drop, getD, set, length-set, length-append, length-map, d
 use Rattle.rules.specs.Setup.{Read, got, refused, Setup, setup}
 use Rattle.rules.specs.Events.{Event, eventsOf}
 use Rattle.memory_picture.specs.Picture.{Accepted}
-use Rattle.guard.specs.Running.{runningOf}
+use Rattle.memory_running.specs.Running.{runningOf}
 use Rattle.kernel_start.specs.Starting.{StartsAs, Starts}
 use Rattle.kernel_start.specs.declared.Started.{Started}
 use Rattle.kernel_start.specs.declared.Started.the-variants.{Fresh, Refused}

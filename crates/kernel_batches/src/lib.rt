@@ -1,10 +1,10 @@
 // Many events, one after the other: the state is checked once, at the beginning, and the running task is carried from event to event.
-use guard::check::accepts;
-use guard::running::running_task;
+use check_state::accepts;
 use kernel_events::Answer;
 use kernel_events::serve;
 use kernel_start::Started;
 use memory_columns::STATE_WORDS;
+use memory_running::running_task;
 ghost use mathlib.Core.Path.{_≡_};
 ghost use Prim.Native.Nat.{suc, _+_, _*_, _≤_};
 ghost use lib.ListN.{length, set};

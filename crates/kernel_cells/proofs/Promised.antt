@@ -15,9 +15,9 @@ use Rattle.rules.proofs.Waits.{in-by}
 use Rattle.memory_columns.specs.Layout as Layout
 use Rattle.memory_columns.specs.Layout.{entry}
 use Rattle.memory_picture.specs.Picture.{taskShown, tasksShown, bodyShown, viewShown, Accepted}
-use Rattle.guard.specs.Running.{runningOf}
+use Rattle.memory_running.specs.Running.{runningOf}
 use Rattle.kernel_cells.specs.Promises.{kept, Reads, Runs}
-use Rattle.guard.proofs.Accepts.{running-law}
+use Rattle.memory_running.proofs.Running.{running-law}
 
 module _ {b msgs : List ℕ} {r : Bool} (law : (r ≡ true) ↔ Accepted b msgs) where
   refuted : r ≡ false → Accepted b msgs → ⊥

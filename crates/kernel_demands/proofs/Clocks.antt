@@ -16,8 +16,10 @@ use Rattle.memory_columns.specs.Layout.{words, entry}
 use Rattle.memory_columns.proofs.Frame.{words-length}
 use Rattle.memory_picture.specs.Picture.{taskShown, storeShown, bodyShown, lineShown, viewShown, Accepted}
 use Rattle.memory_picture.proofs.FormWords.{back-clock}
-use Rattle.guard.specs.Tests.{sizesOk, taskOk, waitOk, stateOk, semaphoreOk, flagOk, poolOk, messageOk, rangesOk, home, taskHome, tasksQueued, mailQueued, waitFree, unservedOk, accepts}
-use Rattle.guard.proofs.Accepts.{accepts-law}
+use Rattle.check_ranges.specs.Ranges.{sizesOk, taskOk, waitOk, stateOk, semaphoreOk, flagOk, poolOk, messageOk, rangesOk}
+use Rattle.check_queues.specs.Queues.{home, taskHome, tasksQueued, mailQueued}
+use Rattle.check_state.specs.Unserved.{waitFree, unservedOk, accepts}
+use Rattle.check_state.proofs.Accepted.{accepts-law}
 use Rattle.kernel_demands.specs.Demands.{clockSet}
 
 -- ---- the words of the system

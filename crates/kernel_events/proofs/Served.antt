@@ -23,8 +23,8 @@ use Rattle.rules.specs.Kernel.{event, next, served}
 use Rattle.rules.proofs.Events.{event-served}
 use Rattle.rules.proofs.Released.{released-by-acts}
 use Rattle.memory_picture.specs.Picture.{viewShown, Accepted}
-use Rattle.guard.specs.Running.{runningOf}
-use Rattle.guard.proofs.Accepts.{running-law}
+use Rattle.memory_running.specs.Running.{runningOf}
+use Rattle.memory_running.proofs.Running.{running-law}
 use Rattle.rules.specs.Time.{ticked}
 use Rattle.call_words.specs.declared.Outcome.{Outcome}
 use Rattle.call_words.specs.Outcomes.{outcome}

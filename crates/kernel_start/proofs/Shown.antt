@@ -34,8 +34,8 @@ use Rattle.memory_picture.specs.Picture.{codeOf, stateShown, taskShown, message
 use Rattle.memory_picture.specs.Form.{maskOf}
 use Rattle.memory_picture.proofs.FormPile.{table-is}
 use Rattle.memory_picture.proofs.FormWords.{back-pool}
-use Rattle.kernel_start.specs.Starting.{counted, allFree, entered, emptied, anchorsOf}
-use Rattle.kernel_start.proofs.Idle.{counted-size, counted-only, counted-system, entryColumns, entered-size, entered-only, entered-priority, entered-start, entered-semaphore, entered-flag, entered-size-of, entered-free, Among, emptied-size, emptied-only, emptied-anchor, emptied-task, emptied-mailbox, emptied-message}
+use Rattle.kernel_fresh.specs.Laying.{counted, allFree, entered, emptied, anchorsOf}
+use Rattle.kernel_fresh.proofs.Idle.{counted-size, counted-only, counted-system, entryColumns, entered-size, entered-only, entered-priority, entered-start, entered-semaphore, entered-flag, entered-size-of, entered-free, Among, emptied-size, emptied-only, emptied-anchor, emptied-task, emptied-mailbox, emptied-message}
 
 -- ---- tables of one entry
 

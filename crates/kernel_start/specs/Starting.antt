@@ -1,21 +1,20 @@
 -- The start: what the bytes of a setup make of the lent memory, and the words that each function of src/lib.rt writes.
 use mathlib.Core.Bool.{cond}
-use mathlib.Core.List.{List, [], _∷_}
+use mathlib.Core.List.{List}
 use mathlib.Core.Path.{_≡_}
-use Prim.Native.Nat.{ℕ, zero, suc, _+_, _-_, _*_, _^_}
-use lib.Dec.{eqb, ltb}
+use Prim.Native.Nat.{ℕ, _+_, _-_, _*_}
+use lib.Dec.{eqb}
 use lib.ListN.{replicate}
 use Rattle.rules.specs.Setup.{digit, Read, got, refused, wordAt, Setup, setup}
 use Rattle.rules.specs.Kernel.{fresh}
 use Rattle.setup.specs.declared.Plan.{Plan}
 use Rattle.setup.specs.Layout.{planOf}
-use Rattle.memory_columns.specs.Layout as Layout
-use Rattle.memory_columns.specs.Layout.{stateWords, maxBlocks, readyNode, waitNode, mailNode, put}
-use Rattle.memory_queues.specs.Moves.{clearedQueue, clearedMail}
+use Rattle.memory_columns.specs.Layout.{stateWords}
 use Rattle.memory_tasks.specs.Moves.{started}
 use Rattle.memory_picture.specs.Picture.{viewShown, Accepted}
 use Rattle.kernel_start.specs.declared.Started.{Started}
 use Rattle.kernel_start.specs.declared.Started.the-variants.{Fresh, Refused}
+use Rattle.kernel_fresh.specs.Laying.{inTurn, counted, entered, emptied}
 
 -- ---- the contract
 
@@ -29,58 +28,6 @@ unfoldable pub Starts : List ℕ → Started → List ℕ → List ℕ → List 
 Starts s r words marks words′ marks′ = StartsAs (setup s) r words marks words′ marks′
 
 -- ---- what the functions write
-
--- f for n ids from i on
-unfoldable pub inTurn : (ℕ → List ℕ → List ℕ) → ℕ → ℕ → List ℕ → List ℕ
-inTurn f zero i b = b
-inTurn f (suc n) i b = inTurn f n (suc i) (f i b)
-
-unfoldable pub counted : Plan → List ℕ → List ℕ
-counted p b =
-    put Layout.system Layout.messages (p .messages)
-    (put Layout.system Layout.pools (p .pools)
-    (put Layout.system Layout.mailboxes (p .mailboxes)
-    (put Layout.system Layout.flags (p .flags)
-    (put Layout.system Layout.semaphores (p .semaphores) (put Layout.system Layout.tasks (p .tasks) (put Layout.system Layout.priorities (p .priorities) b))))))
-
--- the word of id i, where each has so many bytes
-abbrev pub wordOfId : List ℕ → ℕ → ℕ → ℕ → ℕ
-wordOfId s at size i = wordAt s (at + size * (i - 1))
-
-unfoldable pub laidTask : List ℕ → ℕ → ℕ → List ℕ → List ℕ
-laidTask s at i b = put Layout.start i (wordOfId s at 8 i) (put Layout.priority i (wordOfId s at 8 i) b)
-
-unfoldable pub laidSemaphore : List ℕ → ℕ → ℕ → List ℕ → List ℕ
-laidSemaphore s at i b = put Layout.semaphore i (wordOfId s at 4 i) b
-
-unfoldable pub laidFlag : List ℕ → ℕ → ℕ → List ℕ → List ℕ
-laidFlag s at i b = put Layout.flag i (wordOfId s at 4 i) b
-
--- a bit for each of k blocks; a word has 32
-unfoldable pub allFree : ℕ → ℕ
-allFree k = cond (ltb k maxBlocks) (2 ^ k - 1) 4294967295
-
-unfoldable pub laidPool : List ℕ → ℕ → ℕ → List ℕ → List ℕ
-laidPool s at i b = put Layout.free i (allFree (wordOfId s at 4 i)) (put Layout.size i (wordOfId s at 4 i) b)
-
-unfoldable pub entered : List ℕ → Plan → List ℕ → List ℕ
-entered s p b =
-    inTurn (laidPool s (p .at .pools)) (p .pools) 1
-    (inTurn (laidFlag s (p .at .flags)) (p .flags) 1
-    (inTurn (laidSemaphore s (p .at .semaphores)) (p .semaphores) 1 (inTurn (laidTask s (p .at .tasks)) (p .tasks) 1 b)))
-
--- the anchors of tasks' queues that are in use, each time the first and how many: ready queues, then the waiters on each kind of object
-abbrev pub anchorsOf : Plan → List (ℕ × ℕ)
-anchorsOf p =
-    (readyNode 1, p .priorities) ∷ (waitNode Layout.semaphores 1, p .semaphores) ∷ (waitNode Layout.flags 1, p .flags)
-    ∷ (waitNode Layout.mailboxes 1, p .mailboxes) ∷ (waitNode Layout.pools 1, p .pools) ∷ []
-
-unfoldable pub emptiedQueues : List (ℕ × ℕ) → List ℕ → List ℕ
-emptiedQueues [] b = b
-emptiedQueues ((a, n) ∷ l) b = emptiedQueues l (inTurn clearedQueue n a b)
-
-unfoldable pub emptied : Plan → List ℕ → List ℕ
-emptied p b = inTurn clearedMail (p .mailboxes) (mailNode 1) (emptiedQueues (anchorsOf p) b)
 
 -- no task is started yet
 unfoldable pub laid : List ℕ → Plan → List ℕ

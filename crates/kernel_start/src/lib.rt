@@ -1,222 +1,24 @@
 // The fresh state of a setup, laid into the memory that the caller lends. The setup is judged whole before a word is written, so a
 // refusal leaves the memory as it was.
-use memory_columns::FIRST_FLAG;
-use memory_columns::FIRST_MAIL;
-use memory_columns::FIRST_MAILBOX;
-use memory_columns::FIRST_POOL;
-use memory_columns::FIRST_READY;
-use memory_columns::FIRST_SEMAPHORE;
-use memory_columns::FLAGS;
-use memory_columns::MAILBOXES;
-use memory_columns::MAX_BLOCKS;
+use kernel_fresh::empty_all;
+use kernel_fresh::lay_counts;
+use kernel_fresh::lay_entries;
+use kernel_fresh::word_at;
 use memory_columns::MESSAGE_WORDS;
-use memory_columns::MESSAGES;
-use memory_columns::POOLS;
-use memory_columns::PRIORITIES;
-use memory_columns::SEMAPHORES;
 use memory_columns::STATE_WORDS;
-use memory_columns::TASKS;
-use memory_columns::set_flag;
-use memory_columns::set_free;
-use memory_columns::set_priority;
-use memory_columns::set_semaphore;
-use memory_columns::set_size;
-use memory_columns::set_start;
-use memory_columns::set_system;
-use memory_queues::clear;
-use memory_queues::mail_clear;
 use memory_tasks::begin;
 use setup::Judged;
-use setup::Plan;
 ghost use mathlib.Core.Path.{_≡_};
-ghost use Prim.Native.Nat.{_+_, _≤_, _<_};
-ghost use lib.ListN.{length, replicate};
-ghost use Rattle.rules.specs.Setup.{wordAt};
-ghost use Rattle.setup.specs.Layout.{PlanFits};
-ghost use Rattle.memory_columns.specs.Layout.{maxPriorities, maxTasks, maxObjects, maxMessages, maxPools};
-ghost use Rattle.memory_queues.specs.Moves.{clearedQueue, clearedMail};
-ghost use Rattle.kernel_start.specs.Starting.{inTurn, counted, laidTask, laidSemaphore, laidFlag, allFree, laidPool, entered, emptied, begun, freshWords, Starts};
+ghost use Prim.Native.Nat.{_≤_};
+ghost use lib.ListN.{replicate};
+ghost use Rattle.memory_columns.specs.Layout.{maxTasks, maxMessages};
+ghost use Rattle.kernel_fresh.specs.Laying.{inTurn};
+ghost use Rattle.kernel_start.specs.Starting.{begun, freshWords, Starts};
 
 // Fresh: the memory holds the fresh state. Refused: fault digit and place; the memory is as it was.
 pub enum Started {
     Fresh,
     Refused(u32, usize),
-}
-
-// The word `k` bytes behind an offset, 0 past the end. The two are not added before it is known that their sum is within the bytes.
-fn word_at(bytes: &[u8], at: usize, k: usize) -> u32
-    ensures { λ r. ⌜ r ≡ wordAt (now (bytes .entry)) (at + k) ⌝ }
-{
-    let end = bytes.len();
-    if end <= at {
-        return 0;
-    }
-    if end - at <= k {
-        return 0;
-    }
-    setup::word(bytes, at + k)
-}
-
-// How many there are of each; the clock is 0.
-fn lay_counts(words: &mut [u32; STATE_WORDS], p: Plan)
-    ensures { λ _. ⌜ now (words .exit) ≡ counted p (now (words .entry)) ⌝ }
-{
-    set_system(words, PRIORITIES, p.priorities);
-    set_system(words, TASKS, p.tasks);
-    set_system(words, SEMAPHORES, p.semaphores);
-    set_system(words, FLAGS, p.flags);
-    set_system(words, MAILBOXES, p.mailboxes);
-    set_system(words, POOLS, p.pools);
-    set_system(words, MESSAGES, p.messages);
-}
-
-// ---- entries: the first lies at the offset `at`
-
-// Task i rests at its starting priority.
-fn lay_task(bytes: &[u8], at: usize, i: u32, words: &mut [u32; STATE_WORDS])
-    requires { ⌜ 1 ≤ i ⌝ }
-    ensures { λ _. ⌜ now (words .exit) ≡ laidTask (now (bytes .entry)) at i (now (words .entry)) ⌝ }
-{
-    let p = word_at(bytes, at, 8 * (i - 1) as usize);
-    set_priority(words, i, p);
-    set_start(words, i, p);
-}
-
-fn lay_tasks(bytes: &[u8], at: usize, n: u32, words: &mut [u32; STATE_WORDS])
-    requires { ⌜ n ≤ maxTasks ⌝ }
-    ensures { λ _. ⌜ now (words .exit) ≡ inTurn (laidTask (now (bytes .entry)) at) n 1 (now (words .entry)) ⌝ }
-{
-    let mut i: u32 = 1;
-    let mut left = n;
-    while 0 < left {
-        lay_task(bytes, at, i, words);
-        i += 1;
-        left -= 1;
-    }
-}
-
-fn lay_semaphore(bytes: &[u8], at: usize, i: u32, words: &mut [u32; STATE_WORDS])
-    requires { ⌜ 1 ≤ i ⌝ }
-    ensures { λ _. ⌜ now (words .exit) ≡ laidSemaphore (now (bytes .entry)) at i (now (words .entry)) ⌝ }
-{
-    set_semaphore(words, i, word_at(bytes, at, 4 * (i - 1) as usize));
-}
-
-fn lay_semaphores(bytes: &[u8], at: usize, n: u32, words: &mut [u32; STATE_WORDS])
-    requires { ⌜ n ≤ maxObjects ⌝ }
-    ensures { λ _. ⌜ now (words .exit) ≡ inTurn (laidSemaphore (now (bytes .entry)) at) n 1 (now (words .entry)) ⌝ }
-{
-    let mut i: u32 = 1;
-    let mut left = n;
-    while 0 < left {
-        lay_semaphore(bytes, at, i, words);
-        i += 1;
-        left -= 1;
-    }
-}
-
-fn lay_flag(bytes: &[u8], at: usize, i: u32, words: &mut [u32; STATE_WORDS])
-    requires { ⌜ 1 ≤ i ⌝ }
-    ensures { λ _. ⌜ now (words .exit) ≡ laidFlag (now (bytes .entry)) at i (now (words .entry)) ⌝ }
-{
-    set_flag(words, i, word_at(bytes, at, 4 * (i - 1) as usize));
-}
-
-fn lay_flags(bytes: &[u8], at: usize, n: u32, words: &mut [u32; STATE_WORDS])
-    requires { ⌜ n ≤ maxObjects ⌝ }
-    ensures { λ _. ⌜ now (words .exit) ≡ inTurn (laidFlag (now (bytes .entry)) at) n 1 (now (words .entry)) ⌝ }
-{
-    let mut i: u32 = 1;
-    let mut left = n;
-    while 0 < left {
-        lay_flag(bytes, at, i, words);
-        i += 1;
-        left -= 1;
-    }
-}
-
-// The mask that marks each of k blocks as free.
-fn all_free(k: u32) -> u32
-    ensures { λ r. ⌜ r ≡ allFree k ⌝ }
-{
-    if k < MAX_BLOCKS {
-        (1 << k) - 1
-    } else {
-        4294967295
-    }
-}
-
-fn lay_pool(bytes: &[u8], at: usize, i: u32, words: &mut [u32; STATE_WORDS])
-    requires { ⌜ 1 ≤ i ⌝ }
-    ensures { λ _. ⌜ now (words .exit) ≡ laidPool (now (bytes .entry)) at i (now (words .entry)) ⌝ }
-{
-    let k = word_at(bytes, at, 4 * (i - 1) as usize);
-    set_size(words, i, k);
-    set_free(words, i, all_free(k));
-}
-
-fn lay_pools(bytes: &[u8], at: usize, n: u32, words: &mut [u32; STATE_WORDS])
-    requires { ⌜ n ≤ maxPools ⌝ }
-    ensures { λ _. ⌜ now (words .exit) ≡ inTurn (laidPool (now (bytes .entry)) at) n 1 (now (words .entry)) ⌝ }
-{
-    let mut i: u32 = 1;
-    let mut left = n;
-    while 0 < left {
-        lay_pool(bytes, at, i, words);
-        i += 1;
-        left -= 1;
-    }
-}
-
-fn lay_entries(bytes: &[u8], p: Plan, words: &mut [u32; STATE_WORDS])
-    requires { ⌜ PlanFits p (length (now bytes)) ⌝ }
-    ensures { λ _. ⌜ now (words .exit) ≡ entered (now (bytes .entry)) p (now (words .entry)) ⌝ }
-{
-    lay_tasks(bytes, p.at.tasks, p.tasks, words);
-    lay_semaphores(bytes, p.at.semaphores, p.semaphores, words);
-    lay_flags(bytes, p.at.flags, p.flags, words);
-    lay_pools(bytes, p.at.pools, p.pools, words);
-}
-
-// ---- queues: the anchors that are in use
-
-// The queues of n anchors are made empty.
-fn empty_queues(words: &mut [u32; STATE_WORDS], first: u32, n: u32)
-    requires { ⌜ first + n < 4294967296 ⌝ }
-    ensures { λ _. ⌜ now (words .exit) ≡ inTurn clearedQueue n first (now (words .entry)) ⌝ }
-{
-    let mut a = first;
-    let mut left = n;
-    while 0 < left {
-        clear(words, a);
-        a += 1;
-        left -= 1;
-    }
-}
-
-fn empty_mailboxes(words: &mut [u32; STATE_WORDS], first: u32, n: u32)
-    requires { ⌜ first + n < 4294967296 ⌝ }
-    ensures { λ _. ⌜ now (words .exit) ≡ inTurn clearedMail n first (now (words .entry)) ⌝ }
-{
-    let mut a = first;
-    let mut left = n;
-    while 0 < left {
-        mail_clear(words, a);
-        a += 1;
-        left -= 1;
-    }
-}
-
-fn empty_all(words: &mut [u32; STATE_WORDS], p: Plan)
-    requires { ⌜ (p .priorities ≤ maxPriorities) × (p .semaphores ≤ maxObjects) × (p .flags ≤ maxObjects) × (p .mailboxes ≤ maxObjects) × (p .pools ≤ maxPools) ⌝ }
-    ensures { λ _. ⌜ now (words .exit) ≡ emptied p (now (words .entry)) ⌝ }
-{
-    empty_queues(words, FIRST_READY, p.priorities);
-    empty_queues(words, FIRST_SEMAPHORE, p.semaphores);
-    empty_queues(words, FIRST_FLAG, p.flags);
-    empty_queues(words, FIRST_MAILBOX, p.mailboxes);
-    empty_queues(words, FIRST_POOL, p.pools);
-    empty_mailboxes(words, FIRST_MAIL, p.mailboxes);
 }
 
 // ---- the started tasks

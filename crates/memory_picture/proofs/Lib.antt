@@ -1,5 +1,6 @@
 -- Laws of what a memory shows.
 pub mod Lines
+pub mod Cases
 pub mod Done
 pub mod Touched
 pub mod OneTask

@@ -12,10 +12,9 @@ use Rattle.kernel_batches.specs.declared.Batch.{Batch}
 use Rattle.kernel_batches.specs.declared.Batch.the-variants as Batch
 use Rattle.kernel_batches.specs.declared.Ran.{Ran}
 use Rattle.kernel_batches.specs.Batches.{Lent, fitted, RunsAs, RunsFrom}
-use Rattle.playback.specs.declared.Played.{Played}
-use Rattle.playback.specs.declared.Played.the-variants.{Written, Short}
-use Rattle.playback.specs.Output.{playedOf}
-use Rattle.playback.specs.Playing.{Shown}
+use Rattle.run_text.specs.declared.Played.{Played}
+use Rattle.run_text.specs.declared.Played.the-variants.{Written, Short}
+use Rattle.run_text.specs.Output.{playedOf, Shown}
 use Rattle.okrozumba.specs.Exports.{ranNumber, playedNumber, playedLength, ShownTold}
 
 of-fault : (f : Fault) → 10 + digit f ≤ 14

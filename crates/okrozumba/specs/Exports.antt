@@ -10,9 +10,9 @@ use Rattle.kernel_start.specs.declared.Started.the-variants as Started
 use Rattle.kernel_batches.specs.declared.Ran.{Ran}
 use Rattle.kernel_batches.specs.declared.Ran.the-variants as Ran
 use Rattle.kernel_batches.specs.Batches.{batchNumber, Lent, Batched, RunsFrom}
-use Rattle.playback.specs.declared.Played.{Played}
-use Rattle.playback.specs.declared.Played.the-variants as Played
-use Rattle.playback.specs.Output.{playedOf, outputOf}
+use Rattle.run_text.specs.declared.Played.{Played}
+use Rattle.run_text.specs.declared.Played.the-variants as Played
+use Rattle.run_text.specs.Output.{playedOf, outputOf}
 
 -- ---- numbers and places
 

@@ -6,14 +6,14 @@ use kernel_cells::Reading;
 use kernel_events::Answer;
 use kernel_start::Started;
 use memory_columns::STATE_WORDS;
-use playback::Played;
+use run_text::Played;
 ghost use mathlib.Core.Path.{_≡_};
 ghost use Prim.Native.Nat.{_≤_};
 ghost use Rattle.rules.specs.Events as Events;
 ghost use Rattle.kernel_events.specs.Steps.{reply, Step};
 ghost use Rattle.kernel_cells.specs.Promises.{Reads, Runs};
 ghost use Rattle.kernel_batches.specs.Batches.{batchNumber, lent};
-ghost use Rattle.playback.specs.Text.{textOf};
+ghost use Rattle.run_playback.specs.Text.{textOf};
 ghost use Rattle.okrozumba.specs.Exports.{startNumber, startPlace, ranNumber, ranPlace, playedNumber, playedLength, StartsTold, BatchedTold, RunsTold, ShownTold};
 
 // An enum's number; and the place of a setup's fault, else 0.
@@ -186,5 +186,5 @@ fn played_told(played: Played) -> Told
 pub extern "C" fn okrozumba_play(file: &[u8], text: &mut [u8]) -> Told
     ensures { λ r. ⌜ ShownTold (textOf (now (file .entry))) (r .number) (r .length) (now (text .entry)) (now (text .exit)) ⌝ }
 {
-    played_told(playback::play(file, text))
+    played_told(run_playback::play(file, text))
 }

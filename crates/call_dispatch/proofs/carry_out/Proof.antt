@@ -8,7 +8,7 @@ use Rattle.rules.specs.Objects.{clr-flg, obj-sts, rel-blk, set-flg, sig-sem, sn
 use Rattle.rules.specs.Rows.{staTsk, extTsk, terTsk, chgPri, rotRdq, relWai, susTsk, rsmTsk, slpTsk, waiTsk, wupTsk, canWup, sigSem, waiSem, preqSem, setFlg, clrFlg, waiFlg, polFlg, sndMsg, rcvMsg, prcvMsg, getBlk, pgetBlk, relBlk, getTid, tskSts, semSts, flgSts, mbxSts, mplSts, getTim}
 use Rattle.rules.specs.Table.{table}
 use Rattle.rules.proofs.Waits.{in-by}
-use Rattle.guard.specs.Tests.{every}
+use Rattle.check_ranges.specs.Ranges.{every}
 use Rattle.call_judging.proofs.Numbered.{keyed, no-row}
 use Rattle.call_dispatch.proofs.Arms.{upto, caller-is, by-row, by-none}
 use borrow.Author.Needs.{needs}

@@ -6,7 +6,7 @@ use mir.Facts.{toZ-ofZ}
 use Rattle.rules.specs.State as Kind
 use Rattle.rules.specs.Rows.{extTsk, slpTsk, getTid, getTim, staTsk, relWai, rsmTsk, tskSts, canWup, susTsk, wupTsk, terTsk, chgPri, rotRdq, waiTsk, sigSem, preqSem, semSts, waiSem, setFlg, flgSts, clrFlg, waiFlg, polFlg, sndMsg, prcvMsg, mbxSts, rcvMsg, pgetBlk, mplSts, relBlk, getBlk}
 use Rattle.rules.specs.Table.{table}
-use Rattle.guard.specs.Tests.{every}
+use Rattle.check_ranges.specs.Ranges.{every}
 use Rattle.call_judging.specs.Judging.{rowAt, rowCode}
 use Rattle.call_words.proofs.Signed.{saying}
 use Rattle.call_judging.proofs.Numbered.{keyed, no-row}

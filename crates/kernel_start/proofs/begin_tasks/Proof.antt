@@ -3,8 +3,9 @@ use Prim.Native.Nat.{_+_, _≤_}
 use mathlib.Core.Path.{_≡_, refl, _∙_}
 use native.Mathlib.Omega.{arith}
 use borrow.Author.Needs.{needs}
-use Rattle.kernel_start.specs.Starting.{inTurn, begun}
-use Rattle.kernel_start.proofs.Steps.{turn-none, turn-step}
+use Rattle.kernel_fresh.specs.Laying.{inTurn}
+use Rattle.kernel_start.specs.Starting.{begun}
+use Rattle.kernel_fresh.proofs.Steps.{turn-none, turn-step}
 use Rattle.kernel_start.proofs.begin_tasks.Statement.{statement}
 use Rattle.kernel_start.proofs.begin_tasks.Tie as tie
 

@@ -1,6 +1,6 @@
 -- `main`: what `play` has written lies within the output. Assumes nothing.
 use native.Mathlib.Omega.{arith}
-use Rattle.playback.proofs.Laid.{written-within}
+use Rattle.run_text.proofs.Laid.{written-within}
 use borrow.Author.Needs.{needs}
 use Rattle.play.proofs.main.Statement.{statement}
 use Rattle.play.proofs.main.Tie as tie

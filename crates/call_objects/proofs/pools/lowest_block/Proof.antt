@@ -1,6 +1,6 @@
 -- `call_objects::pools::lowest_block` meets its contract. Below the lowest bit stand as many bits as are 0 there. Assumes nothing.
 use native.Mathlib.Omega.{arith}
-use Rattle.guard.proofs.Loops.{lowest-at, lowest-none}
+use Rattle.memory_running.proofs.Marks.{lowest-at, lowest-none}
 use borrow.Author.Needs.{needs}
 use Rattle.call_objects.proofs.pools.lowest_block.Statement.{statement}
 use Rattle.call_objects.proofs.pools.lowest_block.Tie as tie

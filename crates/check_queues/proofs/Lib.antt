@@ -1,0 +1,4 @@
+-- Laws of the check of queues.
+pub mod Homes
+pub mod Queued
+pub mod Steps

@@ -1,0 +1,2 @@
+-- The tests of queues.
+pub mod Queues

@@ -1,0 +1,49 @@
+-- The loops over ids: what the rest gives from here is what the whole gives. Assumes nothing.
+use Prim.Native.Nat.{ℕ, suc, _+_, _-_, _≤_, _<_}
+use mathlib.Core.Path.{_≡_, sym, ap, _∙_}
+use mathlib.Core.Bool.{Bool, true, false, not, true≢false}
+use native.Mathlib.Numerals.{add-one}
+use native.Mathlib.Omega.{arith}
+use borrow.Author.Tests.{le-leb, lt-leb, not-true}
+use native.Mathlib.Decide.{decLe}
+use Rattle.memory_columns.specs.Layout.{atMost}
+use Rattle.check_ranges.proofs.Steps.{failed}
+use Rattle.check_ranges.specs.Ranges.{every}
+
+-- the ids from i on, `left` of them, decide as all n do
+abbrev pub Going : (ℕ → Bool) → ℕ → ℕ → ℕ → Type 0
+Going f n i left = (every left i f ≡ every n 1 f) × (i + left ≡ n + 1)
+
+module _ (f : ℕ → Bool) (n i left : ℕ) (g : Going f n i left) where
+  pub going-done : left ≤ 0 → true ≡ every n 1 f
+  unfolding every
+  going-done h = let z : left ≡ 0 = omega arith in rw z at (g .0)
+
+  module _ (h : 0 < left) where
+    one : every left i f ≡ every (suc (left - 1)) i f
+    one = ap (λ (k : ℕ). every k i f) (omega arith)
+
+    pub going-fail : f i ≡ false → false ≡ every n 1 f
+    unfolding every
+    going-fail e = (rw e at (sym one)) ∙ g .0
+
+    pub going-on : f i ≡ true → Going f n (i + 1) (left - 1)
+    unfolding every
+    going-on e = (rw add-one ((rw e at (sym one)) ∙ g .0), omega arith)
+
+-- a count that is one is itself; one that is not gives a loop that fails nowhere
+module _ (f : ℕ → Bool) {most s k n : ℕ} {r : Bool} (es : s ≡ k) (en : (n ≡ atMost s most) × (n ≤ most)) (er : r ≡ every n 1 f) where
+  count : n ≡ atMost k most
+  count = rw (← es) (en .0)
+
+  pub loop-is : k ≤ most → r ≡ every k 1 f
+  loop-is h = let z : n ≡ k = rw (le-leb k most h) at count in rw z at er
+
+  pub loop-fails : not r ≡ true → every k 1 f ≡ false
+  unfolding every
+  loop-fails t = elim (decLe k most) [
+    | yes h ↦ failed (loop-is h) t
+    | no h ↦
+        let z : n ≡ 0 = rw (lt-leb k most (omega arith)) at count in
+        absurd (true≢false (sym (rw z at er) ∙ not-true r t))
+  ]

@@ -1,0 +1,54 @@
+-- `check_ranges::flags_ok` meets its contract. The ids that are left decide as all of them do. Assumes nothing.
+use mathlib.Core.Path.{refl}
+use native.Mathlib.Omega.{arith}
+use Rattle.check_ranges.specs.Ranges.{flagOk}
+use Rattle.check_ranges.proofs.Steps.{above, upto}
+use Rattle.check_ranges.proofs.Loops.{Going, going-done, going-fail, going-on}
+use borrow.Author.Needs.{needs}
+use Rattle.check_ranges.proofs.flags_ok.Statement.{statement}
+use Rattle.check_ranges.proofs.flags_ok.Tie as tie
+
+abbrev Inv-loop : tie.InvT-loop
+Inv-loop words n i₀ left₀ i left = Going (flagOk words) n i left
+
+abbrev μ-loop : tie.MeasureT-loop
+μ-loop words n i₀ left₀ i left = left
+
+loop-holds : tie.Need-loop-holds Inv-loop μ-loop
+loop-holds c = (refl, omega arith)
+
+flag-requires : tie.Need-flag-requires Inv-loop μ-loop
+flag-requires c κs = search needs
+
+returns : tie.Need-returns Inv-loop μ-loop
+returns c = let b = c .before .before in going-fail _ _ _ _ (b .before .loop .inv) (b .loop-test .taken) (above (c .before .flag .ensures) refl (c .if1 .taken))
+
+add-i : tie.Need-add-i Inv-loop μ-loop
+add-i c = search needs
+
+sub-left : tie.Need-sub-left Inv-loop μ-loop
+sub-left c = search needs
+
+loop-less : tie.Need-loop-less Inv-loop μ-loop
+loop-less c = search needs
+
+loop-again : tie.Need-loop-again Inv-loop μ-loop
+loop-again c = let b = c .before .before in going-on _ _ _ _ (b .before .loop .inv) (b .loop-test .taken) (upto (c .before .flag .ensures) refl (c .if1 .left))
+
+returns-2 : tie.Need-returns-2 Inv-loop μ-loop
+returns-2 c = going-done _ _ _ _ (c .before .loop .inv) (c .loop-test .left)
+
+pub flags-ok-spec : {M : Type 1} → statement M
+flags-ok-spec =
+    tie.close
+    (tie.spec
+    Inv-loop
+    μ-loop
+    loop-holds
+    flag-requires
+    returns
+    add-i
+    sub-left
+    loop-less
+    loop-again
+    returns-2)

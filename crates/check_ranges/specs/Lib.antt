@@ -1,0 +1,2 @@
+-- The tests of ranges.
+pub mod Ranges

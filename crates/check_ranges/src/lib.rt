@@ -1,0 +1,317 @@
+// The first part of the check of a memory: numbers lie in their ranges. Each task, object and message that the counts name is looked at once.
+use memory_columns::ASLEEP;
+use memory_columns::CELL_OK;
+use memory_columns::CELL_RLWAI;
+use memory_columns::CELL_TMOUT;
+use memory_columns::CLOCK_HIGH;
+use memory_columns::CLOCK_LOW;
+use memory_columns::DORMANT;
+use memory_columns::FLAG;
+use memory_columns::FLAGS;
+use memory_columns::MAILBOX;
+use memory_columns::MAILBOXES;
+use memory_columns::MAX_BLOCKS;
+use memory_columns::MAX_MESSAGES;
+use memory_columns::MAX_OBJECTS;
+use memory_columns::MAX_POOLS;
+use memory_columns::MAX_PRIORITIES;
+use memory_columns::MAX_TASKS;
+use memory_columns::MESSAGE_WORDS;
+use memory_columns::MESSAGES;
+use memory_columns::POOL;
+use memory_columns::POOLS;
+use memory_columns::PRIORITIES;
+use memory_columns::READY;
+use memory_columns::SEMAPHORE;
+use memory_columns::SEMAPHORES;
+use memory_columns::STATE_WORDS;
+use memory_columns::SUSPEND;
+use memory_columns::TASKS;
+use memory_columns::TIMED;
+use memory_columns::WAIT;
+use memory_columns::WAIT_SUSPEND;
+use memory_columns::at_most;
+use memory_columns::code;
+use memory_columns::flag;
+use memory_columns::free;
+use memory_columns::kind;
+use memory_columns::mode;
+use memory_columns::object;
+use memory_columns::priority;
+use memory_columns::semaphore;
+use memory_columns::size;
+use memory_columns::start;
+use memory_columns::status;
+use memory_columns::system;
+use memory_columns::ticks;
+use memory_columns::wakeups;
+use memory_columns::wish;
+use memory_columns::word;
+use memory_objects::marks::mark_of;
+ghost use mathlib.Core.Path.{_≡_};
+ghost use Prim.Native.Nat.{_≤_};
+ghost use Rattle.memory_columns.specs.Layout.{maxMessages};
+ghost use Rattle.check_ranges.specs.Ranges as Ranges;
+ghost use Rattle.check_ranges.specs.Ranges.{every};
+
+// One of 1 to n.
+fn within(i: u32, n: u32) -> bool
+    ensures { λ r. ⌜ r ≡ Ranges.within i n ⌝ }
+{
+    if i == 0 { false } else { i <= n }
+}
+
+// The numbers of things, and the clock.
+fn sizes_ok(words: &[u32; STATE_WORDS]) -> bool
+    ensures { λ r. ⌜ r ≡ Ranges.sizesOk (now (words .entry)) ⌝ }
+{
+    if !within(system(words, PRIORITIES), MAX_PRIORITIES) {
+        return false;
+    }
+    if !within(system(words, TASKS), MAX_TASKS) {
+        return false;
+    }
+    if MAX_OBJECTS < system(words, SEMAPHORES) {
+        return false;
+    }
+    if MAX_OBJECTS < system(words, FLAGS) {
+        return false;
+    }
+    if MAX_OBJECTS < system(words, MAILBOXES) {
+        return false;
+    }
+    if MAX_MESSAGES < system(words, MESSAGES) {
+        return false;
+    }
+    if MAX_POOLS < system(words, POOLS) {
+        return false;
+    }
+    // Always so of a 32-bit word; said because a definition's number could be larger.
+    if 4294967295 < system(words, CLOCK_LOW) {
+        return false;
+    }
+    system(words, CLOCK_HIGH) < 65536
+}
+
+fn cell_ok(code: u32, word: u32) -> bool
+    ensures { λ r. ⌜ r ≡ Ranges.cellOk code word ⌝ }
+{
+    match code {
+        CELL_OK => true,
+        CELL_TMOUT => word == 0,
+        CELL_RLWAI => word == 0,
+        _ => false,
+    }
+}
+
+fn wish_ok(wish: u32, mode: u32) -> bool
+    ensures { λ r. ⌜ r ≡ Ranges.wishOk wish mode ⌝ }
+{
+    if wish == 0 { false } else { mode <= 3 }
+}
+
+fn ticks_ok(wakeups: u32, ticks: u32) -> bool
+    ensures { λ r. ⌜ r ≡ Ranges.ticksOk wakeups ticks ⌝ }
+{
+    if wakeups == 0 {
+        within(ticks, 2147483647)
+    } else {
+        false
+    }
+}
+
+fn flag_wait_ok(object: u32, flags: u32, wish: u32, mode: u32) -> bool
+    ensures { λ r. ⌜ r ≡ Ranges.flagWaitOk object flags wish mode ⌝ }
+{
+    if within(object, flags) {
+        wish_ok(wish, mode)
+    } else {
+        false
+    }
+}
+
+// The wait of task t.
+fn wait_ok(words: &[u32; STATE_WORDS], t: u32) -> bool
+    ensures { λ r. ⌜ r ≡ Ranges.waitAt (now (words .entry)) t ⌝ }
+{
+    let k = kind(words, t);
+    match k {
+        ASLEEP => wakeups(words, t) == 0,
+        TIMED => ticks_ok(wakeups(words, t), ticks(words, t)),
+        SEMAPHORE => within(object(words, t), system(words, SEMAPHORES)),
+        FLAG => flag_wait_ok(
+            object(words, t),
+            system(words, FLAGS),
+            wish(words, t),
+            mode(words, t),
+        ),
+        MAILBOX => within(object(words, t), system(words, MAILBOXES)),
+        POOL => within(object(words, t), system(words, POOLS)),
+        _ => false,
+    }
+}
+
+fn rest_ok(words: &[u32; STATE_WORDS], t: u32) -> bool
+    ensures { λ r. ⌜ r ≡ Ranges.restOk (now (words .entry)) t ⌝ }
+{
+    if wakeups(words, t) == 0 {
+        priority(words, t) == start(words, t)
+    } else {
+        false
+    }
+}
+
+fn state_ok(words: &[u32; STATE_WORDS], t: u32) -> bool
+    ensures { λ r. ⌜ r ≡ Ranges.stateOk (now (words .entry)) t ⌝ }
+{
+    let s = status(words, t);
+    match s {
+        DORMANT => rest_ok(words, t),
+        READY => true,
+        WAIT => wait_ok(words, t),
+        SUSPEND => true,
+        WAIT_SUSPEND => wait_ok(words, t),
+        _ => false,
+    }
+}
+
+fn task_ok(words: &[u32; STATE_WORDS], t: u32) -> bool
+    ensures { λ r. ⌜ r ≡ Ranges.taskOk (now (words .entry)) t ⌝ }
+{
+    let most = system(words, PRIORITIES);
+    if !within(priority(words, t), most) {
+        return false;
+    }
+    if !within(start(words, t), most) {
+        return false;
+    }
+    if 15 < wakeups(words, t) {
+        return false;
+    }
+    if !cell_ok(code(words, t), word(words, t)) {
+        return false;
+    }
+    state_ok(words, t)
+}
+
+fn tasks_ok(words: &[u32; STATE_WORDS], n: u32) -> bool
+    requires { ⌜ n ≤ maxMessages ⌝ }
+    ensures { λ r. ⌜ r ≡ every n 1 (Ranges.taskOk (now (words .entry))) ⌝ }
+{
+    let mut i: u32 = 1;
+    let mut left = n;
+    while 0 < left {
+        if !task_ok(words, i) {
+            return false;
+        }
+        i += 1;
+        left -= 1;
+    }
+    true
+}
+
+fn semaphores_ok(words: &[u32; STATE_WORDS], n: u32) -> bool
+    requires { ⌜ n ≤ maxMessages ⌝ }
+    ensures { λ r. ⌜ r ≡ every n 1 (Ranges.semaphoreOk (now (words .entry))) ⌝ }
+{
+    let mut i: u32 = 1;
+    let mut left = n;
+    while 0 < left {
+        if 65535 < semaphore(words, i) {
+            return false;
+        }
+        i += 1;
+        left -= 1;
+    }
+    true
+}
+
+// Patterns are words of 32 bits.
+fn flags_ok(words: &[u32; STATE_WORDS], n: u32) -> bool
+    requires { ⌜ n ≤ maxMessages ⌝ }
+    ensures { λ r. ⌜ r ≡ every n 1 (Ranges.flagOk (now (words .entry))) ⌝ }
+{
+    let mut i: u32 = 1;
+    let mut left = n;
+    while 0 < left {
+        if 4294967295 < flag(words, i) {
+            return false;
+        }
+        i += 1;
+        left -= 1;
+    }
+    true
+}
+
+fn pool_ok(words: &[u32; STATE_WORDS], p: u32) -> bool
+    ensures { λ r. ⌜ r ≡ Ranges.poolOk (now (words .entry)) p ⌝ }
+{
+    let k = size(words, p);
+    let mask = free(words, p);
+    if k == 0 {
+        return false;
+    }
+    if k < MAX_BLOCKS {
+        return mask >> k == 0;
+    }
+    k == MAX_BLOCKS
+}
+
+fn pools_ok(words: &[u32; STATE_WORDS], n: u32) -> bool
+    requires { ⌜ n ≤ maxMessages ⌝ }
+    ensures { λ r. ⌜ r ≡ every n 1 (Ranges.poolOk (now (words .entry))) ⌝ }
+{
+    let mut i: u32 = 1;
+    let mut left = n;
+    while 0 < left {
+        if !pool_ok(words, i) {
+            return false;
+        }
+        i += 1;
+        left -= 1;
+    }
+    true
+}
+
+fn messages_ok(words: &[u32; STATE_WORDS], messages: &[u32; MESSAGE_WORDS], n: u32) -> bool
+    requires { ⌜ n ≤ maxMessages ⌝ }
+    ensures { λ r. ⌜ r ≡ every n 1 (Ranges.messageOk (now (words .entry)) (now (messages .entry))) ⌝ }
+{
+    let mailboxes = system(words, MAILBOXES);
+    let mut j: u32 = 1;
+    let mut left = n;
+    while 0 < left {
+        if mailboxes < mark_of(messages, j) {
+            return false;
+        }
+        j += 1;
+        left -= 1;
+    }
+    true
+}
+
+// All ranges. The counts have been judged before a loop is run over them.
+pub fn ranges_ok(words: &[u32; STATE_WORDS], messages: &[u32; MESSAGE_WORDS]) -> bool
+    ensures { λ r. ⌜ r ≡ Ranges.rangesOk (now (words .entry)) (now (messages .entry)) ⌝ }
+{
+    if !sizes_ok(words) {
+        return false;
+    }
+    if !tasks_ok(words, at_most(system(words, TASKS), MAX_TASKS)) {
+        return false;
+    }
+    if !semaphores_ok(words, at_most(system(words, SEMAPHORES), MAX_OBJECTS)) {
+        return false;
+    }
+    if !flags_ok(words, at_most(system(words, FLAGS), MAX_OBJECTS)) {
+        return false;
+    }
+    if !pools_ok(words, at_most(system(words, POOLS), MAX_POOLS)) {
+        return false;
+    }
+    messages_ok(
+        words,
+        messages,
+        at_most(system(words, MESSAGES), MAX_MESSAGES),
+    )
+}

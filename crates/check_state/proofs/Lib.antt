@@ -1,0 +1,3 @@
+-- Laws of the check.
+pub mod Unserved
+pub mod Accepted

@@ -1,0 +1,66 @@
+-- `check_state::accepts_test` meets its contract. Each refusal is a test that fails. Assumes nothing.
+use mathlib.Core.Bool.{and-false}
+use Rattle.check_ranges.proofs.Steps.{failed, passed, also, few-ranges}
+use Rattle.check_ranges.proofs.Loops.{loop-is}
+use Rattle.check_state.specs.Unserved.{accepts}
+use borrow.Author.Needs.{needs}
+use Rattle.check_state.proofs.accepts_test.Statement.{statement}
+use Rattle.check_state.proofs.accepts_test.Tie as tie
+
+ranges-ok-requires : tie.Need-ranges-ok-requires
+ranges-ok-requires c κs = search needs
+
+returns : tie.Need-returns
+unfolding accepts
+returns c = simp (failed (c .before .ranges-ok .ensures) (c .if1 .taken))
+
+tasks-queued-requires : tie.Need-tasks-queued-requires
+tasks-queued-requires c κs = few-ranges _ _ (passed (c .before .ranges-ok .ensures) (c .if1 .left)) .tasks
+
+returns-2 : tie.Need-returns-2
+unfolding accepts
+returns-2 c = simp (failed (c .before .tasks-queued .ensures) (c .if2 .taken), and-false)
+
+mail-queued-requires : tie.Need-mail-queued-requires
+mail-queued-requires c κs = let i = c .before .before in few-ranges _ _ (passed (i .before .ranges-ok .ensures) (i .if1 .left)) .messages
+
+returns-3 : tie.Need-returns-3
+unfolding accepts
+returns-3 c = simp (failed (c .before .mail-queued .ensures) (c .if3 .taken), and-false)
+
+system-requires : tie.Need-system-requires
+system-requires c κs = search needs
+
+at-most-requires : tie.Need-at-most-requires
+at-most-requires c κs = search needs
+
+all-unserved-requires : tie.Need-all-unserved-requires
+all-unserved-requires c κs = search needs
+
+returns-4 : tie.Need-returns-4
+unfolding accepts
+returns-4 c =
+    let a = c .before in
+    let i3 = a .before .before in
+    let i2 = i3 .before .before in
+    let i1 = i2 .before .before in
+    let r = passed (i1 .before .ranges-ok .ensures) (i1 .if1 .left) in
+    also r
+    (also (passed (i2 .before .tasks-queued .ensures) (i2 .if2 .left))
+    (also (passed (i3 .before .mail-queued .ensures) (i3 .if3 .left))
+    (loop-is _ (a .before .system .ensures) (a .at-most .ensures) (c .all-unserved .ensures) (few-ranges _ _ r .tasks))))
+
+pub accepts-test-spec : {M : Type 1} → statement M
+accepts-test-spec =
+    tie.close
+    (tie.spec
+    ranges-ok-requires
+    returns
+    tasks-queued-requires
+    returns-2
+    mail-queued-requires
+    returns-3
+    system-requires
+    at-most-requires
+    all-unserved-requires
+    returns-4)

@@ -1,0 +1,2 @@
+-- The test that nobody waits beside what would serve him, and the whole check.
+pub mod Unserved

@@ -1,0 +1,52 @@
+-- Invariant: what is left, from here, is the whole from the start.
+use Prim.Native.Nat.{_+_, _≤_}
+use mathlib.Core.Path.{_≡_, refl, _∙_}
+use native.Mathlib.Omega.{arith}
+use borrow.Author.Needs.{needs}
+use Rattle.kernel_fresh.specs.Laying.{inTurn, laidSemaphore}
+use Rattle.kernel_fresh.proofs.Steps.{turn-none, turn-step}
+use Rattle.kernel_fresh.proofs.lay_semaphores.Statement.{statement}
+use Rattle.kernel_fresh.proofs.lay_semaphores.Tie as tie
+
+abbrev Inv-loop : tie.InvT-loop
+Inv-loop bytes at n words₀ i₀ left₀ words i left = (inTurn (laidSemaphore bytes at) left i words ≡ inTurn (laidSemaphore bytes at) n 1 words₀) × (i + left ≡ n + 1) × (1 ≤ i)
+
+abbrev μ-loop : tie.MeasureT-loop
+μ-loop bytes at n words₀ i₀ left₀ words i left = left
+
+loop-holds : tie.Need-loop-holds Inv-loop μ-loop
+loop-holds c = (refl, omega arith, omega arith)
+
+lay-semaphore-requires : tie.Need-lay-semaphore-requires Inv-loop μ-loop
+lay-semaphore-requires c κs = search needs
+
+add-i : tie.Need-add-i Inv-loop μ-loop
+add-i c = search needs
+
+sub-left : tie.Need-sub-left Inv-loop μ-loop
+sub-left c = search needs
+
+loop-less : tie.Need-loop-less Inv-loop μ-loop
+loop-less c = search needs
+
+loop-again : tie.Need-loop-again Inv-loop μ-loop
+loop-again c =
+    let l = c .before .before in
+    (turn-step _ _ _ _ (l .loop-test .taken) (c .lay-semaphore .ensures) ∙ l .before .loop .inv .0, omega arith, omega arith)
+
+returns : tie.Need-returns Inv-loop μ-loop
+returns c = turn-none _ _ _ _ (c .loop-test .left) ∙ c .before .loop .inv .0
+
+pub lay-semaphores-spec : {M : Type 1} → statement M
+lay-semaphores-spec =
+    tie.close
+    (tie.spec
+    Inv-loop
+    μ-loop
+    loop-holds
+    lay-semaphore-requires
+    add-i
+    sub-left
+    loop-less
+    loop-again
+    returns)

@@ -1,0 +1,2 @@
+-- What a plan writes into the memory.
+pub mod Laying

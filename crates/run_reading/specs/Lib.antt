@@ -1,0 +1,2 @@
+-- Recorded runs as bytes.
+pub mod Recorded
