@@ -1,43 +1,57 @@
 // A call by its number, on a memory that is known to be sound: what is judged of any call, then the call's own rule. `me` is the caller, 0 from
 // a handler and while nothing runs.
+pub mod numbers;
+
+use crate::numbers::CAN_WUP;
+use crate::numbers::CHG_PRI;
+use crate::numbers::CLR_FLG;
+use crate::numbers::EXT_TSK;
+use crate::numbers::FLG_STS;
+use crate::numbers::GET_BLK;
+use crate::numbers::GET_TID;
+use crate::numbers::GET_TIM;
+use crate::numbers::MBX_STS;
+use crate::numbers::MPL_STS;
+use crate::numbers::PGET_BLK;
+use crate::numbers::POL_FLG;
+use crate::numbers::PRCV_MSG;
+use crate::numbers::PREQ_SEM;
+use crate::numbers::RCV_MSG;
+use crate::numbers::REL_BLK;
+use crate::numbers::REL_WAI;
+use crate::numbers::ROT_RDQ;
+use crate::numbers::RSM_TSK;
+use crate::numbers::SEM_STS;
+use crate::numbers::SET_FLG;
+use crate::numbers::SIG_SEM;
+use crate::numbers::SLP_TSK;
+use crate::numbers::SND_MSG;
+use crate::numbers::STA_TSK;
+use crate::numbers::SUS_TSK;
+use crate::numbers::TER_TSK;
+use crate::numbers::TSK_STS;
+use crate::numbers::WAI_FLG;
+use crate::numbers::WAI_SEM;
+use crate::numbers::WAI_TSK;
+use crate::numbers::WUP_TSK;
 use call_flags::clr_flg;
 use call_flags::flg_sts;
 use call_flags::pol_flg;
 use call_flags::set_flg;
 use call_flags::wai_flg;
-use call_judging::numbers::CAN_WUP;
-use call_judging::numbers::CHG_PRI;
-use call_judging::numbers::CLR_FLG;
-use call_judging::numbers::EXT_TSK;
-use call_judging::numbers::FLG_STS;
-use call_judging::numbers::GET_BLK;
-use call_judging::numbers::GET_TID;
-use call_judging::numbers::GET_TIM;
-use call_judging::numbers::MBX_STS;
-use call_judging::numbers::MPL_STS;
-use call_judging::numbers::PGET_BLK;
-use call_judging::numbers::POL_FLG;
-use call_judging::numbers::PRCV_MSG;
-use call_judging::numbers::PREQ_SEM;
-use call_judging::numbers::RCV_MSG;
-use call_judging::numbers::REL_BLK;
-use call_judging::numbers::REL_WAI;
-use call_judging::numbers::ROT_RDQ;
-use call_judging::numbers::RSM_TSK;
-use call_judging::numbers::SEM_STS;
-use call_judging::numbers::SET_FLG;
-use call_judging::numbers::SIG_SEM;
-use call_judging::numbers::SLP_TSK;
-use call_judging::numbers::SND_MSG;
-use call_judging::numbers::STA_TSK;
-use call_judging::numbers::SUS_TSK;
-use call_judging::numbers::TER_TSK;
-use call_judging::numbers::TSK_STS;
-use call_judging::numbers::WAI_FLG;
-use call_judging::numbers::WAI_SEM;
-use call_judging::numbers::WAI_TSK;
-use call_judging::numbers::WUP_TSK;
-use call_judging::refusal;
+use call_judging::ALIVE;
+use call_judging::ANOTHER;
+use call_judging::ANYONE;
+use call_judging::BOTH;
+use call_judging::TASK_ONLY;
+use call_judging::on_flag;
+use call_judging::on_message;
+use call_judging::on_nothing;
+use call_judging::on_object;
+use call_judging::on_priority;
+use call_judging::on_queue;
+use call_judging::on_task;
+use call_judging::on_time;
 use call_objects::mailboxes::mbx_sts;
 use call_objects::mailboxes::prcv_msg;
 use call_objects::mailboxes::rcv_msg;
@@ -67,60 +81,15 @@ use call_tasks::wup_tsk;
 use call_words::Outcome;
 use call_words::bits_of;
 use call_words::codes::H_CALL;
+use call_words::codes::OK;
 use call_words::named;
 use call_words::refuse;
+use memory_columns::FLAGS;
+use memory_columns::MAILBOXES;
+use memory_columns::POOLS;
+use memory_columns::SEMAPHORES;
 use memory_columns::STATE_WORDS;
-ghost use Rattle.call_dispatch.specs.Dispatching.{CarriesOut, Dispatches};
-
-// What is left of a call of which nothing is refused.
-fn carry_out(
-    words: &mut [u32; STATE_WORDS],
-    messages: &mut [u32; 256],
-    me: u32,
-    n: u32,
-    a: i32,
-    b: i32,
-    c: i32,
-) -> Outcome
-    ensures { λ r. ⌜ CarriesOut me n a b c r (now (words .entry)) (now (messages .entry)) (now (words .exit)) (now (messages .exit)) ⌝ }
-{
-    let i = named(a);
-    match n {
-        STA_TSK => sta_tsk(words, i),
-        EXT_TSK => ter_tsk(words, me),
-        TER_TSK => ter_tsk(words, i),
-        CHG_PRI => chg_pri(words, i, named(b)),
-        ROT_RDQ => rot_rdq(words, i),
-        REL_WAI => rel_wai(words, i),
-        SUS_TSK => sus_tsk(words, i),
-        RSM_TSK => rsm_tsk(words, i),
-        SLP_TSK => slp_tsk(words, me),
-        WAI_TSK => wai_tsk(words, me, a),
-        WUP_TSK => wup_tsk(words, i),
-        CAN_WUP => can_wup(words, i),
-        SIG_SEM => sig_sem(words, i),
-        WAI_SEM => wai_sem(words, me, i),
-        PREQ_SEM => preq_sem(words, i),
-        SET_FLG => set_flg(words, i, bits_of(b)),
-        CLR_FLG => clr_flg(words, i, bits_of(b)),
-        WAI_FLG => wai_flg(words, me, i, bits_of(b), named(c)),
-        POL_FLG => pol_flg(words, i, bits_of(b), named(c)),
-        SND_MSG => snd_msg(words, messages, i, named(b)),
-        RCV_MSG => rcv_msg(words, messages, me, i),
-        PRCV_MSG => prcv_msg(words, messages, i),
-        GET_BLK => get_blk(words, me, i),
-        PGET_BLK => pget_blk(words, i),
-        REL_BLK => rel_blk(words, i, named(b)),
-        GET_TID => get_tid(words),
-        TSK_STS => tsk_sts(words, i),
-        SEM_STS => sem_sts(words, i),
-        FLG_STS => flg_sts(words, i),
-        MBX_STS => mbx_sts(words, i),
-        MPL_STS => mpl_sts(words, i),
-        GET_TIM => get_tim(words),
-        _ => refuse(H_CALL),
-    }
-}
+ghost use Rattle.call_dispatch.specs.Dispatching.{Dispatches};
 
 pub fn dispatch(
     words: &mut [u32; STATE_WORDS],
@@ -134,9 +103,138 @@ pub fn dispatch(
 ) -> Outcome
     ensures { λ r. ⌜ Dispatches handler me n a b c r (now (words .entry)) (now (messages .entry)) (now (words .exit)) (now (messages .exit)) ⌝ }
 {
-    let e = refusal(words, handler, me, n, a, b, c);
-    if e < 0 {
-        return refuse(e);
+    let i = named(a);
+    let j = named(b);
+    let p = bits_of(b);
+    match n {
+        STA_TSK => match on_task(words, BOTH, ANYONE, handler, me, i) {
+            OK => sta_tsk(words, i),
+            e => refuse(e),
+        },
+        EXT_TSK => match on_nothing(words, TASK_ONLY, handler, me) {
+            OK => ter_tsk(words, me),
+            e => refuse(e),
+        },
+        TER_TSK => match on_task(words, TASK_ONLY, ANOTHER, handler, me, i) {
+            OK => ter_tsk(words, i),
+            e => refuse(e),
+        },
+        CHG_PRI => match on_priority(words, handler, me, i, j) {
+            OK => chg_pri(words, i, j),
+            e => refuse(e),
+        },
+        ROT_RDQ => match on_queue(words, handler, me, a) {
+            OK => rot_rdq(words, i),
+            e => refuse(e),
+        },
+        REL_WAI => match on_task(words, BOTH, ANYONE, handler, me, i) {
+            OK => rel_wai(words, i),
+            e => refuse(e),
+        },
+        SUS_TSK => match on_task(words, BOTH, ANOTHER, handler, me, i) {
+            OK => sus_tsk(words, i),
+            e => refuse(e),
+        },
+        RSM_TSK => match on_task(words, BOTH, ANYONE, handler, me, i) {
+            OK => rsm_tsk(words, i),
+            e => refuse(e),
+        },
+        SLP_TSK => match on_nothing(words, TASK_ONLY, handler, me) {
+            OK => slp_tsk(words, me),
+            e => refuse(e),
+        },
+        WAI_TSK => match on_time(words, handler, me, a) {
+            OK => wai_tsk(words, me, a),
+            e => refuse(e),
+        },
+        WUP_TSK => match on_task(words, BOTH, ANOTHER, handler, me, i) {
+            OK => wup_tsk(words, i),
+            e => refuse(e),
+        },
+        CAN_WUP => match on_task(words, BOTH, ALIVE, handler, me, i) {
+            OK => can_wup(words, i),
+            e => refuse(e),
+        },
+        SIG_SEM => match on_object(words, SEMAPHORES, BOTH, handler, me, i) {
+            OK => sig_sem(words, i),
+            e => refuse(e),
+        },
+        WAI_SEM => match on_object(words, SEMAPHORES, TASK_ONLY, handler, me, i) {
+            OK => wai_sem(words, me, i),
+            e => refuse(e),
+        },
+        PREQ_SEM => match on_object(words, SEMAPHORES, BOTH, handler, me, i) {
+            OK => preq_sem(words, i),
+            e => refuse(e),
+        },
+        SET_FLG => match on_object(words, FLAGS, BOTH, handler, me, i) {
+            OK => set_flg(words, i, p),
+            e => refuse(e),
+        },
+        CLR_FLG => match on_object(words, FLAGS, BOTH, handler, me, i) {
+            OK => clr_flg(words, i, p),
+            e => refuse(e),
+        },
+        WAI_FLG => match on_flag(words, TASK_ONLY, handler, me, i, p, c) {
+            OK => wai_flg(words, me, i, p, named(c)),
+            e => refuse(e),
+        },
+        POL_FLG => match on_flag(words, BOTH, handler, me, i, p, c) {
+            OK => pol_flg(words, i, p, named(c)),
+            e => refuse(e),
+        },
+        SND_MSG => match on_message(words, handler, me, i, j) {
+            OK => snd_msg(words, messages, i, j),
+            e => refuse(e),
+        },
+        RCV_MSG => match on_object(words, MAILBOXES, TASK_ONLY, handler, me, i) {
+            OK => rcv_msg(words, messages, me, i),
+            e => refuse(e),
+        },
+        PRCV_MSG => match on_object(words, MAILBOXES, BOTH, handler, me, i) {
+            OK => prcv_msg(words, messages, i),
+            e => refuse(e),
+        },
+        GET_BLK => match on_object(words, POOLS, TASK_ONLY, handler, me, i) {
+            OK => get_blk(words, me, i),
+            e => refuse(e),
+        },
+        PGET_BLK => match on_object(words, POOLS, BOTH, handler, me, i) {
+            OK => pget_blk(words, i),
+            e => refuse(e),
+        },
+        REL_BLK => match on_object(words, POOLS, BOTH, handler, me, i) {
+            OK => rel_blk(words, i, j),
+            e => refuse(e),
+        },
+        GET_TID => match on_nothing(words, BOTH, handler, me) {
+            OK => get_tid(words),
+            e => refuse(e),
+        },
+        TSK_STS => match on_task(words, BOTH, ANYONE, handler, me, i) {
+            OK => tsk_sts(words, i),
+            e => refuse(e),
+        },
+        SEM_STS => match on_object(words, SEMAPHORES, BOTH, handler, me, i) {
+            OK => sem_sts(words, i),
+            e => refuse(e),
+        },
+        FLG_STS => match on_object(words, FLAGS, BOTH, handler, me, i) {
+            OK => flg_sts(words, i),
+            e => refuse(e),
+        },
+        MBX_STS => match on_object(words, MAILBOXES, BOTH, handler, me, i) {
+            OK => mbx_sts(words, i),
+            e => refuse(e),
+        },
+        MPL_STS => match on_object(words, POOLS, BOTH, handler, me, i) {
+            OK => mpl_sts(words, i),
+            e => refuse(e),
+        },
+        GET_TIM => match on_nothing(words, BOTH, handler, me) {
+            OK => get_tim(words),
+            e => refuse(e),
+        },
+        _ => refuse(H_CALL),
     }
-    carry_out(words, messages, me, n, a, b, c)
 }

@@ -2,4 +2,3 @@
 pub mod Tests
 pub mod Refused
 pub mod Judged
-pub mod Numbered

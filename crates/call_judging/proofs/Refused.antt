@@ -1,26 +1,24 @@
 -- The order of the refusals: the first that applies decides, and where none does the call's own rule is left. Assumes nothing.
 use mathlib.Core.Bool.{Bool, true, false, cond, _&&_, true≢false}
 use mathlib.Core.List.{List, [], _∷_, _++_}
-use mathlib.Core.Option.{Option, none, some}
+use mathlib.Core.Logic.{_≢_}
+use mathlib.Core.Option.{none, some}
 use mathlib.Core.Path.{_≡_, refl, sym, ap, _∙_, subst}
 use Prim.Native.Nat.{ℕ, zero, suc}
 use native.Mathlib.Omega.{arith}
 use lib.IntN.{ℤ, pos}
 use lib.Signed.{ltZ}
-use Rattle.rules.specs.Codes.{Code, H-CALL, number}
+use Rattle.rules.specs.Codes.{Code, number}
 use Rattle.rules.specs.View.{View}
 use Rattle.rules.specs.Verdicts.{Verdict, refuse, check}
 use Rattle.rules.specs.Rows.{Refusal, Row, staTsk, extTsk, terTsk, chgPri, rotRdq, relWai, susTsk, rsmTsk, slpTsk, waiTsk, wupTsk, canWup, sigSem, waiSem, preqSem, setFlg, clrFlg, waiFlg, polFlg, sndMsg, rcvMsg, prcvMsg, getBlk, pgetBlk, relBlk, getTid, tskSts, semSts, flgSts, mbxSts, mplSts, getTim}
-use Rattle.rules.specs.Table.{refusals, judged, table, looked-up, entry, numbered}
+use Rattle.rules.specs.Table.{refusals, judged, table, entry}
 use Rattle.rules.proofs.Judge.{Passed, Passes}
 use Rattle.rules.proofs.Waits.{both-true}
-use Rattle.call_judging.specs.Judging.{firstCode, refusalsOf, rowAt, rowCode}
+use Rattle.call_judging.specs.Judging.{firstCode, refusalsOf, rowCode}
 
-abbrev pub Negative : ℤ → Type 0
+abbrev Negative : ℤ → Type 0
 Negative z = ltZ z (pos 0) ≡ true
-
-abbrev pub Silent : ℤ → Type 0
-Silent z = ltZ z (pos 0) ≡ false
 
 -- ---- one word more
 
@@ -48,23 +46,23 @@ AllRefuse (x ∷ l) = Negative (number (x .code)) × AllRefuse l
 abbrev pub Refuses : ℤ → Verdict → Type 0
 Refuses e r = (c : Code) × (e ≡ number c) × (r ≡ refuse c)
 
-stops : (l : List Refusal) (r : Verdict) → Negative (firstCode l) → Refuses (firstCode l) (refusals l r)
+stops : (l : List Refusal) (r : Verdict) → firstCode l ≢ pos 0 → Refuses (firstCode l) (refusals l r)
 unfolding firstCode refusals check
-stops [] r e = absurd (true≢false (sym e))
-stops (x ∷ l) r e = go (x .applies) (stops l r) e
+stops [] r n = absurd (n refl)
+stops (x ∷ l) r n = go (x .applies) (stops l r) n
   where
-    go : (t : Bool) → (Negative (firstCode l) → Refuses (firstCode l) (refusals l r)) → Negative (cond t (number (x .code)) (firstCode l))
+    go : (t : Bool) → (firstCode l ≢ pos 0 → Refuses (firstCode l) (refusals l r)) → cond t (number (x .code)) (firstCode l) ≢ pos 0
         → Refuses (cond t (number (x .code)) (firstCode l)) (check t (x .code) (refusals l r))
-    go true h e = (x .code, refl, refl)
-    go false h e = h e
+    go true h n = (x .code, refl, refl)
+    go false h n = h n
 
-pass : (l : List Refusal) → AllRefuse l → Silent (firstCode l) → Passed l
+pass : (l : List Refusal) → AllRefuse l → firstCode l ≡ pos 0 → Passed l
 unfolding firstCode
 pass [] n e = tt
 pass (x ∷ l) n e = go (x .applies) refl (pass l (n .1)) e
   where
-    go : (t : Bool) → x .applies ≡ t → (Silent (firstCode l) → Passed l) → Silent (cond t (number (x .code)) (firstCode l)) → (x .applies ≡ false) × Passed l
-    go true q h e = absurd (true≢false (sym (n .0) ∙ e))
+    go : (t : Bool) → x .applies ≡ t → (firstCode l ≡ pos 0 → Passed l) → cond t (number (x .code)) (firstCode l) ≡ pos 0 → (x .applies ≡ false) × Passed l
+    go true q h e = absurd (true≢false (sym (subst Negative e (n .0))))
     go false q h e = (q, h e)
 
 -- where nothing applies, the rule is left
@@ -114,10 +112,8 @@ entry-refuses [] n r e f = absurd (none-some f)
 entry-refuses (x ∷ l) zero r e f = let q : x ≡ r = cc in subst (λ (y : Row). AllRefuse (y .words)) q (all-refuse (x .words) (both-true (all-negative (x .words)) (rows-negative l) e .0))
 entry-refuses (x ∷ l) (suc n) r e f = entry-refuses l n r (both-true (all-negative (x .words)) (rows-negative l) e .1) f
 
-row-refuses : (v : View) (me n : ℕ) (a b c : ℤ) (r : Row) → rowAt v me n a b c ≡ some r → AllRefuse (r .words)
-unfolding rowAt
-row-refuses v me zero a b c r f = let z : _≡_ {A = ℕ} 0 1 = cc in absurd (omega arith)
-row-refuses v me (suc n) a b c r f = entry-refuses (table v me a b c) n r (table-negative v me a b c) f
+pub row-refuses : (v : View) (me k : ℕ) (a b c : ℤ) (r : Row) → entry (table v me a b c) k ≡ some r → AllRefuse (r .words)
+row-refuses v me k a b c r f = entry-refuses (table v me a b c) k r (table-negative v me a b c) f
 
 module _ (v : View) (h : Bool) (me : ℕ) (r : Row) where
   all : List Refusal
@@ -127,42 +123,15 @@ module _ (v : View) (h : Bool) (me : ℕ) (r : Row) where
   unfolding judged all
   judged-is = sym (joined (r .words) _ (r .rule))
 
-  row-refused : Negative (rowCode v h me (some r)) → Refuses (rowCode v h me (some r)) (judged v h me r)
-  unfolding all rowCode
+  -- the code that is found is the verdict's
+  pub row-refused : rowCode v h me r ≢ pos 0 → Refuses (rowCode v h me r) (judged v h me r)
+  unfolding all
   row-refused n = let s = stops all (r .rule) n in (s .0, s .1, judged-is ∙ s .2)
 
-  row-passed : AllRefuse (r .words) → Silent (rowCode v h me (some r)) → Passes v h me r × (judged v h me r ≡ r .rule)
-  unfolding all number rowCode
+  -- where none is found, the row's tests have passed and its rule is left
+  pub row-passed : AllRefuse (r .words) → rowCode v h me r ≡ pos 0 → Passes v h me r × (judged v h me r ≡ r .rule)
+  unfolding all number
   row-passed a n =
       let p = pass all (all-joined (r .words) _ a (refl, (refl, (refl, tt)))) n in
       let q = parted (r .words) _ p in
       (record { words = q .0; context = q .1 .0; self = q .1 .1 .0; dormant = q .1 .1 .1 .0 }, judged-is ∙ left all (r .rule) p)
-
--- ---- a call by its number
-
-module _ (v : View) (h : Bool) (me n : ℕ) (a b c : ℤ) where
-  numbered-is : numbered v h me n a b c ≡ looked-up v h me (rowAt v me n a b c)
-  numbered-is = go n
-    where
-      go : (n : ℕ) → numbered v h me n a b c ≡ looked-up v h me (rowAt v me n a b c)
-      go zero = unfold numbered looked-up rowAt in refl
-      go (suc n) = unfold numbered rowAt in refl
-
-  -- the code that is found is the verdict's
-  pub call-refused : Negative (rowCode v h me (rowAt v me n a b c)) → Refuses (rowCode v h me (rowAt v me n a b c)) (numbered v h me n a b c)
-  call-refused q = rw numbered-is (go (rowAt v me n a b c) q)
-    where
-      go : (o : Option Row) → Negative (rowCode v h me o) → Refuses (rowCode v h me o) (looked-up v h me o)
-      go none q = absurd (true≢false (sym (unfold rowCode in q)))
-      go (some r) q = unfold looked-up in row-refused v h me r q
-
-  -- where none is found, no row is there, or a row whose tests have passed and whose rule is left
-  pub call-passed : Silent (rowCode v h me (rowAt v me n a b c)) → (r : Row) → rowAt v me n a b c ≡ some r → Passes v h me r × (numbered v h me n a b c ≡ r .rule)
-  unfolding looked-up
-  call-passed q r f =
-      let p = row-passed v h me r (row-refuses v me n a b c r f) (subst (λ (o : Option Row). Silent (rowCode v h me o)) f q) in
-      (p .0, numbered-is ∙ ap (looked-up v h me) f ∙ p .1)
-
-  pub call-none : rowAt v me n a b c ≡ none → numbered v h me n a b c ≡ refuse H-CALL
-  unfolding looked-up
-  call-none f = numbered-is ∙ ap (looked-up v h me) f

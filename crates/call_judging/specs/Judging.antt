@@ -1,7 +1,6 @@
 -- The refusals before a call's own rule, as numbers: the number of the first that applies, 0 if none does.
 use mathlib.Core.Bool.{Bool, true, false, cond}
 use mathlib.Core.List.{List, [], _∷_, _++_}
-use mathlib.Core.Option.{Option, none, some}
 use mathlib.Core.Path.{_≡_}
 use Prim.Native.Nat.{ℕ, zero, suc}
 use lib.IntN.{ℤ, pos}
@@ -9,7 +8,7 @@ use Rattle.rules.specs.Codes.{number, E-CTX, E-SELF, E-DMT}
 use Rattle.rules.specs.State.{Kind}
 use Rattle.rules.specs.View.{View}
 use Rattle.rules.specs.Rows.{Refusal, Context, T, both, Target, unnamed, anyone, alive, another, Row, object-id}
-use Rattle.rules.specs.Table.{misplaced, names-self, names-dormant, table, entry}
+use Rattle.rules.specs.Table.{misplaced, names-self, names-dormant}
 use Rattle.memory_picture.specs.Picture.{kindNumber, viewShown, Accepted}
 
 unfoldable pub firstCode : List Refusal → ℤ
@@ -57,15 +56,7 @@ Judges words c t handler me z b = (m : List ℕ) → Accepted b m → z ≡ firs
 abbrev pub JudgesObject : ℕ → Context → Bool → ℕ → ℕ → ℤ → List ℕ → Type 0
 JudgesObject n c handler me i z b = (k : Kind) → kindNumber k ≡ n → Judges (λ v. object-id v k (pos i) ∷ []) c unnamed handler me z b
 
--- ---- a call by its number; none has no row
+-- ---- a row of the table
 
-unfoldable pub rowAt : View → ℕ → ℕ → ℤ → ℤ → ℤ → Option Row
-rowAt v me zero a b c = none
-rowAt v me (suc n) a b c = entry (table v me a b c) n
-
-unfoldable pub rowCode : View → Bool → ℕ → Option Row → ℤ
-rowCode v handler me none = pos 0
-rowCode v handler me (some r) = firstCode (refusalsOf v handler me (r .words) (r .context) (r .target))
-
-abbrev pub JudgesCall : Bool → ℕ → ℕ → ℤ → ℤ → ℤ → ℤ → List ℕ → Type 0
-JudgesCall handler me n a b c z ws = (m : List ℕ) → Accepted ws m → z ≡ rowCode (viewShown ws m) handler me (rowAt (viewShown ws m) me n a b c)
+abbrev pub rowCode : View → Bool → ℕ → Row → ℤ
+rowCode v handler me r = firstCode (refusalsOf v handler me (r .words) (r .context) (r .target))

@@ -30,11 +30,10 @@ use memory_queues::mail_links;
 use memory_queues::ready_anchor;
 use memory_queues::wait_anchor;
 ghost use mathlib.Core.Path.{_≡_};
-ghost use Prim.Native.Nat.{_≤_};
 ghost use lib.ListN.{getD};
 ghost use Rattle.check_links.specs.Survey.{ranged};
 ghost use Rattle.memory_columns.specs.Layout as Layout;
-ghost use Rattle.memory_columns.specs.Layout.{maxTasks, maxMessages, words as wordsOf};
+ghost use Rattle.memory_columns.specs.Layout.{words as wordsOf};
 ghost use Rattle.check_ranges.specs.Ranges.{every, many};
 ghost use Rattle.check_queues.specs.Queues as Queues;
 
@@ -120,24 +119,20 @@ fn task_home_ok(words: &[u32; STATE_WORDS], marks: &[u32], t: u32) -> bool
 }
 
 fn task_homes_ok(words: &[u32; STATE_WORDS], marks: &[u32], n: u32) -> bool
-    requires { ⌜ n ≤ maxMessages ⌝ }
     ensures { λ r. ⌜ r ≡ every n 1 (Queues.taskHome (now (words .entry)) (now (marks .entry))) ⌝ }
 {
-    let mut i: u32 = 1;
-    let mut left = n;
-    while 0 < left {
+    let mut i: u32 = 0;
+    while i < n {
+        i += 1;
         if !task_home_ok(words, marks, i) {
             return false;
         }
-        i += 1;
-        left -= 1;
     }
     true
 }
 
 // Whether every task stands where it belongs, once, and nowhere else.
 pub fn tasks_queued(words: &[u32; STATE_WORDS]) -> bool
-    requires { ⌜ many (now words) Layout.tasks ≤ maxTasks ⌝ }
     ensures { λ r. ⌜ r ≡ Queues.tasksQueued (now (words .entry)) ⌝ }
 {
     let mut marks = [0u32; TASK_MARKS];
@@ -178,23 +173,19 @@ fn message_home_ok(messages: &[u32; MESSAGE_WORDS], marks: &[u32], j: u32) -> bo
 }
 
 fn message_homes_ok(messages: &[u32; MESSAGE_WORDS], marks: &[u32], n: u32) -> bool
-    requires { ⌜ n ≤ maxMessages ⌝ }
     ensures { λ r. ⌜ r ≡ every n 1 (Queues.mailHome (now (messages .entry)) (now (marks .entry))) ⌝ }
 {
-    let mut i: u32 = 1;
-    let mut left = n;
-    while 0 < left {
+    let mut i: u32 = 0;
+    while i < n {
+        i += 1;
         if !message_home_ok(messages, marks, i) {
             return false;
         }
-        i += 1;
-        left -= 1;
     }
     true
 }
 
 pub fn mail_queued(words: &[u32; STATE_WORDS], messages: &[u32; MESSAGE_WORDS]) -> bool
-    requires { ⌜ many (now words) Layout.messages ≤ maxMessages ⌝ }
     ensures { λ r. ⌜ r ≡ Queues.mailQueued (now (words .entry)) (now (messages .entry)) ⌝ }
 {
     let mut marks = [0u32; MESSAGE_MARKS];

@@ -1,6 +1,6 @@
 -- The loops over ids: what the rest gives from here is what the whole gives. Assumes nothing.
 use Prim.Native.Nat.{ℕ, suc, _+_, _-_, _≤_, _<_}
-use mathlib.Core.Path.{_≡_, sym, ap, _∙_}
+use mathlib.Core.Path.{_≡_, refl, sym, ap, _∙_, subst}
 use mathlib.Core.Bool.{Bool, true, false, not, true≢false}
 use native.Mathlib.Numerals.{add-one}
 use native.Mathlib.Omega.{arith}
@@ -30,6 +30,27 @@ module _ (f : ℕ → Bool) (n i left : ℕ) (g : Going f n i left) where
     pub going-on : f i ≡ true → Going f n (i + 1) (left - 1)
     unfolding every
     going-on e = (rw add-one ((rw e at (sym one)) ∙ g .0), omega arith)
+
+-- the first i ids have passed
+abbrev pub Passing : (ℕ → Bool) → ℕ → ℕ → Type 0
+Passing f n i = (i ≤ n) × Going f n (i + 1) (n - i)
+
+module _ (f : ℕ → Bool) (n : ℕ) where
+  pub passing-none : Passing f n 0
+  passing-none = let z : n - 0 ≡ n = omega arith in (omega arith, (rw z, omega arith))
+
+  module _ (i : ℕ) (g : Passing f n i) where
+    pub passing-all : n ≤ i → true ≡ every n 1 f
+    passing-all h = going-done f n (i + 1) (n - i) (g .1) (omega (arith, h))
+
+    module _ (h : i < n) where
+      pub passing-fail : f (i + 1) ≡ false → false ≡ every n 1 f
+      passing-fail e = going-fail f n (i + 1) (n - i) (g .1) (omega (arith, h)) e
+
+      pub passing-on : f (i + 1) ≡ true → Passing f n (i + 1)
+      passing-on e =
+          let d : n - i - 1 ≡ n - (i + 1) = omega (arith, h) in
+          (omega (arith, h), subst (λ (k : ℕ). Going f n (i + 1 + 1) k) d (going-on f n (i + 1) (n - i) (g .1) (omega (arith, h)) e))
 
 -- a count that is one is itself; one that is not gives a loop that fails nowhere
 module _ (f : ℕ → Bool) {most s k n : ℕ} {r : Bool} (es : s ≡ k) (en : (n ≡ atMost s most) × (n ≤ most)) (er : r ≡ every n 1 f) where

@@ -4,16 +4,18 @@ use mathlib.Core.List.{List}
 use mathlib.Core.Path.{_≡_, refl, _∙_}
 use native.Mathlib.Numerals.{sub-one, add-one}
 use native.Mathlib.Omega.{arith}
-use lib.ListN.{length, getD, List·getD-eq-default}
+use lib.ListN.{length, getD, replicate, List·getD-eq-default}
 use lib.Pow.{pow-pos}
 use borrow.Author.Tests.{lt-ltb, le-ltb}
 use Rattle.rules.specs.Setup.{wordAt}
 use Rattle.setup.specs.declared.Plan.{Plan}
+use Rattle.setup.specs.Layout.{planOf, PlanFits}
+use Rattle.setup.proofs.Plans.{plan-fits}
 use Rattle.memory_columns.specs.Layout as Layout
-use Rattle.memory_columns.specs.Layout.{system, maxBlocks, readyNode, waitNode, mailNode, put}
+use Rattle.memory_columns.specs.Layout.{system, stateWords, maxBlocks, readyNode, waitNode, mailNode, put}
 use Rattle.memory_queues.specs.Moves.{clearedQueue, clearedMail}
 use Rattle.memory_objects.proofs.Steps.{one-bit}
-use Rattle.kernel_fresh.specs.Laying.{inTurn, counted, laidTask, laidSemaphore, laidFlag, allFree, laidPool, entered, emptiedQueues, emptied}
+use Rattle.kernel_fresh.specs.Laying.{inTurn, counted, laidTask, laidSemaphore, laidFlag, allFree, laidPool, entered, emptiedQueues, emptied, laid}
 
 -- ---- loops over ids
 
@@ -68,3 +70,13 @@ pub empty-steps : (p : Plan) (b : List ℕ) {b₁ b₂ b₃ b₄ b₅ b₆ : Lis
     → b₅ ≡ inTurn clearedQueue (p .pools) (waitNode Layout.pools 1) b₄ → b₆ ≡ inTurn clearedMail (p .mailboxes) (mailNode 1) b₅ → b₆ ≡ emptied p b
 unfolding emptied emptiedQueues
 empty-steps p b e₁ e₂ e₃ e₄ e₅ e₆ = e₆ ∙ rw (e₅, e₄, e₃, e₂, e₁)
+
+-- ---- the whole
+
+pub plan-small : (s : List ℕ) {p : Plan} → p ≡ planOf s 0 → PlanFits p (length s)
+plan-small s e = rw e (plan-fits s 0)
+
+pub laid-steps : (s : List ℕ) {p : Plan} {b₁ b₂ b₃ : List ℕ} → p ≡ planOf s 0 → b₁ ≡ counted p (replicate stateWords 0) → b₂ ≡ entered s p b₁ → b₃ ≡ emptied p b₂
+    → b₃ ≡ laid s (planOf s 0)
+unfolding laid
+laid-steps s e e₁ e₂ e₃ = e₃ ∙ rw (e₂, e₁, e)

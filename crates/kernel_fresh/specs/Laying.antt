@@ -3,10 +3,11 @@ use mathlib.Core.Bool.{cond}
 use mathlib.Core.List.{List, [], _∷_}
 use Prim.Native.Nat.{ℕ, zero, suc, _+_, _-_, _*_, _^_}
 use lib.Dec.{ltb}
+use lib.ListN.{replicate}
 use Rattle.rules.specs.Setup.{wordAt}
 use Rattle.setup.specs.declared.Plan.{Plan}
 use Rattle.memory_columns.specs.Layout as Layout
-use Rattle.memory_columns.specs.Layout.{maxBlocks, readyNode, waitNode, mailNode, put}
+use Rattle.memory_columns.specs.Layout.{stateWords, maxBlocks, readyNode, waitNode, mailNode, put}
 use Rattle.memory_queues.specs.Moves.{clearedQueue, clearedMail}
 
 -- f for n ids from i on
@@ -60,3 +61,7 @@ emptiedQueues ((a, n) ∷ l) b = emptiedQueues l (inTurn clearedQueue n a b)
 
 unfoldable pub emptied : Plan → List ℕ → List ℕ
 emptied p b = inTurn clearedMail (p .mailboxes) (mailNode 1) (emptiedQueues (anchorsOf p) b)
+
+-- all of it, in a memory of zeros; no task is started yet
+unfoldable pub laid : List ℕ → Plan → List ℕ
+laid s p = emptied p (entered s p (counted p (replicate stateWords 0)))

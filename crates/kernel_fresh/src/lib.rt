@@ -28,10 +28,10 @@ ghost use mathlib.Core.Path.{_≡_};
 ghost use Prim.Native.Nat.{_+_, _≤_, _<_};
 ghost use lib.ListN.{length};
 ghost use Rattle.rules.specs.Setup.{wordAt};
-ghost use Rattle.setup.specs.Layout.{PlanFits};
+ghost use Rattle.setup.specs.Layout.{planOf, PlanFits};
 ghost use Rattle.memory_columns.specs.Layout.{maxPriorities, maxTasks, maxObjects, maxPools};
 ghost use Rattle.memory_queues.specs.Moves.{clearedQueue, clearedMail};
-ghost use Rattle.kernel_fresh.specs.Laying.{inTurn, counted, laidTask, laidSemaphore, laidFlag, allFree, laidPool, entered, emptied};
+ghost use Rattle.kernel_fresh.specs.Laying.{inTurn, counted, laidTask, laidSemaphore, laidFlag, allFree, laidPool, entered, emptied, laid};
 
 // The word `k` bytes behind an offset, 0 past the end. The two are not added before it is known that their sum is within the bytes.
 pub fn word_at(bytes: &[u8], at: usize, k: usize) -> u32
@@ -48,7 +48,7 @@ pub fn word_at(bytes: &[u8], at: usize, k: usize) -> u32
 }
 
 // How many there are of each; the clock is 0.
-pub fn lay_counts(words: &mut [u32; STATE_WORDS], p: Plan)
+fn lay_counts(words: &mut [u32; STATE_WORDS], p: Plan)
     ensures { λ _. ⌜ now (words .exit) ≡ counted p (now (words .entry)) ⌝ }
 {
     set_system(words, PRIORITIES, p.priorities);
@@ -158,7 +158,7 @@ fn lay_pools(bytes: &[u8], at: usize, n: u32, words: &mut [u32; STATE_WORDS])
     }
 }
 
-pub fn lay_entries(bytes: &[u8], p: Plan, words: &mut [u32; STATE_WORDS])
+fn lay_entries(bytes: &[u8], p: Plan, words: &mut [u32; STATE_WORDS])
     requires { ⌜ PlanFits p (length (now bytes)) ⌝ }
     ensures { λ _. ⌜ now (words .exit) ≡ entered (now (bytes .entry)) p (now (words .entry)) ⌝ }
 {
@@ -197,7 +197,7 @@ fn empty_mailboxes(words: &mut [u32; STATE_WORDS], first: u32, n: u32)
     }
 }
 
-pub fn empty_all(words: &mut [u32; STATE_WORDS], p: Plan)
+fn empty_all(words: &mut [u32; STATE_WORDS], p: Plan)
     requires { ⌜ (p .priorities ≤ maxPriorities) × (p .semaphores ≤ maxObjects) × (p .flags ≤ maxObjects) × (p .mailboxes ≤ maxObjects) × (p .pools ≤ maxPools) ⌝ }
     ensures { λ _. ⌜ now (words .exit) ≡ emptied p (now (words .entry)) ⌝ }
 {
@@ -207,4 +207,18 @@ pub fn empty_all(words: &mut [u32; STATE_WORDS], p: Plan)
     empty_queues(words, FIRST_MAILBOX, p.mailboxes);
     empty_queues(words, FIRST_POOL, p.pools);
     empty_mailboxes(words, FIRST_MAIL, p.mailboxes);
+}
+
+// ---- the whole
+
+// The plan of a setup's bytes in a memory of zeros, whatever it held. Gives the plan.
+pub fn lay_plan(bytes: &[u8], words: &mut [u32; STATE_WORDS]) -> Plan
+    ensures { λ r. ⌜ (r ≡ planOf (now (bytes .entry)) 0) × (now (words .exit) ≡ laid (now (bytes .entry)) (planOf (now (bytes .entry)) 0)) ⌝ }
+{
+    *words = [0; STATE_WORDS];
+    let p = setup::plan_of(bytes, 0);
+    lay_counts(words, p);
+    lay_entries(bytes, p, words);
+    empty_all(words, p);
+    p
 }

@@ -27,8 +27,8 @@ use Rattle.memory_tasks.specs.Moves.{started}
 use Rattle.memory_picture.specs.Picture.{viewShown, Accepted, Shows}
 use Rattle.memory_picture.specs.Perform.{performed, performedMarks}
 use Rattle.memory_picture.proofs.Perform.{perform-law}
-use Rattle.kernel_fresh.specs.Laying.{inTurn, counted, entered, emptied}
-use Rattle.kernel_start.specs.Starting.{StartsAs, Starts, laid, begun, freshWords}
+use Rattle.kernel_fresh.specs.Laying.{inTurn, counted, entered, emptied, laid}
+use Rattle.kernel_start.specs.Starting.{StartsAs, Starts, begun, freshWords}
 use Rattle.kernel_start.specs.declared.Started.the-variants.{Fresh, Refused}
 use Rattle.kernel_start.proofs.Shown.{Blank, zeros-blank, idle-shown, idle-accepted}
 

@@ -4,17 +4,14 @@ use mathlib.Core.List.{List}
 use mathlib.Core.Path.{_≡_}
 use Prim.Native.Nat.{ℕ, _+_, _-_, _*_}
 use lib.Dec.{eqb}
-use lib.ListN.{replicate}
 use Rattle.rules.specs.Setup.{digit, Read, got, refused, wordAt, Setup, setup}
 use Rattle.rules.specs.Kernel.{fresh}
-use Rattle.setup.specs.declared.Plan.{Plan}
 use Rattle.setup.specs.Layout.{planOf}
-use Rattle.memory_columns.specs.Layout.{stateWords}
 use Rattle.memory_tasks.specs.Moves.{started}
 use Rattle.memory_picture.specs.Picture.{viewShown, Accepted}
 use Rattle.kernel_start.specs.declared.Started.{Started}
 use Rattle.kernel_start.specs.declared.Started.the-variants.{Fresh, Refused}
-use Rattle.kernel_fresh.specs.Laying.{inTurn, counted, entered, emptied}
+use Rattle.kernel_fresh.specs.Laying.{inTurn, laid}
 
 -- ---- the contract
 
@@ -28,10 +25,6 @@ unfoldable pub Starts : List ℕ → Started → List ℕ → List ℕ → List 
 Starts s r words marks words′ marks′ = StartsAs (setup s) r words marks words′ marks′
 
 -- ---- what the functions write
-
--- no task is started yet
-unfoldable pub laid : List ℕ → Plan → List ℕ
-laid s p = emptied p (entered s p (counted p (replicate stateWords 0)))
 
 unfoldable pub begun : List ℕ → ℕ → ℕ → List ℕ → List ℕ
 begun s at i b = cond (eqb (wordAt s (at + (8 * (i - 1) + 4))) 1) (started i b) b

@@ -1,8 +1,6 @@
 // The fresh state of a setup, laid into the memory that the caller lends. The setup is judged whole before a word is written, so a
 // refusal leaves the memory as it was.
-use kernel_fresh::empty_all;
-use kernel_fresh::lay_counts;
-use kernel_fresh::lay_entries;
+use kernel_fresh::lay_plan;
 use kernel_fresh::word_at;
 use memory_columns::MESSAGE_WORDS;
 use memory_columns::STATE_WORDS;
@@ -53,12 +51,8 @@ fn begin_tasks(bytes: &[u8], at: usize, n: u32, words: &mut [u32; STATE_WORDS])
 fn lay_fresh(bytes: &[u8], words: &mut [u32; STATE_WORDS], messages: &mut [u32; MESSAGE_WORDS])
     ensures { λ _. ⌜ (now (words .exit) ≡ freshWords (now (bytes .entry))) × (now (messages .exit) ≡ replicate maxMessages 0) ⌝ }
 {
-    *words = [0; STATE_WORDS];
     *messages = [0; MESSAGE_WORDS];
-    let p = setup::plan_of(bytes, 0);
-    lay_counts(words, p);
-    lay_entries(bytes, p, words);
-    empty_all(words, p);
+    let p = lay_plan(bytes, words);
     begin_tasks(bytes, p.at.tasks, p.tasks, words);
 }
 

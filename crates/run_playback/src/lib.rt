@@ -5,19 +5,35 @@ use memory_columns::STATE_WORDS;
 use run_reading::EVENT_WORDS;
 use run_reading::EVENTS;
 use run_reading::WORDS_OF_EVENT;
+use run_reading::signed;
 use run_text::Played;
 use run_text::WORDS_OF_ANSWER;
 use run_text::show_refusal;
 use run_text::show_run;
 use setup::Judged;
-ghost use Prim.Native.Nat.{_*_, _≤_};
-ghost use lib.ListN.{length};
+ghost use mathlib.Core.List.{map, _++_};
+ghost use mathlib.Core.Path.{_≡_};
+ghost use Prim.Native.Nat.{_+_, _*_, _≤_};
+ghost use lib.ListN.{length, drop};
+ghost use Rattle.run_reading.specs.Recorded.{signedWord, wordsFrom};
 ghost use Rattle.run_playback.specs.Text.{textOf};
 ghost use Rattle.run_playback.specs.Playing.{RanFrom};
 ghost use Rattle.run_text.specs.Output.{Shown};
 
 // The words of all answers beside their codes.
 const ANSWER_WORDS: usize = WORDS_OF_ANSWER * EVENTS;
+
+// The `n` words from an offset on, as signed ones, in the first places; those behind them are as they were.
+fn decode(bytes: &[u8], from: usize, n: usize, events: &mut [i32])
+    requires { ⌜ (n ≤ length (now events)) × (from ≤ length (now bytes) + 4) × (n ≤ 15000) ⌝ }
+    ensures { λ _. ⌜ now (events .exit) ≡ map signedWord (wordsFrom (now (bytes .entry)) n from) ++ drop n (now (events .entry)) ⌝ }
+{
+    let mut i: usize = 0;
+    while i < n {
+        events[i] = signed(setup::word(bytes, from + 4 * i));
+        i += 1;
+    }
+}
 
 // A fresh kernel of the setup that ends at an offset, then the n events behind the count there. Gives the task that runs first.
 fn run(
@@ -36,7 +52,7 @@ fn run(
     kernel_start::start(&file[0..at], words, messages);
     let runs = kernel_cells::running(words, messages);
     let m = WORDS_OF_EVENT * n;
-    run_reading::decode(file, at + 4, m, events);
+    decode(file, at + 4, m, events);
     kernel_batches::events(words, messages, &events[0..m], codes, answers);
     runs
 }

@@ -1,17 +1,14 @@
 // The reader of a recorded run: a setup, then the section of its events. That section is judged as the sections of a setup are, and its words are
-// decoded as signed ones. The contracts cite `readEvents`, and `wordsFrom`, the words as they lie in the bytes. What `decode` requires
-// is for `run_playback`, which meets it: the events were judged before, and the places for them are lent.
+// signed ones. The contracts cite `readEvents` and `signedWord`.
 use setup::Judged;
 use setup::Span;
 use setup::judge_word;
 use setup::word;
 ghost use mathlib.Core.Path.{_≡_};
-ghost use mathlib.Core.List.{map, _++_};
-ghost use Prim.Native.Nat.{_+_, _≤_};
-ghost use lib.ListN.{length, drop, replicate};
+ghost use lib.ListN.{replicate};
 ghost use Rattle.rules.specs.Setup.{readEntry, at-end};
 ghost use Rattle.setup.specs.Judging.{judgedOf};
-ghost use Rattle.run_reading.specs.Recorded.{anyWord, signedWord, readEvents, wordsFrom};
+ghost use Rattle.run_reading.specs.Recorded.{anyWord, signedWord, readEvents};
 
 // The most events, and their words: kind, call and three arguments for each.
 pub const EVENTS: usize = 3000;
@@ -36,7 +33,7 @@ const MOST_WORD: u32 = 4294967295;
 const NEGATIVE: u32 = 2147483648;
 
 // The word with the same bits.
-fn signed(w: u32) -> i32
+pub fn signed(w: u32) -> i32
     ensures { λ r. ⌜ r ≡ signedWord w ⌝ }
 {
     if w < NEGATIVE {
@@ -97,17 +94,5 @@ pub fn judge_events(bytes: &[u8], at: usize) -> Judged
                 Judged::Good(end)
             }
         }
-    }
-}
-
-// The `n` words from an offset on, as signed ones, in the first places; those behind them are as they were.
-pub fn decode(bytes: &[u8], from: usize, n: usize, events: &mut [i32])
-    requires { ⌜ (n ≤ length (now events)) × (from ≤ length (now bytes) + 4) × (n ≤ 15000) ⌝ }
-    ensures { λ _. ⌜ now (events .exit) ≡ map signedWord (wordsFrom (now (bytes .entry)) n from) ++ drop n (now (events .entry)) ⌝ }
-{
-    let mut i: usize = 0;
-    while i < n {
-        events[i] = signed(word(bytes, from + 4 * i));
-        i += 1;
     }
 }

@@ -2,7 +2,8 @@
 use mathlib.Core.Bool.{Bool, true, false, cond}
 use mathlib.Core.List.{List, [], _∷_, _++_}
 use mathlib.Core.Path.{_≡_, refl, sym, ap, _∙_, subst}
-use Prim.Native.Nat.{ℕ, zero, suc, _+_, _-_, _/_, _%_, _^_, _≤_, _<_}
+use Prim.Native.Nat.{ℕ, zero, suc, _+_, _-_, _*_, _/_, _%_, _^_, _≤_, _<_}
+use native.Mathlib.Decide.{decLe}
 use native.Mathlib.Omega.{arith}
 use lib.Dec.{leb}
 use lib.IntN.{ℤ, pos, negsuc}
@@ -15,7 +16,7 @@ use borrow.Author.Tests.{le-leb, lt-leb, leb-true}
 use Rattle.rules.specs.Events.{bits}
 use Rattle.run_text.specs.declared.Played.{Played}
 use Rattle.run_text.specs.declared.Played.the-variants.{Written, Short}
-use Rattle.run_text.specs.Lines.{decimal, signed, fields, lines, rowAt, rows}
+use Rattle.run_text.specs.Lines.{decimal, signed, fields, lines, rowAt, rows, lentCount}
 use Rattle.run_text.specs.Output.{outputOf, playedOf, laid, Wrote, Shown}
 use Rattle.run_text.proofs.Decimal.{decimal-one, decimal-more, decimal-length}
 
@@ -185,3 +186,33 @@ module _ {text : List ℕ} {r : Played} {old new : List ℕ} (S : Shown text r o
       let z : Short k ≡ Written (length text) = sym e ∙ (rw q at (S .says)) in
       let y : _≡_ {A = ℕ} 0 1 = cc in
       omega arith
+
+-- ---- the answers that are lent
+
+module _ (n codes words : ℕ) where
+  pub lent-all : n ≤ 3000 → n ≤ codes → 4 * n ≤ words → lentCount n codes words ≡ n
+  unfolding lentCount
+  lent-all h k l = rw (le-leb n 3000 h, le-leb n codes k, le-leb (4 * n) words l)
+
+  pub lent-many : 3000 < n → lentCount n codes words ≡ 0
+  unfolding lentCount
+  lent-many h = rw (lt-leb n 3000 h)
+
+  pub lent-few-codes : n ≤ 3000 → codes < n → lentCount n codes words ≡ 0
+  unfolding lentCount
+  lent-few-codes h k = rw (le-leb n 3000 h, lt-leb n codes k)
+
+  pub lent-few-words : n ≤ 3000 → n ≤ codes → words < 4 * n → lentCount n codes words ≡ 0
+  unfolding lentCount
+  lent-few-words h k l = rw (le-leb n 3000 h, le-leb n codes k, lt-leb (4 * n) words l)
+
+  pub lent-fits : {k : ℕ} → k ≡ lentCount n codes words → (k ≤ 3000) × (k ≤ codes) × (4 * k ≤ words)
+  lent-fits {k} e = elim (decLe n 3000) [ no h ↦ none (e ∙ lent-many (omega (arith, h))) | yes h ↦ elim (decLe n codes) [ no g ↦ none (e ∙ lent-few-codes h (omega (arith, g))) | yes g ↦ elim (decLe (4 * n) words) [ no f ↦ none (e ∙ lent-few-words h g (omega (arith, f))) | yes f ↦ rw (e ∙ lent-all h g f) (h, g, f) ] ] ]
+    where
+      none : {k : ℕ} → k ≡ 0 → (k ≤ 3000) × (k ≤ codes) × (4 * k ≤ words)
+      none e = (omega (arith, e), omega (arith, e), omega (arith, e))
+
+-- all of them are lent, so all are shown
+pub shown-lent : (n : ℕ) (codes : List ℤ) (words : List ℕ) {k l : ℕ} → length codes ≡ k → length words ≡ l → n ≤ 3000 → 3000 ≤ k → 12000 ≤ l → (first : List ℕ) {r : Played} {old new : List ℕ}
+    → Shown (first ++ lines 1 (rows codes words (lentCount n (length codes) (length words)) 0)) r old new → Shown (first ++ lines 1 (rows codes words n 0)) r old new
+shown-lent n codes words ec ew h k l first S = rw (lent-all n (length codes) (length words) h (omega (arith, ec, h, k)) (omega (arith, ew, h, l))) at S

@@ -1,8 +1,8 @@
 -- The lines of a text, as the numbers of its bytes. Numbers are decimal, with single spaces between them, and a line feed ends each line.
-use mathlib.Core.Bool.{cond}
+use mathlib.Core.Bool.{cond, _&&_}
 use mathlib.Core.List.{List, [], _∷_, _++_}
 use Prim.Native.Nat.{ℕ, zero, suc, _+_, _-_, _*_, _/_, _%_, _≤_}
-use lib.Dec.{ltb}
+use lib.Dec.{leb, ltb}
 use lib.IntN.{ℤ, pos, negsuc}
 use lib.ListN.{getD}
 use Rattle.run_text.specs.Ascii.{ascii}
@@ -62,3 +62,7 @@ rowAt codes words i =
 unfoldable pub rows : List ℤ → List ℕ → ℕ → ℕ → List (List ℤ)
 rows codes words zero i = []
 rows codes words (suc n) i = rowAt codes words i ∷ rows codes words n (suc i)
+
+-- n, if no run has more events than that and the answers of n are lent
+unfoldable pub lentCount : ℕ → ℕ → ℕ → ℕ
+lentCount n codes words = cond (leb n 3000 && (leb n codes && leb (4 * n) words)) n 0

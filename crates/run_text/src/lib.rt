@@ -2,12 +2,13 @@
 // wrote. Behind the output's end nothing is written and the places are counted all the same: so the length of a text is known before a byte
 // of it is written. What `show_run` requires is for `run_playback`, which meets it: the lent places hold the answers of the n events.
 use call_words::bits_of;
+use run_reading::EVENTS;
 ghost use mathlib.Core.Path.{_≡_};
 ghost use mathlib.Core.List.{[], _∷_, _++_};
 ghost use Prim.Native.Nat.{_+_, _*_, _≤_, _<_};
 ghost use lib.IntN.{pos};
 ghost use lib.ListN.{length, set};
-ghost use Rattle.run_text.specs.Lines.{decimal, signed, fields, startLine, refusal, lines, rows};
+ghost use Rattle.run_text.specs.Lines.{decimal, signed, fields, startLine, refusal, lines, rows, lentCount};
 ghost use Rattle.run_text.specs.Output.{Wrote, Shown};
 
 // No text is longer.
@@ -179,16 +180,32 @@ pub fn show_refusal(text: &mut [u8], fault: u32, place: usize) -> Played
     Played::Written(n)
 }
 
-// The lines of a run of n events, where there is place for them.
-pub fn show_run(text: &mut [u8], runs: u32, n: usize, codes: &[i32], answers: &[u32]) -> Played
-    requires { ⌜ (n ≤ 3000) × (n ≤ length (now codes)) × (4 * n ≤ length (now answers)) ⌝ }
-    ensures { λ r. ⌜ Shown (startLine runs ++ lines 1 (rows (now (codes .entry)) (now (answers .entry)) n 0)) r (now (text .entry)) (now (text .exit)) ⌝ }
+// n, if that many are no more than a run has and their answers are lent; else no event is shown.
+fn lent(n: usize, codes: &[i32], answers: &[u32]) -> usize
+    ensures { λ r. ⌜ r ≡ lentCount n (length (now (codes .entry))) (length (now (answers .entry))) ⌝ }
 {
+    if EVENTS < n {
+        return 0;
+    }
+    if codes.len() < n {
+        return 0;
+    }
+    if answers.len() < WORDS_OF_ANSWER * n {
+        return 0;
+    }
+    n
+}
+
+// The lines of a run of n events whose answers are lent, where there is place for them.
+pub fn show_run(text: &mut [u8], runs: u32, n: usize, codes: &[i32], answers: &[u32]) -> Played
+    ensures { λ r. ⌜ Shown (startLine runs ++ lines 1 (rows (now (codes .entry)) (now (answers .entry)) (lentCount n (length (now (codes .entry))) (length (now (answers .entry)))) 0)) r (now (text .entry)) (now (text .exit)) ⌝ }
+{
+    let k = lent(n, codes, answers);
     let mut nowhere = [0u8; 1];
-    let needed = run(&mut nowhere, runs, n, codes, answers);
+    let needed = run(&mut nowhere, runs, k, codes, answers);
     if text.len() < needed {
         return Played::Short(needed);
     }
-    run(text, runs, n, codes, answers);
+    run(text, runs, k, codes, answers);
     Played::Written(needed)
 }

@@ -15,14 +15,14 @@ unfolding accepts
 returns c = simp (failed (c .before .ranges-ok .ensures) (c .if1 .taken))
 
 tasks-queued-requires : tie.Need-tasks-queued-requires
-tasks-queued-requires c κs = few-ranges _ _ (passed (c .before .ranges-ok .ensures) (c .if1 .left)) .tasks
+tasks-queued-requires c κs = search needs
 
 returns-2 : tie.Need-returns-2
 unfolding accepts
 returns-2 c = simp (failed (c .before .tasks-queued .ensures) (c .if2 .taken), and-false)
 
 mail-queued-requires : tie.Need-mail-queued-requires
-mail-queued-requires c κs = let i = c .before .before in few-ranges _ _ (passed (i .before .ranges-ok .ensures) (i .if1 .left)) .messages
+mail-queued-requires c κs = search needs
 
 returns-3 : tie.Need-returns-3
 unfolding accepts

@@ -2,6 +2,8 @@
 use Prim.Native.Nat.{_≤_}
 use native.Mathlib.Omega.{arith}
 use lib.ListN.{length}
+use Rattle.run_text.specs.Lines.{startLine}
+use Rattle.run_text.proofs.Laid.{shown-lent}
 use Rattle.run_playback.proofs.Verdict.{setup-refused, events-refused, events-good, run-text}
 use borrow.Author.Needs.{needs}
 use Rattle.run_playback.proofs.play_in.Statement.{statement}
@@ -54,11 +56,7 @@ run-requires c κs =
     (f .0, f .1, omega (arith, f .1, c .before .before .run-arg3 .given .0 .1), omega (arith, f .1, c .before .run-arg4 .given .0 .1), omega (arith, f .1, c .run-arg5 .given .0 .1))
 
 show-run-requires : tie.Need-show-run-requires
-show-run-requires c κs =
-    let R = c .before .before .before .before .before in
-    let a = R .before in
-    let f = facts (a .before .before .before .before .before) in
-    (f .1, omega (arith, f .1, a .before .run-arg4 .given .0 .1, R .run .kept .1 .1 .1 .1 .1 .1 .0), omega (arith, f .1, a .run-arg5 .given .0 .1, R .run .kept .1 .1 .1 .1 .1 .1 .1 .0))
+show-run-requires c κs = search needs
 
 same-length : tie.Need-same-length
 same-length c = search needs
@@ -87,11 +85,15 @@ returns-3 : tie.Need-returns-3
 returns-3 c =
     let S = c .before .before in
     let R = S .before .before .before .before .before .before in
+    let a = R .before in
+    let codes = R .run .last .1 .1 .1 .1 .1 .1 .0 in
+    let words = R .run .last .1 .1 .1 .1 .1 .1 .1 .0 in
     let W = R .before .before .before .before .before .before in
     let E = W .before in
     let J = E .before .before in
     let A = J .before .before in
-    rw (run-text _ (A .before .before .judge .ensures) (A .at .given .1) (J .judge-events .ensures) (E .enum-told .given .1) (W .word .ensures) (R .run .ensures)) (S .show-run .ensures)
+    rw (run-text _ (A .before .before .judge .ensures) (A .at .given .1) (J .judge-events .ensures) (E .enum-told .given .1) (W .word .ensures) (R .run .ensures))
+    (shown-lent _ codes words (R .run .kept .1 .1 .1 .1 .1 .1 .0) (R .run .kept .1 .1 .1 .1 .1 .1 .1 .0) (facts W .1) (omega (arith, a .before .run-arg4 .given .0 .1)) (omega (arith, a .run-arg5 .given .0 .1)) (startLine (R .run .result)) (S .show-run .ensures))
 
 pub play-in-spec : {M : Type 1} → statement M
 play-in-spec =

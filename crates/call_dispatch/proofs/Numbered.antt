@@ -13,10 +13,11 @@ use types.Run.{OneOf, hit}
 use Rattle.rules.specs.Ids.{In}
 use Rattle.rules.specs.View.{View}
 use Rattle.rules.specs.Rows.{Row}
-use Rattle.rules.specs.Table.{table, entry, callCount}
+use Rattle.rules.specs.Codes.{H-CALL}
+use Rattle.rules.specs.Verdicts.{refuse}
+use Rattle.rules.specs.Table.{table, entry, looked-up, numbered, callCount}
 use Rattle.check_ranges.specs.Ranges.{every}
 use Rattle.check_ranges.proofs.Decisions.{decides-every}
-use Rattle.call_judging.specs.Judging.{rowAt}
 
 -- n is a key of none of the arms; the last stands first
 abbrev pub Apart : ℕ → List (List ℕ) → Type 0
@@ -41,10 +42,9 @@ entry-none [] n h = refl
 entry-none (r ∷ l) zero h = absurd (omega (arith, h))
 entry-none (r ∷ l) (suc n) h = entry-none l n (omega (arith, h))
 
-pub no-row : (v : View) (me n : ℕ) (a b c : ℤ) (l : List (List ℕ)) → every callCount 1 (keyed l) ≡ true → Apart n l → rowAt v me n a b c ≡ none
-unfolding rowAt table
-no-row v me zero a b c l e k = refl
-no-row v me (suc n) a b c l e k = entry-none (table v me a b c) n (elim (decLe callCount n) [ yes h ↦ h | no h ↦ absurd (inside (omega arith, omega (arith, h))) ])
+pub no-row : (v : View) (h : Bool) (me n : ℕ) (a b c : ℤ) (l : List (List ℕ)) → every callCount 1 (keyed l) ≡ true → Apart n l → numbered v h me n a b c ≡ refuse H-CALL
+no-row v h me zero a b c l e k = unfold numbered in refl
+no-row v h me (suc n) a b c l e k = unfold numbered looked-up table in ap (looked-up v h me) (entry-none (table v me a b c) n (elim (decLe callCount n) [ yes h ↦ h | no h ↦ absurd (inside (omega arith, omega (arith, h))) ]))
   where
     inside : In (suc n) callCount → ⊥
     inside i = true≢false (sym (decides-every callCount (keyed l) (λ j r. ((λ z. z), (λ z. z))) .0 e (suc n) i) ∙ apart-unkeyed (suc n) l k)

@@ -7,10 +7,10 @@ use lib.ListN.{length, drop, length-set}
 use borrow.Author.Needs.{needs}
 use mir.Syntax.{w32}
 use mir.Facts.{toZ-ofZ}
 use Rattle.run_reading.specs.Recorded.{signedWord, wordsFrom}
 use Rattle.run_reading.proofs.Words.{decode-next, decode-none, decode-all}
-use Rattle.run_reading.proofs.decode.Statement.{statement}
-use Rattle.run_reading.proofs.decode.Tie as tie
+use Rattle.run_playback.proofs.decode.Statement.{statement}
+use Rattle.run_playback.proofs.decode.Tie as tie
 
 abbrev Inv-loop : tie.InvT-loop
 Inv-loop bytes from n events₀ i₀ events i =
