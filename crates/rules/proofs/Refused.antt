@@ -1,4 +1,4 @@
--- A refused event changes nothing. Assumes nothing.
+-- A refused event changes nothing, in either kernel, and takes no number in the plain one: a refusal has no acts. Assumes nothing.
 use mathlib.Core.Bool.{true, false, false≢true}
 use mathlib.Core.List.{List, [], _∷_}
 use mathlib.Core.Logic.{_⊎_, inl, inr}
@@ -16,6 +16,7 @@ use Rattle.rules.specs.Answers.{isReleased, releasedCount, answer}
 use Rattle.rules.specs.Sound.{Sound}
 use Rattle.rules.specs.Check.{sound?}
 use Rattle.rules.specs.Kernel.{next, served, damaged, refusal, guarded, event}
+use Rattle.rules.specs.Plain.{Plain, viewOf, plainActs, plainNext, plainAnswer}
 use Rattle.rules.proofs.Clean.{Clean, refused, given, waited, judge-clean}
 
 -- ---- what a clean verdict says
@@ -72,3 +73,19 @@ waits-no-words v e = go (sound? v)
     go : (d : Dec (Sound v)) → number (guarded v e d .answer .code) ≡ pos 1 → (guarded v e d .answer .w1 ≡ 0) × (guarded v e d .answer .w2 ≡ 0)
     go (yes s) h = waits-clean (v .body) (judge v e) (judge-clean v e) h
     go (no n) h = (refl, refl)
+
+-- ---- the plain kernel
+
+refused-plain : (s : Plain) (r : Verdict) → Clean (s .body) r → refuses (r .code) ≡ true
+    → (answer r (viewOf s) (viewOf (plainActs (r .acts) s)) ≡ refusal (viewOf s) (r .code) .answer) × (plainActs (r .acts) s ≡ s)
+unfolding answer refusal plainActs refuses
+refused-plain s r (refused c n) e = (ap (λ (n : ℕ). record { code = c; w1 = 0; w2 = 0; runs = running (viewOf s); released = n }) (none-released (viewOf s .body .tasks)), refl)
+refused-plain s r (given x y l g) e = absurd (false≢true e)
+refused-plain s r (waited i w) e = absurd (false≢true e)
+
+-- A refused event changes nothing and takes no number: the state after it is the state before, arrival numbers and their count
+-- included. Its answer has w1 = w2 = 0, 0 released and the running task as before. Of any state, reached by a run or not.
+pub plain-refused-unchanged : (s : Plain) (e : Event) → refuses (plainAnswer s e .code) ≡ true
+    → (plainAnswer s e ≡ refusal (viewOf s) (plainAnswer s e .code) .answer) × (plainNext s e ≡ s)
+unfolding plainAnswer plainNext answer viewOf
+plain-refused-unchanged s e h = refused-plain s (judge (viewOf s) e) (judge-clean (viewOf s) e) h
