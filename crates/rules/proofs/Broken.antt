@@ -55,7 +55,7 @@ read-kept v e a h = λ z. cond (outside a (tasks-next v e z)) (record { code = E
 
 -- ---- over runs from any sound state
 
-stays : (a : ℤ) (v : View) (l : List Event) → Sound v → AllWords l → cell v a ≡ broken → StaysBroken a v l
+pub stays : (a : ℤ) (v : View) (l : List Event) → Sound v → AllWords l → cell v a ≡ broken → StaysBroken a v l
 stays a v [] s w c = c
 stays a v (e ∷ l) s w c =
     (c, go (isFresh (task (v .body) (nat a) .state) (task (event v e .next .body) (nat a) .state)) refl (stays a (event v e .next) l (sound-event v e s (w .0)) (w .1)))

@@ -2,12 +2,13 @@
 -- tell. Assumes nothing.
 use mathlib.Core.Bool.{Bool, true, false, cond, false≢true}
 use mathlib.Core.List.{List, [], _∷_, _++_, map}
-use mathlib.Core.Logic.{_⊎_, inl, inr}
+use mathlib.Core.Logic.{_⊎_, inl, inr, _≢_}
 use mathlib.Core.Path.{_≡_, refl, sym, _∙_}
 use Prim.Native.Nat.{ℕ, zero, suc}
+use native.Mathlib.Omega.{arith}
 use lib.ListN.{getD, set}
 use Rattle.rules.specs.Ids.{of, put}
-use Rattle.rules.specs.Codes.{Code, OK}
+use Rattle.rules.specs.Codes.{Code, OK, E-TMOUT, E-RLWAI}
 use Rattle.rules.specs.State.{State, dormant, ready, suspended, waiting, waiting-suspended, Task, Body, task, nobody, waitOf, wish, isDormant, isWaiting, isFreed}
 use Rattle.rules.specs.Acts.{Act, start, retire, rotate, regrade, wait, release, suspend, resume, wakeups, count, pattern, post, receive, mark, elapse, change, started, retired, freed, releasedTask, halted, resumed, older, with-state, with-priority, with-wakeups, after, afters}
 use Rattle.rules.specs.View.{View, act, acts}
@@ -95,15 +96,15 @@ released-mild c w t = go (t .state) refl
 older-mild : (t : Task) → Mild t (with-state (older (t .state)) t)
 older-mild t = untouched refl (older-same (t .state) .waiting) (older-same (t .state) .freed)
 
--- the acts of which a list may be made
+-- the acts of which a list may be made; none breaks a wait off
 pub data Gentle : Act → Type 0 where
-  releases : (i : ℕ) (c : Code) (w : ℕ) → Gentle (release i c w)
+  releases : (i : ℕ) (c : Code) (w : ℕ) → c ≢ E-RLWAI → Gentle (release i c w)
   sets : (f n : ℕ) → Gentle (pattern f n)
   elapses : Gentle elapse
 
 gentle-mild : {a : Act} → Gentle a → (b : Body) (i : ℕ) → Mild (task b i) (task (after a b) i)
 unfolding after
-gentle-mild (releases j c w) b i = change-each Mild mild-same (releasedTask c w) j b (λ t e. released-mild c w t) i
+gentle-mild (releases j c w n) b i = change-each Mild mild-same (releasedTask c w) j b (λ t e. released-mild c w t) i
 gentle-mild (sets f n) b i = mild-same _
 gentle-mild elapses b i = map-each Mild mild-same _ older-mild (b .tasks) i nobody
 
@@ -116,6 +117,12 @@ unfolding afters
 list-mild [] g b i = mild-same _
 list-mild (a ∷ l) g b i = mild-then (gentle-mild (g .0) b i) (list-mild l (g .1) (after a b) i)
 
+pub served-whole : OK ≢ E-RLWAI
+served-whole e = let z : _≡_ {A = ℕ} 0 1 = cc in omega arith
+
+timeout-whole : E-TMOUT ≢ E-RLWAI
+timeout-whole e = let z : _≡_ {A = ℕ} 0 1 = cc in omega arith
+
 -- set_flg and the tick are such lists
 pub flag-gentle : (b : Body) (f have : ℕ) (l : List ℕ) → AllGentle (serve-flag b f have l)
 flag-gentle b f have [] = (sets f have, tt)
@@ -125,12 +132,12 @@ flag-gentle b f have (x ∷ l) =
   where
     go : (t : Bool) → AllGentle (serve-flag b f (left have (wish (waitOf (task b x .state)) .1)) l) → AllGentle (serve-flag b f have l)
         → AllGentle (cond t (release x OK have ∷ serve-flag b f (left have (wish (waitOf (task b x .state)) .1)) l) (serve-flag b f have l))
-    go true g h = (releases x OK have, g)
+    go true g h = (releases x OK have served-whole, g)
     go false g h = h
 
 pub tick-gentle : (l : List ℕ) → AllGentle (map timeout l ++ elapse ∷ [])
 tick-gentle [] = (elapses, tt)
-tick-gentle (i ∷ l) = (releases i _ 0, tick-gentle l)
+tick-gentle (i ∷ l) = (releases i E-TMOUT 0 timeout-whole, tick-gentle l)
 
 -- ---- one act
 

@@ -8,7 +8,7 @@ use Prim.Native.Nat.{ℕ, zero, suc}
 use native.Mathlib.Omega.{arith}
 use lib.IntN.{ℤ, pos, negsuc}
 use borrow.Author.Tests.{not-false}
-use Rattle.rules.specs.Codes.{Code, H-STATE}
+use Rattle.rules.specs.Codes.{Code, OK, WAITS, H-STATE, E-RLWAI}
 use Rattle.rules.specs.State.{Wait, Body}
 use Rattle.rules.specs.Events.{Event, tick, call}
 use Rattle.rules.specs.Acts.{Act}
@@ -110,12 +110,20 @@ judge-clean v (call x n a b c) =
     by-call (λ n r. Clean (v .body) r) (λ n c e. refused c e) v a b c
     (λ h. all-rows (v .body) v h (caller v h) 1 (table v (caller v h) a b c) (rules v (caller v h) a b c)) x n
 
--- no verdict is H_STATE
-clean-not-state : (b : Body) (r : Verdict) → Clean b r → r .code ≢ H-STATE
-unfolding bad
-clean-not-state b r (refused c n) h = false≢true (ap bad (sym h) ∙ n)
-clean-not-state b r (given x y l g) h = let z : _≡_ {A = ℕ} 0 1 = cc in omega arith
-clean-not-state b r (waited i w) h = let z : _≡_ {A = ℕ} 0 1 = cc in omega arith
+-- no verdict is H_STATE, and none is E_RLWAI
+module _ (d : Code) (not-bad : bad d ≡ false) (not-ok : d ≢ OK) (not-waits : d ≢ WAITS) where
+  clean-not : (b : Body) (r : Verdict) → Clean b r → r .code ≢ d
+  clean-not b r (refused c n) h = false≢true (sym not-bad ∙ ap bad (sym h) ∙ n)
+  clean-not b r (given x y l g) h = not-ok (sym h)
+  clean-not b r (waited i w) h = not-waits (sym h)
+
+  judge-not : (v : View) (e : Event) → judge v e .code ≢ d
+  judge-not v e h = clean-not (v .body) (judge v e) (judge-clean v e) h
 
 pub judge-not-state : (v : View) (e : Event) → judge v e .code ≢ H-STATE
-judge-not-state v e h = clean-not-state (v .body) (judge v e) (judge-clean v e) h
+unfolding bad
+judge-not-state = judge-not H-STATE refl (λ h. let z : _≡_ {A = ℕ} 0 1 = cc in omega arith) (λ h. let z : _≡_ {A = ℕ} 0 1 = cc in omega arith)
+
+pub judge-not-broken : (v : View) (e : Event) → judge v e .code ≢ E-RLWAI
+unfolding bad
+judge-not-broken = judge-not E-RLWAI refl (λ h. let z : _≡_ {A = ℕ} 0 1 = cc in omega arith) (λ h. let z : _≡_ {A = ℕ} 0 1 = cc in omega arith)

@@ -25,11 +25,11 @@ infixr 5 _⊗_
 pub _⊗_ : {A B : Type 0} → A → B → A × B
 x ⊗ y = (x, y)
 
--- ---- the codes that a call may be refused with: negative, and not H_STATE
+-- ---- the codes that a call may be refused with: negative, not H_STATE, and not E_RLWAI, which is only in a cell
 
 abbrev isBad : ℤ → Bool
 isBad (pos n) = false
-isBad (negsuc n) = not (eqb n 8)
+isBad (negsuc n) = not (eqb n 8) && not (eqb n 3413)
 
 unfoldable pub bad : Code → Bool
 unfolding number

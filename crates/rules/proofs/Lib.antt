@@ -17,6 +17,7 @@ pub mod Cells
 pub mod Clean
 pub mod Refused
 pub mod Broken
+pub mod OnlyBroken
 pub mod Agree
 pub mod Rising
 pub mod Blocks

@@ -1,19 +1,21 @@
 -- An act keeps a sound view sound: whoever belongs to a queue stands in it once, by counting, and nobody else does.
-use mathlib.Core.Bool.{Bool, true, false, cond, not, _&&_}
+use mathlib.Core.Bool.{Bool, true, false, cond, not, _&&_, false≢true}
 use mathlib.Core.List.{List, [], _∷_, _++_}
 use mathlib.Core.Path.{_≡_, refl, sym, ap, _∙_, subst}
 use mathlib.Core.Logic.{_≢_}
-use Prim.Native.Nat.{ℕ, _+_}
+use Prim.Native.Nat.{ℕ, suc, _+_, _≤_, _<_}
 use native.Mathlib.Nat.{add-zero}
 use native.Mathlib.Omega.{arith}
 use lib.Dec.{eqb}
-use Rattle.rules.specs.Ids.{In, keep, once, times}
-use Rattle.rules.specs.State.{Kind, Body}
-use Rattle.rules.specs.Places.{Place, waiters, sameSort, sortAt, Item, item, same, many, belongs, Exists}
+use lib.ListN.{length, getD}
+use Rattle.rules.specs.Ids.{In, keep, once, times, first}
+use Rattle.rules.specs.State.{Kind, Body, task, isReady}
+use Rattle.rules.specs.Places.{Place, readyAt, waiters, sameSort, sortAt, Item, item, same, many, belongs, lineAt, Exists}
 use Rattle.rules.specs.Acts.{Act, after, Move, stay, leave, last, move}
-use Rattle.rules.specs.View.{View, line, alone, without, moved, act}
+use Rattle.rules.specs.View.{View, line, nonempty, best, running, alone, without, moved, act}
 use Rattle.rules.specs.Sound.{Shape, Known, Queue, Sound}
 use Rattle.rules.proofs.Ids.{Each, times-append, times-keep, times-head}
+use Rattle.rules.proofs.Waits.{both-true}
 use Rattle.rules.proofs.Fits.{Fits, fits, population-after, in-range}
 use Rattle.rules.proofs.Sorting.{all-has}
 use Rattle.rules.proofs.Lines.{shape-tabulate, exists-after, line-act}
@@ -147,6 +149,27 @@ module _ (v : View) (h : Sound v) (q : Place) (r : Exists (v .body .store) q) wh
 
   pub empty-belongs : line v q ≡ [] → (i : ℕ) → belongs (v .body) q i ≡ false
   empty-belongs e i = empty-line-belongs (v .body) q i (subst (Queue (v .body) q) e (h .queues q r))
+
+-- the first nonempty list is one of them
+nonempty-at : (l : List (List ℕ)) (x : ℕ) (m : List ℕ) → nonempty l ≡ x ∷ m → (i : ℕ) × (i < length l) × (getD l i [] ≡ x ∷ m)
+nonempty-at [] x m e = absurd (no-first e)
+  where
+    no-first : {x : ℕ} {m : List ℕ} → [] ≡ x ∷ m → ⊥
+    no-first e = let z : _≡_ {A = ℕ} 0 1 = cc in omega arith
+nonempty-at ([] ∷ l) x m e = let r = nonempty-at l x m e in (suc (r .0), omega (arith, r .1), r .2)
+nonempty-at ((y ∷ q) ∷ l) x m e = (0, omega arith, e)
+
+-- the running task is READY or RUN
+pub running-ready : (v : View) → Sound v → eqb (running v) 0 ≡ false → isReady (task (v .body) (running v) .state) ≡ true
+unfolding running lineAt belongs
+running-ready v h = go (best v) refl
+  where
+    go : (l : List ℕ) → best v ≡ l → eqb (first l) 0 ≡ false → isReady (task (v .body) (first l) .state) ≡ true
+    go [] e z = absurd (false≢true (sym z))
+    go (x ∷ m) e z =
+        let r = nonempty-at (v .lines .ready) x m e in
+        let k : In (suc (r .0)) (v .body .store .priorities) = (omega arith, subst (λ (n : ℕ). suc (r .0) ≤ n) (h .shape .ready) (r .1)) in
+        both-true _ _ (first-belongs v h (readyAt (suc (r .0))) k x m (r .2)) .0
 
 -- where nobody stands, nobody waits
 pub none-waits : (v : View) → Sound v → (k : Kind) (o : ℕ) → Exists (v .body .store) (waiters k o) → line v (waiters k o) ≡ [] → NoneAt (v .body) k o

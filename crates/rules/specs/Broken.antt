@@ -1,11 +1,13 @@
--- A broken wait reads as broken, never as 0, until its task is next released or started.
+-- A broken wait reads as broken, never as 0, until its task is next released or started; and nothing else reads as broken.
 use mathlib.Core.Bool.{Bool, true, false, not, _&&_, _||_}
 use mathlib.Core.List.{List, [], _∷_}
+use mathlib.Core.Logic.{_⊎_}
 use mathlib.Core.Path.{_≡_}
-use lib.IntN.{ℤ}
-use Rattle.rules.specs.Codes.{E-RLWAI}
-use Rattle.rules.specs.State.{State, Cell, task, isDormant}
-use Rattle.rules.specs.Events.{Event, nat}
+use Prim.Native.Nat.{ℕ}
+use lib.IntN.{ℤ, pos}
+use Rattle.rules.specs.Codes.{E-RLWAI, number}
+use Rattle.rules.specs.State.{State, Cell, Task, task, isDormant}
+use Rattle.rules.specs.Events.{Event, tick, call, nat}
 use Rattle.rules.specs.View.{View}
 use Rattle.rules.specs.Answers.{isReleased}
 use Rattle.rules.specs.Kernel.{event, cell}
@@ -33,3 +35,27 @@ StaysBroken a v [] = cell v a ≡ broken
 StaysBroken a v (e ∷ l) =
     (cell v a ≡ broken)
     × Unless (isFresh (task (v .body) (nat a) .state) (task (event v e .next .body) (nat a) .state)) (StaysBroken a (event v e .next) l)
+
+-- ---- only rel_wai breaks a wait off
+
+-- the event is an accepted rel_wai that names task a: call 6, its first word a, and the number of the code that it is answered with is 0
+abbrev pub BreaksOff : ℤ → Event → ℤ → Type 0
+BreaksOff a tick code = ⊥
+BreaksOff a (call x n w b c) code = (n ≡ pos 6) × (w ≡ a) × (code ≡ pos 0)
+
+-- Of task i before and after an event, which is answered with that code: if its cell is E_RLWAI after the event, then the event is an
+-- accepted rel_wai that names it, or the cell is as it was and the task was neither released nor started.
+abbrev pub OnlyRelWai : ℕ → Event → ℤ → Task → Task → Type 0
+OnlyRelWai i e code before after =
+    after .cell .code ≡ E-RLWAI → BreaksOff (pos i) e code ⊎ ((after .cell ≡ before .cell) × (isFresh (before .state) (after .state) ≡ false))
+
+-- no event of the run releases or starts task a
+abbrev pub NeverFresh : ℤ → View → List Event → Type 0
+NeverFresh a v [] = Unit {0}
+NeverFresh a v (e ∷ l) =
+    (isFresh (task (v .body) (nat a) .state) (task (event v e .next .body) (nat a) .state) ≡ false) × NeverFresh a (event v e .next) l
+
+-- some event of the run is an accepted rel_wai that names task a, and no event behind it releases or starts the task
+abbrev pub BrokenOff : ℤ → View → List Event → Type 0
+BrokenOff a v [] = ⊥
+BrokenOff a v (e ∷ l) = (BreaksOff a e (number (event v e .answer .code)) × NeverFresh a (event v e .next) l) ⊎ BrokenOff a (event v e .next) l

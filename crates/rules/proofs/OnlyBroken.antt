@@ -1,0 +1,415 @@
+-- Only an accepted rel_wai makes a cell E_RLWAI, and no event is answered with it: every other act leaves a cell alone or writes another
+-- code. Over runs: a cell reads E_RLWAI exactly if such a rel_wai was the task's last release or start. Assumes nothing.
+use mathlib.Core.Bool.{Bool, true, false, cond, false≢true}
+use mathlib.Core.List.{List, [], _∷_, map}
+use mathlib.Core.Logic.{_⊎_, inl, inr, _≢_, _↔_}
+use mathlib.Core.Path.{_≡_, refl, sym, ap, _∙_, subst}
+use Prim.Native.Nat.{ℕ, zero, suc}
+use native.Mathlib.Decide.{ℕ-discrete}
+use native.Mathlib.Omega.{arith}
+use lib.Dec.{eqb}
+use lib.IntN.{ℤ, pos, negsuc}
+use lib.ListN.{length}
+use borrow.Author.Tests.{ne-eqb}
+use Rattle.rules.specs.Ids.{of, In}
+use Rattle.rules.specs.Codes.{Code, OK, H-STATE, E-NOEXS, E-NOWAI, E-RLWAI, number}
+use Rattle.rules.specs.State.{Wait, State, dormant, ready, suspended, waiting, waiting-suspended, Cell, Task, Body, task, nobody, isDormant, isReady, isWaiting}
+use Rattle.rules.specs.Places.{tabulate}
+use Rattle.rules.specs.Setup.{got, Entry, Setup, setup}
+use Rattle.rules.specs.Events.{Event, tick, call, Words, AllWords, nat, outside}
+use Rattle.rules.specs.Acts.{Act, start, retire, rotate, regrade, wait, release, suspend, resume, wakeups, count, pattern, post, receive, mark, elapse, change, started, retired, releasedTask, halted, resumed, older, with-state, with-priority, with-wakeups, after, afters}
+use Rattle.rules.specs.View.{View, running}
+use Rattle.rules.specs.Verdicts.{Verdict, done}
+use Rattle.rules.specs.Tasks.{starting, sta-tsk, ext-tsk, ter-tsk, chg-pri, rot-rdq, rel-wai, sus-tsk, rsm-tsk, take-wakeup, slp-tsk, wai-tsk, waking, wup-tsk, can-wup, get-tid, tsk-sts}
+use Rattle.rules.specs.Objects.{to-first, obj-sts, sig-sem, take-sem, set-flg, clr-flg, take-flg, snd-msg, take-msg, take-blk, rel-blk}
+use Rattle.rules.specs.Time.{get-tim, endings, ticked}
+use Rattle.rules.specs.Rows.{staTsk, extTsk, terTsk, chgPri, rotRdq, relWai, susTsk, rsmTsk, slpTsk, waiTsk, wupTsk, canWup, sigSem, waiSem, preqSem, setFlg, clrFlg, waiFlg, polFlg, sndMsg, rcvMsg, prcvMsg, getBlk, pgetBlk, relBlk, getTid, tskSts, semSts, flgSts, mbxSts, mplSts, getTim}
+use Rattle.rules.specs.Table.{caller, table, judge}
+use Rattle.rules.specs.Sound.{CellNumbers, Sound}
+use Rattle.rules.specs.Check.{sound?}
+use Rattle.rules.specs.Answers.{answer, readCell}
+use Rattle.rules.specs.Kernel.{idleTask, idle, starts, fresh, next, served, damaged, guarded, event, cell}
+use Rattle.rules.specs.Plain.{Plain, viewOf, plainAnswer}
+use Rattle.rules.specs.Runs.{states}
+use Rattle.rules.specs.Broken.{broken, isFresh, StaysBroken, BreaksOff, OnlyRelWai, NeverFresh, BrokenOff}
+use Rattle.rules.proofs.Ids.{of-put-other}
+use Rattle.rules.proofs.Queues.{running-ready}
+use Rattle.rules.proofs.Waits.{in-by}
+use Rattle.rules.proofs.States.{older-same}
+use Rattle.rules.proofs.Judge.{_⊗_, bad, AllRows, by-check, by-call, OnActs, on-acts, acts-check, acts-choose, acts-first, acts-count, acts-wait}
+use Rattle.rules.proofs.Cells.{change-each, map-each, body-acts, Gentle, releases, sets, elapses, AllGentle, flag-gentle, tick-gentle, served-whole}
+use Rattle.rules.proofs.Clean.{judge-not-broken}
+use Rattle.rules.proofs.Events.{event-next, cell-reads, sound-event, fresh-sound}
+use Rattle.rules.proofs.Broken.{tasks-next, stays, stays-broken}
+
+-- ---- a task that an act does not break off
+
+-- the cell is not E_RLWAI, or it is as it was and the task was neither released nor started
+abbrev Whole : Task → Task → Type 0
+Whole t u = (u .cell .code ≢ E-RLWAI) ⊎ ((u .cell ≡ t .cell) × (isFresh (t .state) (u .state) ≡ false))
+
+-- these changes of the state are neither a release nor a start
+record Unfresh (s : State) : Type 0 where
+  same : isFresh s s ≡ false
+  retired : isFresh s dormant ≡ false
+  halted : isFresh s (halted s) ≡ false
+  resumed : isFresh s (resumed s) ≡ false
+  waits : (w : Wait) → isDormant s ≡ false → isFresh s (waiting w) ≡ false
+
+unfresh : (s : State) → Unfresh s
+unfresh dormant = record { same = refl; retired = refl; halted = refl; resumed = refl; waits = λ w e. absurd (false≢true (sym e)) }
+unfresh ready = record { same = refl; retired = refl; halted = refl; resumed = refl; waits = λ w e. refl }
+unfresh suspended = record { same = refl; retired = refl; halted = refl; resumed = refl; waits = λ w e. refl }
+unfresh (waiting x) = record { same = refl; retired = refl; halted = refl; resumed = refl; waits = λ w e. refl }
+unfresh (waiting-suspended x) = record { same = refl; retired = refl; halted = refl; resumed = refl; waits = λ w e. refl }
+
+whole-same : (t : Task) → Whole t t
+whole-same t = inr (refl, unfresh (t .state) .same)
+
+-- For lists of acts: the cell is not E_RLWAI, or it is as it was and the task is as near to a release or a start as before.
+data Spared (t u : Task) : Type 0 where
+  rewritten : u .cell .code ≢ E-RLWAI → Spared t u
+  left-alone : u .cell ≡ t .cell → ((s : State) → isFresh (t .state) s ≡ isFresh (u .state) s) → Spared t u
+
+spared-same : (t : Task) → Spared t t
+spared-same t = left-alone refl (λ s. refl)
+
+spared-then : {t u w : Task} → Spared t u → Spared u w → Spared t w
+spared-then h (rewritten n) = rewritten n
+spared-then (rewritten n) (left-alone c f) = rewritten (λ e. n (ap (λ c. c .code) (sym c) ∙ e))
+spared-then (left-alone c f) (left-alone c′ f′) = left-alone (c′ ∙ c) (λ s. f s ∙ f′ s)
+
+spared-whole : {t u : Task} → Spared t u → Whole t u
+spared-whole (rewritten n) = inl n
+spared-whole {u} (left-alone c f) = inr (c, f (u .state) ∙ unfresh (u .state) .same)
+
+released-spared : (c : Code) (w : ℕ) → c ≢ E-RLWAI → (t : Task) → Spared t (releasedTask c w t)
+released-spared c w n t = go (isWaiting (t .state)) refl
+  where
+    go : (x : Bool) → isWaiting (t .state) ≡ x → Spared t (releasedTask c w t)
+    go true e = rw e (rewritten n)
+    go false e = rw e (spared-same t)
+
+older-spared : (t : Task) → Spared t (with-state (older (t .state)) t)
+older-spared t = left-alone refl (λ s. rw (older-same (t .state) .waiting, older-same (t .state) .dormant))
+
+gentle-spared : {a : Act} → Gentle a → (b : Body) (i : ℕ) → Spared (task b i) (task (after a b) i)
+unfolding after
+gentle-spared (releases j c w n) b i = change-each Spared spared-same (releasedTask c w) j b (λ t e. released-spared c w n t) i
+gentle-spared (sets f n) b i = spared-same _
+gentle-spared elapses b i = map-each Spared spared-same _ older-spared (b .tasks) i nobody
+
+list-spared : (l : List Act) → AllGentle l → (b : Body) (i : ℕ) → Spared (task b i) (task (afters l b) i)
+unfolding afters
+list-spared [] g b i = spared-same _
+list-spared (a ∷ l) g b i = spared-then (gentle-spared (g .0) b i) (list-spared l (g .1) (after a b) i)
+
+-- ---- one act
+
+-- no release with E_RLWAI, and only a task that is not dormant is put into a wait
+abbrev Sparing : Body → Act → Type 0
+Sparing b (start i) = Unit {0}
+Sparing b (retire i) = Unit {0}
+Sparing b (rotate i) = Unit {0}
+Sparing b (regrade i p) = Unit {0}
+Sparing b (wait i w) = isDormant (task b i .state) ≡ false
+Sparing b (release i c w) = c ≢ E-RLWAI
+Sparing b (suspend i) = Unit {0}
+Sparing b (resume i) = Unit {0}
+Sparing b (wakeups i n) = Unit {0}
+Sparing b (count s n) = Unit {0}
+Sparing b (pattern f n) = Unit {0}
+Sparing b (post j m) = Unit {0}
+Sparing b (receive j) = Unit {0}
+Sparing b (mark p k t) = Unit {0}
+Sparing b elapse = Unit {0}
+
+module _ (b : Body) (f : Task → Task) (j : ℕ) where
+  -- an act that changes a task but not its cell, and neither releases nor starts it
+  changed : ((t : Task) → f t .cell ≡ t .cell) → ((t : Task) → t ≡ task b j → isFresh (t .state) (f t .state) ≡ false) → (i : ℕ) → Whole (task b i) (task (change f j b) i)
+  changed h k i = change-each Whole whole-same f j b (λ t e. inr (h t, k t e)) i
+
+act-whole : (a : Act) (b : Body) → Sparing b a → (i : ℕ) → Whole (task b i) (task (after a b) i)
+unfolding after
+act-whole (start j) b d i = change-each Whole whole-same started j b (λ t e. inl served-whole) i
+act-whole (retire j) b d i = changed b retired j (λ t. refl) (λ t e. unfresh (t .state) .retired) i
+act-whole (rotate j) b d i = whole-same (task b i)
+act-whole (regrade j p) b d i = changed b (with-priority p) j (λ t. refl) (λ t e. unfresh (t .state) .same) i
+act-whole (wait j w) b d i = changed b (with-state (waiting w)) j (λ t. refl) (λ t e. unfresh (t .state) .waits w (rw e d)) i
+act-whole (release j c w) b d i = spared-whole (gentle-spared (releases j c w d) b i)
+act-whole (suspend j) b d i = changed b (λ t. with-state (halted (t .state)) t) j (λ t. refl) (λ t e. unfresh (t .state) .halted) i
+act-whole (resume j) b d i = changed b (λ t. with-state (resumed (t .state)) t) j (λ t. refl) (λ t e. unfresh (t .state) .resumed) i
+act-whole (wakeups j n) b d i = changed b (with-wakeups n) j (λ t. refl) (λ t e. unfresh (t .state) .same) i
+act-whole (count s n) b d i = whole-same (task b i)
+act-whole (pattern f n) b d i = whole-same (task b i)
+act-whole (post j m) b d i = whole-same (task b i)
+act-whole (receive j) b d i = whole-same (task b i)
+act-whole (mark p k t) b d i = whole-same (task b i)
+act-whole elapse b d i = spared-whole (gentle-spared elapses b i)
+
+-- ---- every call: the calls but rel_wai break nobody off
+
+ready-awake : (s : State) → isReady s ≡ true → isDormant s ≡ false
+ready-awake dormant e = absurd (false≢true e)
+ready-awake ready e = refl
+ready-awake suspended e = refl
+ready-awake (waiting w) e = refl
+ready-awake (waiting-suspended w) e = refl
+
+-- the caller of a call that only a task may make
+caller-awake : (v : View) → Sound v → (h : Bool) → eqb (caller v h) 0 ≡ false → isDormant (task (v .body) (caller v h) .state) ≡ false
+caller-awake v s true z = absurd (false≢true (sym z))
+caller-awake v s false z = ready-awake (task (v .body) (running v) .state) (running-ready v s z)
+
+module _ (b : Body) where
+  abbrev AllWhole : List Act → Type 0
+  AllWhole l = (i : ℕ) → Whole (task b i) (task (afters l b) i)
+
+  whole-none : AllWhole []
+  unfolding afters
+  whole-none i = whole-same (task b i)
+
+  whole-one : (a : Act) → Sparing b a → AllWhole (a ∷ [])
+  unfolding afters
+  whole-one a d i = act-whole a b d i
+
+  whole-list : (l : List Act) → AllGentle l → AllWhole l
+  whole-list l g i = spared-whole (list-spared l g b i)
+
+ruleset sparing = (acts-check, acts-choose, acts-first, acts-count, acts-wait, on-acts, whole-none, whole-one, whole-list, flag-gentle, served-whole)
+
+-- what is left: call 6, done by a release of the task that a names
+abbrev Breaks : ℤ → ℤ → Verdict → Type 0
+Breaks n a r = (n ≡ pos 6) × (r ≡ done (release (nat a) E-RLWAI 0 ∷ []))
+
+abbrev Spares : Body → ℤ → ℤ → Verdict → Type 0
+Spares b a n r = OnActs (AllWhole b) r ⊎ Breaks n a r
+
+module _ (v : View) (s : Sound v) (a y z : ℤ) where
+  rel-wai-spares : Spares (v .body) a (pos 6) (rel-wai v a)
+  unfolding rel-wai
+  rel-wai-spares = by-check (Spares (v .body) a) (λ n c e. inl (on-acts (whole-none (v .body)))) E-NOWAI (unfold bad in refl) (λ e. inr (refl, refl))
+
+  rows : (h : Bool) → AllRows (Spares (v .body) a) v h (caller v h) 1 (table v (caller v h) a y z)
+  unfolding table staTsk extTsk terTsk chgPri rotRdq relWai susTsk rsmTsk slpTsk waiTsk wupTsk canWup sigSem waiSem preqSem setFlg clrFlg waiFlg polFlg sndMsg rcvMsg prcvMsg getBlk pgetBlk relBlk getTid tskSts semSts flgSts mbxSts mplSts getTim starting sta-tsk ext-tsk ter-tsk chg-pri rot-rdq sus-tsk rsm-tsk take-wakeup slp-tsk wai-tsk waking wup-tsk can-wup get-tid tsk-sts to-first obj-sts sig-sem take-sem set-flg clr-flg take-flg snd-msg take-msg take-blk rel-blk get-tim
+  rows h =
+      (λ t. inl (search sparing depth 9))
+      ⊗ (λ t. inl (search sparing depth 9))
+      ⊗ (λ t. inl (search sparing depth 9))
+      ⊗ (λ t. inl (search sparing depth 9))
+      ⊗ (λ t. inl (search sparing depth 9))
+      ⊗ (λ t. rel-wai-spares)
+      ⊗ (λ t. inl (search sparing depth 9))
+      ⊗ (λ t. inl (search sparing depth 9))
+      ⊗ (λ t. inl (search (sparing, caller-awake v s h (t .context)) depth 9))
+      ⊗ (λ t. inl (search (sparing, caller-awake v s h (t .context)) depth 9))
+      ⊗ (λ t. inl (search sparing depth 9))
+      ⊗ (λ t. inl (search sparing depth 9))
+      ⊗ (λ t. inl (search sparing depth 9))
+      ⊗ (λ t. inl (search (sparing, caller-awake v s h (t .context)) depth 9))
+      ⊗ (λ t. inl (search sparing depth 9))
+      ⊗ (λ t. inl (search sparing depth 9))
+      ⊗ (λ t. inl (search sparing depth 9))
+      ⊗ (λ t. inl (search (sparing, caller-awake v s h (t .context)) depth 9))
+      ⊗ (λ t. inl (search sparing depth 9))
+      ⊗ (λ t. inl (search sparing depth 9))
+      ⊗ (λ t. inl (search (sparing, caller-awake v s h (t .context)) depth 9))
+      ⊗ (λ t. inl (search sparing depth 9))
+      ⊗ (λ t. inl (search (sparing, caller-awake v s h (t .context)) depth 9))
+      ⊗ (λ t. inl (search sparing depth 9))
+      ⊗ (λ t. inl (search sparing depth 9))
+      ⊗ (λ t. inl (search sparing depth 9))
+      ⊗ (λ t. inl (search sparing depth 9))
+      ⊗ (λ t. inl (search sparing depth 9))
+      ⊗ (λ t. inl (search sparing depth 9))
+      ⊗ (λ t. inl (search sparing depth 9))
+      ⊗ (λ t. inl (search sparing depth 9))
+      ⊗ (λ t. inl (search sparing depth 9))
+      ⊗ tt
+
+-- ---- an event
+
+-- a release changes the task that the word names, and no other
+release-names : (b : Body) (a : ℤ) (c : Code) (w i : ℕ) → (a ≡ pos i) ⊎ (task (after (release (nat a) c w) b) i ≡ task b i)
+unfolding after
+release-names b (pos k) c w i = elim (ℕ-discrete k i) [ yes e ↦ inl (ap pos e) | no n ↦ inr (of-put-other (b .tasks) k i _ nobody (ne-eqb k i n)) ]
+release-names b (negsuc k) c w i = inr refl
+
+whole-only : (i : ℕ) (e : Event) (code : ℤ) (t u : Task) → Whole t u → OnlyRelWai i e code t u
+whole-only i e code t u (inl n) h = absurd (n h)
+whole-only i e code t u (inr k) h = inr k
+
+-- of any verdict of a call
+call-only : (b : Body) (i : ℕ) (x n a y z : ℤ) (r : Verdict) → Spares b a n r → OnlyRelWai i (call x n a y z) (number (r .code)) (task b i) (task (afters (r .acts) b) i)
+call-only b i x n a y z r (inl (on-acts w)) = whole-only i (call x n a y z) (number (r .code)) (task b i) (task (afters (r .acts) b) i) (w i)
+call-only b i x n a y z r (inr k) = rw (k .1) (λ h. go (release-names b a E-RLWAI 0 i))
+  where
+    go : (a ≡ pos i) ⊎ (task (after (release (nat a) E-RLWAI 0) b) i ≡ task b i)
+        → BreaksOff (pos i) (call x n a y z) (number OK)
+        ⊎ ((task (afters (release (nat a) E-RLWAI 0 ∷ []) b) i .cell ≡ task b i .cell) × (isFresh (task b i .state) (task (afters (release (nat a) E-RLWAI 0 ∷ []) b) i .state) ≡ false))
+    go (inl e) = inl (k .0, e, unfold number in refl)
+    go (inr e) = inr (unfold afters in rw e (refl, unfresh (task b i .state) .same))
+
+module _ (v : View) (s : Sound v) (i : ℕ) where
+  acts-only : (e : Event) → OnlyRelWai i e (number (judge v e .code)) (task (v .body) i) (task (afters (judge v e .acts) (v .body)) i)
+  unfolding judge ticked
+  acts-only tick = whole-only i tick (number OK) (task (v .body) i) (task (afters (ticked v .acts) (v .body)) i) (whole-list (v .body) _ (tick-gentle (endings (v .body))) i)
+  acts-only (call x n a y z) =
+      call-only (v .body) i x n a y z (judge v (call x n a y z)) (by-call (Spares (v .body) a) (λ n c e. inl (on-acts (whole-none (v .body)))) v a y z (rows v s a y z) x n)
+
+-- Only an accepted rel_wai that names the task makes its cell E_RLWAI. Of any state: a damaged one is left as it was.
+pub only-rel-wai : (v : View) (e : Event) (i : ℕ) → OnlyRelWai i e (number (event v e .answer .code)) (task (v .body) i) (task (event v e .next .body) i)
+unfolding event guarded served next damaged answer
+only-rel-wai v e i = go (sound? v)
+  where
+    go : (d : Dec (Sound v)) → OnlyRelWai i e (number (guarded v e d .answer .code)) (task (v .body) i) (task (guarded v e d .next .body) i)
+    go (yes s) = rw (body-acts (judge v e .acts) v) (acts-only v s i e)
+    go (no n) = whole-only i e (number H-STATE) (task (v .body) i) (task (v .body) i) (whole-same (task (v .body) i))
+
+-- No event is answered with E_RLWAI, in either kernel.
+pub never-answered : (v : View) (e : Event) → event v e .answer .code ≢ E-RLWAI
+unfolding event guarded served damaged answer
+never-answered v e = go (sound? v)
+  where
+    go : (d : Dec (Sound v)) → guarded v e d .answer .code ≢ E-RLWAI
+    go (yes s) = judge-not-broken v e
+    go (no n) = λ h. let z : _≡_ {A = ℕ} 0 1 = cc in omega arith
+
+pub plain-never-answered : (s : Plain) (e : Event) → plainAnswer s e .code ≢ E-RLWAI
+unfolding plainAnswer answer
+plain-never-answered s e = judge-not-broken (viewOf s) e
+
+-- ---- runs
+
+-- a cell that reads E_RLWAI is that of a task that there is
+read-there : (b : Body) (a : ℤ) → readCell b a .code ≡ E-RLWAI → (a ≡ pos (nat a)) × (outside a (length (b .tasks)) ≡ false) × (task b (nat a) .cell .code ≡ E-RLWAI)
+unfolding readCell
+read-there b a h = go (outside a (length (b .tasks))) refl h
+  where
+    named : (a : ℤ) → In (nat a) (length (b .tasks)) → a ≡ pos (nat a)
+    named (pos k) r = refl
+    named (negsuc k) r = absurd (omega (arith, r .0))
+
+    go : (t : Bool) → outside a (length (b .tasks)) ≡ t → cond t (record { code = E-NOEXS; word = 0 }) (task b (nat a) .cell) .code ≡ E-RLWAI
+        → (a ≡ pos (nat a)) × (outside a (length (b .tasks)) ≡ false) × (task b (nat a) .cell .code ≡ E-RLWAI)
+    go true e h = absurd (let z : _≡_ {A = ℕ} 0 1 = cc in omega arith)
+    go false e h = (named a (in-by a _ e), e, h)
+
+-- what is read by id, at one event
+step : (v : View) (e : Event) (a : ℤ) → Sound v → Words e → cell (event v e .next) a .code ≡ E-RLWAI
+    → BreaksOff a e (number (event v e .answer .code)) ⊎ ((cell v a .code ≡ E-RLWAI) × (isFresh (task (v .body) (nat a) .state) (task (event v e .next .body) (nat a) .state) ≡ false))
+unfolding readCell
+step v e a s w h =
+    let r = read-there (event v e .next .body) a (rw (cell-reads (event v e .next) a (sound-event v e s w)) at h) in
+    go r (only-rel-wai v e (nat a) (r .2))
+  where
+    t : Task
+    t = task (v .body) (nat a)
+
+    u : Task
+    u = task (event v e .next .body) (nat a)
+
+    go : (a ≡ pos (nat a)) × (outside a (length (event v e .next .body .tasks)) ≡ false) × (u .cell .code ≡ E-RLWAI)
+        → BreaksOff (pos (nat a)) e (number (event v e .answer .code)) ⊎ ((u .cell ≡ t .cell) × (isFresh (t .state) (u .state) ≡ false))
+        → BreaksOff a e (number (event v e .answer .code)) ⊎ ((cell v a .code ≡ E-RLWAI) × (isFresh (t .state) (u .state) ≡ false))
+    go r (inl k) = inl (subst (λ (b : ℤ). BreaksOff b e (number (event v e .answer .code))) (sym (r .0)) k)
+    go r (inr k) = inr (rw (cell-reads v a s, inside) (ap (λ c. c .code) (sym (k .0)) ∙ r .2), k .1)
+      where
+        inside : outside a (length (v .body .tasks)) ≡ false
+        inside = ap (λ (n : ℕ). outside a n) (sym (ap (λ (x : View). length (x .body .tasks)) (event-next v e s) ∙ tasks-next v e)) ∙ r .1
+
+since : (a : ℤ) (v : View) (l : List Event) → Sound v → AllWords l → cell (states v l) a .code ≡ E-RLWAI
+    → BrokenOff a v l ⊎ ((cell v a .code ≡ E-RLWAI) × NeverFresh a v l)
+unfolding states
+since a v [] s w h = inr (h, tt)
+since a v (e ∷ l) s w h = go (since a (event v e .next) l (sound-event v e s (w .0)) (w .1) h)
+  where
+    at : NeverFresh a (event v e .next) l
+        → BreaksOff a e (number (event v e .answer .code)) ⊎ ((cell v a .code ≡ E-RLWAI) × (isFresh (task (v .body) (nat a) .state) (task (event v e .next .body) (nat a) .state) ≡ false))
+        → BrokenOff a v (e ∷ l) ⊎ ((cell v a .code ≡ E-RLWAI) × NeverFresh a v (e ∷ l))
+    at n (inl k) = inl (inl (k, n))
+    at n (inr k) = inr (k .0, (k .1, n))
+
+    go : BrokenOff a (event v e .next) l ⊎ ((cell (event v e .next) a .code ≡ E-RLWAI) × NeverFresh a (event v e .next) l) → BrokenOff a v (e ∷ l) ⊎ ((cell v a .code ≡ E-RLWAI) × NeverFresh a v (e ∷ l))
+    go (inl k) = inl (inr k)
+    go (inr k) = at (k .1) (step v e a s (w .0) (k .0))
+
+-- ---- and the other way round
+
+-- a cell of a sound state that reads E_RLWAI has word 0
+cell-broken : (v : View) (a : ℤ) → Sound v → cell v a .code ≡ E-RLWAI → cell v a ≡ broken
+unfolding readCell
+cell-broken v a s h =
+    let r = read-there (v .body) a (rw (cell-reads v a s) at h) in
+    cell-reads v a s ∙ rw (r .1) (go (task (v .body) (nat a) .cell) (r .2) (s .body .tasks (nat a) (in-by a _ (r .1)) .cell))
+  where
+    go : (c : Cell) → c .code ≡ E-RLWAI → CellNumbers c → c ≡ broken
+    go c e (inl k) = absurd (served-whole (sym (k .0) ∙ e))
+    go c e (inr k) = λ z. record { code = e z; word = k .1 z }
+
+stays-end : (a : ℤ) (v : View) (l : List Event) → StaysBroken a v l → NeverFresh a v l → cell (states v l) a .code ≡ E-RLWAI
+unfolding states
+stays-end a v [] h n = ap (λ c. c .code) h
+stays-end a v (e ∷ l) h n = stays-end a (event v e .next) l (rw (n .0) at (h .1)) (n .1)
+
+broken-reads : (a : ℤ) (v : View) (l : List Event) → Sound v → AllWords l → BrokenOff a v l → cell (states v l) a .code ≡ E-RLWAI
+unfolding states
+broken-reads a v [] s w h = absurd h
+broken-reads a v (e ∷ l) s w (inr h) = broken-reads a (event v e .next) l (sound-event v e s (w .0)) (w .1) h
+broken-reads a v (e ∷ l) s w (inl h) = stays-end a (event v e .next) l (go e (w .0) (h .0)) (h .1)
+  where
+    go : (e : Event) → Words e → BreaksOff a e (number (event v e .answer .code)) → StaysBroken a (event v e .next) l
+    go tick q k = absurd k
+    go (call x n b y z) q k = named n b (k .0) (k .1) q (k .2)
+      where
+        named : (n b : ℤ) → n ≡ pos 6 → b ≡ a → Words (call x n b y z) → number (event v (call x n b y z) .answer .code) ≡ pos 0 → StaysBroken a (event v (call x n b y z) .next) l
+        named n b p q = rw (p, q) (λ r k. stays-broken v x a y z s r k l (w .1))
+
+-- From any sound state: a cell reads E_RLWAI behind a run exactly if some event of the run is an accepted rel_wai that names the task and no
+-- event behind it releases or starts the task, or the cell read so before the run and no event of it does.
+pub broken-since : (a : ℤ) (v : View) (l : List Event) → Sound v → AllWords l
+    → (cell (states v l) a .code ≡ E-RLWAI) ↔ (BrokenOff a v l ⊎ ((cell v a .code ≡ E-RLWAI) × NeverFresh a v l))
+broken-since a v l s w = (since a v l s w, go)
+  where
+    go : BrokenOff a v l ⊎ ((cell v a .code ≡ E-RLWAI) × NeverFresh a v l) → cell (states v l) a .code ≡ E-RLWAI
+    go (inl h) = broken-reads a v l s w h
+    go (inr h) = stays-end a v l (stays a v l s w (cell-broken v a s (h .0))) (h .1)
+
+-- ---- from the fresh start: no cell is E_RLWAI
+
+idle-whole : (l : List Entry) (i : ℕ) → of (map idleTask l) i nobody .cell .code ≢ E-RLWAI
+idle-whole l zero = served-whole
+idle-whole [] (suc i) = served-whole
+idle-whole (x ∷ l) (suc zero) = served-whole
+idle-whole (x ∷ l) (suc (suc i)) = idle-whole l (suc i)
+
+starts-whole : (k : ℕ) (l : List Entry) (b : Body) → ((i : ℕ) → task b i .cell .code ≢ E-RLWAI) → (i : ℕ) → task (afters (starts k l) b) i .cell .code ≢ E-RLWAI
+unfolding starts afters
+starts-whole k [] b h = h
+starts-whole k (e ∷ l) b h = go (e .started) (starts-whole (suc k) l (after (start k) b) (λ i. one i (act-whole (start k) b tt i))) (starts-whole (suc k) l b h)
+  where
+    one : (i : ℕ) → Whole (task b i) (task (after (start k) b) i) → task (after (start k) b) i .cell .code ≢ E-RLWAI
+    one i (inl n) = n
+    one i (inr c) = λ d. h i (ap (λ c. c .code) (sym (c .0)) ∙ d)
+
+    go : (t : Bool) → ((i : ℕ) → task (afters (starts (suc k) l) (after (start k) b)) i .cell .code ≢ E-RLWAI) → ((i : ℕ) → task (afters (starts (suc k) l) b) i .cell .code ≢ E-RLWAI)
+        → (i : ℕ) → task (afters (cond t (start k ∷ starts (suc k) l) (starts (suc k) l)) b) i .cell .code ≢ E-RLWAI
+    go true p q = p
+    go false p q = q
+
+fresh-whole : (u : Setup) (i : ℕ) → task (fresh u .body) i .cell .code ≢ E-RLWAI
+unfolding fresh idle
+fresh-whole u i = rw (body-acts (starts 1 (u .tasks)) (record { body = idle u; lines = tabulate (idle u .store) (λ q. []) })) (starts-whole 1 (u .tasks) (idle u) (idle-whole (u .tasks)) i)
+
+-- In a run from the fresh state a cell reads E_RLWAI exactly if some event is an accepted rel_wai that names the task, and no event behind
+-- it releases or starts the task.
+pub fresh-broken : (s : List ℕ) (u : Setup) (i : ℕ) → setup s ≡ got u i → (a : ℤ) (l : List Event) → AllWords l
+    → (cell (states (fresh u) l) a .code ≡ E-RLWAI) ↔ BrokenOff a (fresh u) l
+fresh-broken s u i e a l w = (λ h. go (since a (fresh u) l sound w h), broken-reads a (fresh u) l sound w)
+  where
+    sound : Sound (fresh u)
+    sound = fresh-sound s u i e
+
+    go : BrokenOff a (fresh u) l ⊎ ((cell (fresh u) a .code ≡ E-RLWAI) × NeverFresh a (fresh u) l) → BrokenOff a (fresh u) l
+    go (inl h) = h
+    go (inr h) = absurd (fresh-whole u (nat a) (read-there (fresh u .body) a (rw (cell-reads (fresh u) a sound) at (h .0)) .2))
