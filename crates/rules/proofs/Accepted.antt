@@ -13,6 +13,7 @@ use lib.ListN.{length, getD, length-map, length-replicate}
 use borrow.Author.Tests.{leb-true}
 use Rattle.rules.specs.Ids.{of, In, once, times}
 use Rattle.rules.specs.Setup.{Fault, S1, S2, S3, S4, Read, got, refused, and-then, wordAt, Range, to, within, readWord, Section, priorities, sections, readEntry, readEntries, readSection, readSections, Entry, Setup, setupOf, readSetup, at-end, setup, taskEntry, wordOf}
+pub use Rattle.rules.specs.Setup.{GoodSetup}
 use Rattle.rules.specs.State.{dormant, nobody}
 use Rattle.rules.specs.Places.{Place, readyAt, waiters, mail, belongs, tabulate}
 use Rattle.rules.specs.Sound.{SoundTask, SoundBody, AllUnserved, Sound}
@@ -30,25 +31,9 @@ module _ {A : Type 0} where
   each-of P (x ∷ l) (suc zero) d h r = h .0
   each-of P (x ∷ l) (suc (suc i)) d h r = each-of P l (suc i) d (h .1) (omega arith, omega (arith, r .1))
 
-each-map : {A B : Type 0} (P : A → Type 0) (Q : B → Type 0) (f : A → B) (l : List A) → ((x : A) → P x → Q (f x)) → Each P l → Each Q (map f l)
+pub each-map : {A B : Type 0} (P : A → Type 0) (Q : B → Type 0) (f : A → B) (l : List A) → ((x : A) → P x → Q (f x)) → Each P l → Each Q (map f l)
 each-map P Q f [] h g = tt
 each-map P Q f (x ∷ l) h g = (h x (g .0), each-map P Q f l h (g .1))
-
--- ---- an accepted setup
-
-pub record GoodSetup (u : Setup) : Type 0 where
-  pub priorities : In (u .priorities) 16
-  pub tasks : In (length (u .tasks)) 32
-  -- starting priorities
-  pub starts : Each (λ e. In (e .priority) (u .priorities)) (u .tasks)
-  pub semaphores : length (u .semaphores) ≤ 16
-  pub counts : Each (λ n. n ≤ 65535) (u .semaphores)
-  pub flags : length (u .flags) ≤ 16
-  pub patterns : Each (λ p. p < 2 ^ 32) (u .flags)
-  pub mailboxes : u .mailboxes ≤ 16
-  pub messages : u .messages ≤ 256
-  pub pools : length (u .pools) ≤ 8
-  pub blocks : Each (λ n. In n 32) (u .pools)
 
 -- ---- what is read
 
@@ -58,7 +43,7 @@ Reads P (got a next) = P a next
 Reads P (refused d place) = Unit {0}
 
 module _ {A B : Type 0} (P : A → ℕ → Type 0) (Q : B → ℕ → Type 0) where
-  reads-then : (r : Read A) (f : A → ℕ → Read B) → Reads P r → ((a : A) (i : ℕ) → P a i → Reads Q (f a i)) → Reads Q (and-then r f)
+  pub reads-then : (r : Read A) (f : A → ℕ → Read B) → Reads P r → ((a : A) (i : ℕ) → P a i → Reads Q (f a i)) → Reads Q (and-then r f)
   unfolding and-then
   reads-then (got a next) f h g = g a next h
   reads-then (refused d place) f h g = tt
@@ -126,7 +111,7 @@ module _ (s : List ℕ) where
       counted n j g (got l next) h = ((rw (h .0 .0) (g .0), h .0 .1), h .1)
       counted n j g (refused d place) h = tt
 
-  sections-reads : (l : List Section) (i : ℕ) → i ≤ length s → Reads (Within (SectionsFit l)) (readSections s l i)
+  pub sections-reads : (l : List Section) (i : ℕ) → i ≤ length s → Reads (Within (SectionsFit l)) (readSections s l i)
   unfolding readSections
   sections-reads [] i h = (tt, h)
   sections-reads (t ∷ l) i h =
@@ -166,7 +151,7 @@ good-sections P l p h = record {
 -- ---- the whole
 
 -- P of what was read, if something was read
-from-read : {A : Type 0} (P : A → ℕ → Type 0) (r : Read A) (a : A) (i : ℕ) → r ≡ got a i → Reads P r → P a i
+pub from-read : {A : Type 0} (P : A → ℕ → Type 0) (r : Read A) (a : A) (i : ℕ) → r ≡ got a i → Reads P r → P a i
 from-read P r a i e h = rw e at h
 
 module _ (s : List ℕ) where

@@ -12,6 +12,7 @@ use lib.ListN.{length, length-set, length-map, List·getD-eq-default, List·getD
 use lib.Seq.{getD-set-same, getD-set-other}
 use borrow.Author.Tests.{eqb-true, eqb-false, ne-eqb, eq-eqb}
 use Rattle.rules.specs.Ids.{of, put, from, ids, In, keep, once, times}
+pub use Rattle.rules.specs.Ids.{Each}
 
 -- ---- tables by id
 
@@ -104,13 +105,6 @@ module _ {ℓ} {A : Type ℓ} where
   of-replicate zero (suc i) d = refl
   of-replicate (suc n) (suc zero) d = refl
   of-replicate (suc n) (suc (suc i)) d = of-replicate n (suc i) d
-
--- ---- what holds of each of a list
-
-module _ {A : Type 0} where
-  abbrev pub Each : (A → Type 0) → List A → Type 0
-  Each P [] = Unit {0}
-  Each P (x ∷ l) = P x × Each P l
 
 -- ---- a table made from the ids 1 to n
 

@@ -12,6 +12,7 @@ pub mod Keeps
 pub mod Queues
 pub mod Calls
 pub mod Accepted
+pub mod Setups
 pub mod Events
 pub mod Cells
 pub mod Clean

@@ -29,6 +29,12 @@ ids n = from 1 n
 abbrev pub In : ℕ → ℕ → Type 0
 In i n = (1 ≤ i) × (i ≤ n)
 
+-- P of each of a list
+module _ {A : Type 0} where
+  abbrev pub Each : (A → Type 0) → List A → Type 0
+  Each P [] = Unit {0}
+  Each P (x ∷ l) = P x × Each P l
+
 -- those of a list that pass a test, in the list's order
 unfoldable pub keep : (ℕ → Bool) → List ℕ → List ℕ
 keep p [] = []

@@ -2,6 +2,7 @@
 pub mod Ids
 pub mod Codes
 pub mod Setup
+pub mod Writing
 pub mod Events
 pub mod State
 pub mod Places

@@ -1,9 +1,10 @@
 -- The setup as bytes: read left to right, the first fault decides. Numbers are four bytes, least significant first, unsigned.
 use mathlib.Core.Bool.{Bool, cond, _&&_}
 use mathlib.Core.List.{List, [], _∷_, map}
-use Prim.Native.Nat.{ℕ, zero, suc, _+_, _-_, _*_, _^_}
+use Prim.Native.Nat.{ℕ, zero, suc, _+_, _-_, _*_, _≤_, _<_, _^_}
 use lib.Dec.{eqb, leb}
 use lib.ListN.{length, getD}
+use Rattle.rules.specs.Ids.{In, Each}
 
 -- S1 the bytes end before a needed word is whole; S2 a count outside its range; S3 an entry outside its range; S4 bytes left over.
 pub data Fault : Type 0 where
@@ -102,6 +103,21 @@ pub record Setup : Type 0 where
   pub messages : ℕ
   -- the number of blocks of each
   pub pools : List ℕ
+
+-- a setup in range: its counts and its entries lie in their ranges
+pub record GoodSetup (u : Setup) : Type 0 where
+  pub priorities : In (u .priorities) 16
+  pub tasks : In (length (u .tasks)) 32
+  -- starting priorities
+  pub starts : Each (λ e. In (e .priority) (u .priorities)) (u .tasks)
+  pub semaphores : length (u .semaphores) ≤ 16
+  pub counts : Each (λ n. n ≤ 65535) (u .semaphores)
+  pub flags : length (u .flags) ≤ 16
+  pub patterns : Each (λ p. p < 2 ^ 32) (u .flags)
+  pub mailboxes : u .mailboxes ≤ 16
+  pub messages : u .messages ≤ 256
+  pub pools : length (u .pools) ≤ 8
+  pub blocks : Each (λ n. In n 32) (u .pools)
 
 -- the i-th section's entries; the i-th word of an entry
 abbrev pub entriesOf : List (List (List ℕ)) → ℕ → List (List ℕ)
