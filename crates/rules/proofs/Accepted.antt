@@ -130,7 +130,7 @@ first-fits : (r : Range) (l : List Range) (w : List ℕ) → Fits (r ∷ l) w �
 first-fits r l [] h = absurd h
 first-fits r l (x ∷ w) h = h .0
 
-good-sections : (P : ℕ) (l : List (List (List ℕ))) → In P 16 → SectionsFit (sections P) l → GoodSetup (setupOf P l)
+pub good-sections : (P : ℕ) (l : List (List (List ℕ))) → In P 16 → SectionsFit (sections P) l → GoodSetup (setupOf P l)
 good-sections P l p h = record {
   priorities = p;
   tasks = rw (length-map (getD l 0 []) taskEntry) (at 0 (omega arith) .0);

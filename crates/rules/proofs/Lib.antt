@@ -12,7 +12,9 @@ pub mod Keeps
 pub mod Queues
 pub mod Calls
 pub mod Accepted
+pub mod Spelled
 pub mod Setups
+pub mod Faults
 pub mod Events
 pub mod Cells
 pub mod Clean

@@ -3,6 +3,7 @@ pub mod Ids
 pub mod Codes
 pub mod Setup
 pub mod Writing
+pub mod Faults
 pub mod Events
 pub mod State
 pub mod Places

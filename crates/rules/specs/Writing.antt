@@ -5,9 +5,10 @@ use lib.ListN.{length}
 use Rattle.rules.specs.Ids.{Each, once}
 use Rattle.rules.specs.Setup.{Entry, Setup}
 
-abbrev pub joined : List (List ℕ) → List ℕ
-joined [] = []
-joined (x ∷ l) = x ++ joined l
+module _ {A : Type 0} where
+  abbrev pub joined : List (List A) → List A
+  joined [] = []
+  joined (x ∷ l) = x ++ joined l
 
 -- ---- words
 
