@@ -92,6 +92,14 @@ examples = record {
       ∷ step (X tsk-sts 1 0 0) (pos 0) 1 2 2 0
       ∷ [])
       1 (pos 0) 0
+      -- Cell 0 and 0: the message of the last wait is gone too.
+      ∷ case 0 1
+      (step (X rcv-msg 1 0 0) (pos 1) 0 0 2 0
+      ∷ step (X snd-msg 1 3 0) (pos 0) 0 0 2 1
+      ∷ step (X ter-tsk 1 0 0) (pos 0) 0 0 2 0
+      ∷ step (X sta-tsk 1 0 0) (pos 0) 0 0 2 0
+      ∷ [])
+      1 (pos 0) 0
       -- E_SELF: ter_tsk on oneself. E_DMT: on a dormant task. E_CTX: task-only call from a handler. The id is judged before all of these.
       ∷ case 0 1
       (step (X ter-tsk 1 0 0) (minus 2097) 0 0 1 0
@@ -123,6 +131,23 @@ examples = record {
       ∷ step (X chg-pri 3 5 0) (minus 1830) 0 0 1 0
       ∷ step (X chg-pri 3 1 0) (minus 2101) 0 0 1 0
       ∷ step (X tsk-sts 1 0 0) (pos 0) 2 2 1 0
+      ∷ [])
+      1 (pos 0) 0
+      -- New priority, and nothing else of a task that is not READY or RUN: a waiting one, suspended or not, keeps its place in the wait queue,
+      -- and a suspended one stays SUSPEND.
+      ∷ case 0 1
+      (step (X wai-sem 1 0 0) (pos 1) 0 0 2 0
+      ∷ step (X wai-sem 1 0 0) (pos 1) 0 0 5 0
+      ∷ step (X chg-pri 1 1 0) (pos 0) 0 0 5 0
+      ∷ step (X sem-sts 1 0 0) (pos 0) 1 0 5 0
+      ∷ step (X sus-tsk 1 0 0) (pos 0) 0 0 5 0
+      ∷ step (X chg-pri 1 3 0) (pos 0) 0 0 5 0
+      ∷ step (X sem-sts 1 0 0) (pos 0) 1 0 5 0
+      ∷ step (X tsk-sts 1 0 0) (pos 0) 5 3 5 0
+      ∷ step (X sig-sem 1 0 0) (pos 0) 0 0 5 1
+      ∷ step (X chg-pri 1 1 0) (pos 0) 0 0 5 0
+      ∷ step (X tsk-sts 1 0 0) (pos 0) 4 1 5 0
+      ∷ step (X rsm-tsk 1 0 0) (pos 0) 0 0 1 0
       ∷ [])
       1 (pos 0) 0
       -- 5 rot_rdq(a): the head of that queue goes last; 0 means the running task's queue; an empty queue is code 0. E_TPRI: outside 0..P.
@@ -199,6 +224,49 @@ examples = record {
       ∷ step (X sem-sts 1 0 0) (pos 0) 2 0 5 0
       ∷ [])
       1 (pos 0) 0
+      -- H_NODMT on a waiting, a suspended and the running task; E_NOSUS on a waiting and the running task; E_NOWAI on a suspended one.
+      ∷ case 0 1
+      (step (X slp-tsk 0 0 0) (pos 1) 0 0 2 0
+      ∷ step (X sus-tsk 5 0 0) (pos 0) 0 0 2 0
+      ∷ step (X sta-tsk 1 0 0) (minus 3) 0 0 2 0
+      ∷ step (X sta-tsk 5 0 0) (minus 3) 0 0 2 0
+      ∷ step (X sta-tsk 2 0 0) (minus 3) 0 0 2 0
+      ∷ step (X rsm-tsk 1 0 0) (minus 2104) 0 0 2 0
+      ∷ step (X rsm-tsk 2 0 0) (minus 2104) 0 0 2 0
+      ∷ step (X rel-wai 5 0 0) (minus 2110) 0 0 2 0
+      ∷ step (X sus-tsk 1 0 0) (pos 0) 0 0 2 0
+      ∷ step (X sta-tsk 1 0 0) (minus 3) 0 0 2 0
+      ∷ step (X tsk-sts 1 0 0) (pos 0) 5 2 2 0
+      ∷ step (X tsk-sts 5 0 0) (pos 0) 4 2 2 0
+      ∷ [])
+      1 (pos 0) 0
+      -- What the events of a task leave as it is: its priority but for chg_pri, its wake-up count but for the calls on it, and its cell, which
+      -- only release and sta_tsk change. Task 1 is moved, suspended, resumed and put into a wait, and time goes by.
+      ∷ case 0 1
+      (step (X slp-tsk 0 0 0) (pos 1) 0 0 2 0
+      ∷ step (X rel-wai 1 0 0) (pos 0) 0 0 2 1
+      ∷ step (X chg-pri 1 3 0) (pos 0) 0 0 2 0
+      ∷ step (X wup-tsk 1 0 0) (pos 0) 0 0 2 0
+      ∷ step (X sus-tsk 1 0 0) (pos 0) 0 0 2 0
+      ∷ step tick (pos 0) 0 0 2 0
+      ∷ step (X tsk-sts 1 0 0) (pos 0) 4 3 2 0
+      ∷ step (X rsm-tsk 1 0 0) (pos 0) 0 0 2 0
+      ∷ step (X rot-rdq 3 0 0) (pos 0) 0 0 2 0
+      ∷ step (X rot-rdq 3 0 0) (pos 0) 0 0 2 0
+      ∷ step (X rot-rdq 3 0 0) (pos 0) 0 0 2 0
+      ∷ step (X slp-tsk 0 0 0) (pos 1) 0 0 5 0
+      ∷ step (X slp-tsk 0 0 0) (pos 1) 0 0 1 0
+      ∷ step (X wai-sem 1 0 0) (pos 1) 0 0 4 0
+      ∷ step (X sus-tsk 1 0 0) (pos 0) 0 0 4 0
+      ∷ step tick (pos 0) 0 0 4 0
+      ∷ step (X tsk-sts 1 0 0) (pos 0) 5 3 4 0
+      ∷ step (X rsm-tsk 1 0 0) (pos 0) 0 0 4 0
+      ∷ step (X chg-pri 1 4 0) (pos 0) 0 0 4 0
+      ∷ step tick (pos 0) 0 0 4 0
+      ∷ step (X tsk-sts 1 0 0) (pos 0) 3 4 4 0
+      ∷ step (X can-wup 1 0 0) (pos 0) 1 0 4 0
+      ∷ [])
+      1 (minus 3414) 0
       -- 9 slp_tsk: with a stored wake-up, takes one, code 0; else waits. 11 wup_tsk(a): a sleeper is released, cell 0 and 0; any other task's
       -- count rises. 12 can_wup(a): w1 the old count, which becomes 0.
       ∷ case 0 1
@@ -223,6 +291,38 @@ examples = record {
       ∷ step (X can-wup 3 0 0) (minus 2101) 0 0 2 0
       ∷ [])
       1 (pos 0) 0
+      -- A sleeper that is released stores no wake-up. A release leaves a stored one, and the priority.
+      ∷ case 0 1
+      (step (X slp-tsk 0 0 0) (pos 1) 0 0 2 0
+      ∷ step (X wup-tsk 1 0 0) (pos 0) 0 0 2 1
+      ∷ step (X can-wup 1 0 0) (pos 0) 0 0 2 0
+      ∷ step (X wai-sem 1 0 0) (pos 1) 0 0 5 0
+      ∷ step (X wup-tsk 2 0 0) (pos 0) 0 0 5 0
+      ∷ step (X chg-pri 2 3 0) (pos 0) 0 0 5 0
+      ∷ step (X sig-sem 1 0 0) (pos 0) 0 0 5 1
+      ∷ step (X tsk-sts 2 0 0) (pos 0) 1 3 5 0
+      ∷ step (X can-wup 2 0 0) (pos 0) 1 0 5 0
+      ∷ [])
+      2 (pos 0) 0
+      -- A suspended sleeper is a sleeper: it is released and becomes SUSPEND. A task in SUSPEND is none: its count rises.
+      ∷ case 0 1
+      (step (X slp-tsk 0 0 0) (pos 1) 0 0 2 0
+      ∷ step (X sus-tsk 1 0 0) (pos 0) 0 0 2 0
+      ∷ step (X wup-tsk 1 0 0) (pos 0) 0 0 2 1
+      ∷ step (X tsk-sts 1 0 0) (pos 0) 4 2 2 0
+      ∷ step (X can-wup 1 0 0) (pos 0) 0 0 2 0
+      ∷ step (X wup-tsk 1 0 0) (pos 0) 0 0 2 0
+      ∷ step (X tsk-sts 1 0 0) (pos 0) 4 2 2 0
+      ∷ step (X can-wup 1 0 0) (pos 0) 1 0 2 0
+      ∷ [])
+      1 (pos 0) 0
+      -- A READY task whose count changes keeps its place: task 2 runs before task 5.
+      ∷ case 0 1
+      (step (X wup-tsk 2 0 0) (pos 0) 0 0 1 0
+      ∷ step (X can-wup 2 0 0) (pos 0) 1 0 1 0
+      ∷ step (X slp-tsk 0 0 0) (pos 1) 0 0 2 0
+      ∷ [])
+      2 (pos 0) 0
       -- E_QOVR: wake-up count already 15.
       ∷ case 0 1
       (replicate 15 (step (H wup-tsk 2 0 0) (pos 0) 0 0 1 0) ++
@@ -250,6 +350,15 @@ examples = record {
       ∷ step (X wup-tsk 2 0 0) (pos 0) 0 0 5 1
       ∷ [])
       2 (pos 0) 0
+      -- With a stored wake-up wai_tsk takes one whatever the time.
+      ∷ case 0 1
+      (step (H wup-tsk 1 0 0) (pos 0) 0 0 1 0
+      ∷ step (H wup-tsk 1 0 0) (pos 0) 0 0 1 0
+      ∷ step (X wai-tsk 5 0 0) (pos 0) 0 0 1 0
+      ∷ step (X± wai-tsk (minus 1) (pos 0) (pos 0)) (pos 0) 0 0 1 0
+      ∷ step (X can-wup 1 0 0) (pos 0) 0 0 1 0
+      ∷ [])
+      1 (pos 0) 0
       -- Each timed wait loses one, suspended or not; a sleeper in WAIT-SUSPEND whose time runs out becomes SUSPEND, cell E_TMOUT.
       ∷ case 0 1
       (step (X wai-tsk 2 0 0) (pos 1) 0 0 2 0
@@ -258,6 +367,20 @@ examples = record {
       ∷ step (X tsk-sts 1 0 0) (pos 0) 5 2 2 0
       ∷ step tick (pos 0) 0 0 2 1
       ∷ step (X tsk-sts 1 0 0) (pos 0) 4 2 2 0
+      ∷ [])
+      1 (minus 3413) 0
+      -- WAIT-SUSPEND becomes WAIT, with the ticks that are left; a sleeper without a time sleeps on, suspended or not.
+      ∷ case 0 1
+      (step (X wai-tsk 3 0 0) (pos 1) 0 0 2 0
+      ∷ step (X slp-tsk 0 0 0) (pos 1) 0 0 5 0
+      ∷ step (X sus-tsk 1 0 0) (pos 0) 0 0 5 0
+      ∷ step (X sus-tsk 2 0 0) (pos 0) 0 0 5 0
+      ∷ step tick (pos 0) 0 0 5 0
+      ∷ step (X rsm-tsk 1 0 0) (pos 0) 0 0 5 0
+      ∷ step tick (pos 0) 0 0 5 0
+      ∷ step tick (pos 0) 0 0 5 1
+      ∷ step (X tsk-sts 1 0 0) (pos 0) 1 2 5 0
+      ∷ step (X tsk-sts 2 0 0) (pos 0) 5 2 5 0
       ∷ [])
       1 (minus 3413) 0
       -- Those that reach 0 are released in id order, whoever slept first: 1 before 2.
@@ -303,7 +426,9 @@ examples = record {
       1 (pos 0) 0
       -- 16 set_flg(a, b): ORs b in. 17 clr_flg(a, b): ANDs. A flag pattern is the unsigned number with the same bits. 29 flg_sts: w2 pattern.
       ∷ case 0 1
-      (step (X set-flg 2 2 0) (pos 0) 0 0 1 0
+      (step (X set-flg 2 0 0) (pos 0) 0 0 1 0
+      ∷ step (X flg-sts 2 0 0) (pos 0) 0 5 1 0
+      ∷ step (X set-flg 2 2 0) (pos 0) 0 0 1 0
       ∷ step (X flg-sts 2 0 0) (pos 0) 0 7 1 0
       ∷ step (X clr-flg 2 6 0) (pos 0) 0 0 1 0
       ∷ step (X flg-sts 2 0 0) (pos 0) 0 6 1 0
@@ -370,6 +495,20 @@ examples = record {
       ∷ step (X flg-sts 1 0 0) (pos 0) 1 0 5 0
       ∷ [])
       2 (pos 0) 1
+      -- A waiter keeps its pattern and its mode while it is suspended and resumed and time goes by.
+      ∷ case 0 1
+      (step (X wai-flg 1 6 3) (pos 1) 0 0 2 0
+      ∷ step (X wai-flg 1 2 0) (pos 1) 0 0 5 0
+      ∷ step (X sus-tsk 1 0 0) (pos 0) 0 0 5 0
+      ∷ step tick (pos 0) 0 0 5 0
+      ∷ step (X rsm-tsk 1 0 0) (pos 0) 0 0 5 0
+      ∷ step tick (pos 0) 0 0 5 0
+      ∷ step (X sus-tsk 1 0 0) (pos 0) 0 0 5 0
+      ∷ step (X set-flg 1 2 0) (pos 0) 0 0 5 1
+      ∷ step (X flg-sts 1 0 0) (pos 0) 2 0 5 0
+      ∷ step (X tsk-sts 1 0 0) (pos 0) 4 2 5 0
+      ∷ [])
+      1 (pos 0) 2
       -- 20 snd_msg(a, b): to the first waiter, else last in the mailbox. 21 rcv_msg(a), 22 prcv_msg(a): w1 the first message. A received
       -- message may be sent again. 30 mbx_sts: w1 the first waiter or 0, w2 the first message or 0.
       ∷ case 0 1
@@ -402,6 +541,15 @@ examples = record {
       ∷ step (X snd-msg 1 1 0) (pos 0) 0 0 2 1
       ∷ [])
       1 (pos 0) 1
+      -- Two tasks wait on a mailbox: first come, first served.
+      ∷ case 0 1
+      (step (X rcv-msg 1 0 0) (pos 1) 0 0 2 0
+      ∷ step (X rcv-msg 1 0 0) (pos 1) 0 0 5 0
+      ∷ step (X snd-msg 1 3 0) (pos 0) 0 0 5 1
+      ∷ step (X mbx-sts 1 0 0) (pos 0) 2 0 5 0
+      ∷ step (X snd-msg 1 2 0) (pos 0) 0 0 5 1
+      ∷ [])
+      2 (pos 0) 2
       -- 23 get_blk(a), 24 pget_blk(a): w1 is the lowest-numbered free block. 25 rel_blk(a, b): to the first waiter, else free. H_ILBLK: block
       -- number outside the pool, or free. 31 mpl_sts: w2 number of free blocks.
       ∷ case 0 1
@@ -433,6 +581,37 @@ examples = record {
       ∷ step (X pget-blk 1 0 0) (minus 5) 0 0 2 0
       ∷ [])
       1 (pos 0) 2
+      -- H_ILBLK though a task waits: a number outside the pool is given to nobody. Two tasks wait: first come, first served.
+      ∷ case 0 1
+      (step (X get-blk 2 0 0) (pos 0) 1 0 1 0
+      ∷ step (X get-blk 2 0 0) (pos 1) 0 0 2 0
+      ∷ step (X get-blk 2 0 0) (pos 1) 0 0 5 0
+      ∷ step (X rel-blk 2 2 0) (minus 10) 0 0 5 0
+      ∷ step (X rel-blk 2 0 0) (minus 10) 0 0 5 0
+      ∷ step (X mpl-sts 2 0 0) (pos 0) 1 0 5 0
+      ∷ step (X rel-blk 2 1 0) (pos 0) 0 0 5 1
+      ∷ step (X mpl-sts 2 0 0) (pos 0) 2 0 5 0
+      ∷ [])
+      1 (pos 0) 1
+      -- A wait is for the object that the call names: the second of each kind.
+      ∷ case 0 1
+      (step (X wai-sem 2 0 0) (pos 0) 0 0 1 0
+      ∷ step (X wai-sem 2 0 0) (pos 1) 0 0 2 0
+      ∷ step (X rcv-msg 2 0 0) (pos 1) 0 0 5 0
+      ∷ step (X wai-flg 2 8 0) (pos 1) 0 0 4 0
+      ∷ step (X get-blk 2 0 0) (pos 0) 1 0 4 0
+      ∷ step (X get-blk 2 0 0) (pos 1) 0 0 0 0
+      ∷ step (H sem-sts 2 0 0) (pos 0) 1 0 0 0
+      ∷ step (H mbx-sts 2 0 0) (pos 0) 2 0 0 0
+      ∷ step (H flg-sts 2 0 0) (pos 0) 5 5 0 0
+      ∷ step (H mpl-sts 2 0 0) (pos 0) 4 0 0 0
+      ∷ step (H rel-blk 2 1 0) (pos 0) 0 0 4 1
+      ∷ step (H set-flg 2 8 0) (pos 0) 0 0 5 1
+      ∷ step (H snd-msg 2 3 0) (pos 0) 0 0 5 1
+      ∷ step (H sig-sem 2 0 0) (pos 0) 0 0 5 1
+      ∷ step (X sem-sts 2 0 0) (pos 0) 0 0 5 0
+      ∷ [])
+      5 (pos 0) 13
       -- 26 get_tid: w1 the running task. 27 tsk_sts(a): w1 state (0 DORMANT, 1 READY, 2 RUN), w2 priority.
       ∷ case 0 1
       (step (X get-tid 0 0 0) (pos 0) 1 0 1 0
@@ -515,6 +694,28 @@ examples = record {
       ∷ step (H get-tim 0 0 0) (pos 0) 0 7 1 0
       ∷ [])
       1 (minus 3414) 0
+      -- E_SELF before E_QOVR. While nothing runs, every call in task context is E_CTX, and one of task context alone from a handler: before what
+      -- the rule of the call would refuse (task 1 is suspended, with 15 wake-ups; message 1 lies in mailbox 1; pool 2 has no block free).
+      ∷ case 0 1
+      (replicate 15 (step (H wup-tsk 1 0 0) (pos 0) 0 0 1 0) ++
+      step (X wup-tsk 1 0 0) (minus 2097) 0 0 1 0
+      ∷ step (X snd-msg 1 1 0) (pos 0) 0 0 1 0
+      ∷ step (X pget-blk 2 0 0) (pos 0) 1 0 1 0
+      ∷ step (H sus-tsk 1 0 0) (pos 0) 0 0 2 0
+      ∷ step (X slp-tsk 0 0 0) (pos 1) 0 0 5 0
+      ∷ step (X slp-tsk 0 0 0) (pos 1) 0 0 4 0
+      ∷ step (X slp-tsk 0 0 0) (pos 1) 0 0 0 0
+      ∷ map (λ e. step e (minus 2629) 0 0 0 0)
+      (X sta-tsk 2 0 0 ∷ X ext-tsk 0 0 0 ∷ X ter-tsk 2 0 0 ∷ X chg-pri 2 2 0
+      ∷ X rot-rdq 0 0 0 ∷ X rel-wai 1 0 0 ∷ X sus-tsk 1 0 0 ∷ X rsm-tsk 2 0 0
+      ∷ X slp-tsk 0 0 0 ∷ X wai-tsk 0 0 0 ∷ X wup-tsk 1 0 0 ∷ X can-wup 1 0 0
+      ∷ X sig-sem 3 0 0 ∷ X wai-sem 2 0 0 ∷ X preq-sem 1 0 0 ∷ X set-flg 1 1 0
+      ∷ X clr-flg 2 0 0 ∷ X wai-flg 2 5 0 ∷ X pol-flg 1 1 0 ∷ X snd-msg 1 1 0
+      ∷ X rcv-msg 1 0 0 ∷ X prcv-msg 2 0 0 ∷ X get-blk 1 0 0 ∷ X pget-blk 2 0 0
+      ∷ X rel-blk 1 1 0 ∷ X get-tid 0 0 0 ∷ X tsk-sts 1 0 0 ∷ X sem-sts 1 0 0
+      ∷ X flg-sts 1 0 0 ∷ X mbx-sts 1 0 0 ∷ X mpl-sts 1 0 0 ∷ X get-tim 0 0 0
+      ∷ H wai-tsk 0 0 0 ∷ []))
+      1 (pos 0) 0
       -- H_CALL: call number not 1..32, or context not 0 or 1; before the parameters.
       ∷ case 0 1
       (step (call (pos 0) (pos 0) (pos 0) (pos 0) (pos 0)) (minus 1) 0 0 1 0
