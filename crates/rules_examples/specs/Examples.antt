@@ -83,6 +83,12 @@ examples = record {
       ∷ step (X sem-sts 1 0 0) (pos 0) 0 1 2 0
       ∷ [])
       1 (minus 3414) 0
+      -- The cell is left, be it 0 and 0: E_RLWAI is rel_wai's alone.
+      ∷ case 0 1
+      (step (X wai-sem 1 0 0) (pos 1) 0 0 2 0
+      ∷ step (X ter-tsk 1 0 0) (pos 0) 0 0 2 0
+      ∷ [])
+      1 (pos 0) 0
       -- Only release and sta_tsk change a cell: ready at its starting priority, cell 0 and 0.
       ∷ case 0 1
       (step (X slp-tsk 0 0 0) (pos 1) 0 0 2 0
@@ -155,6 +161,7 @@ examples = record {
       (step (X rot-rdq 2 0 0) (pos 0) 0 0 2 0
       ∷ step (X rot-rdq 0 0 0) (pos 0) 0 0 5 0
       ∷ step (X rot-rdq 1 0 0) (pos 0) 0 0 5 0
+      ∷ step (X rot-rdq 4 0 0) (pos 0) 0 0 5 0
       ∷ step (H rot-rdq 0 0 0) (pos 0) 0 0 1 0
       ∷ step (X rot-rdq 5 0 0) (minus 1830) 0 0 1 0
       ∷ step (X± rot-rdq (minus 1) (pos 0) (pos 0)) (minus 1830) 0 0 1 0
@@ -302,6 +309,10 @@ examples = record {
       ∷ step (X sig-sem 1 0 0) (pos 0) 0 0 5 1
       ∷ step (X tsk-sts 2 0 0) (pos 0) 1 3 5 0
       ∷ step (X can-wup 2 0 0) (pos 0) 1 0 5 0
+      ∷ step (X wai-sem 1 0 0) (pos 1) 0 0 1 0
+      ∷ step (X wup-tsk 5 0 0) (pos 0) 0 0 1 0
+      ∷ step (X rel-wai 5 0 0) (pos 0) 0 0 1 1
+      ∷ step (X can-wup 5 0 0) (pos 0) 1 0 1 0
       ∷ [])
       2 (pos 0) 0
       -- A suspended sleeper is a sleeper: it is released and becomes SUSPEND. A task in SUSPEND is none: its count rises.
@@ -409,6 +420,16 @@ examples = record {
       ∷ step (X sem-sts 1 0 0) (pos 0) 0 1 2 0
       ∷ [])
       2 (pos 0) 0
+      -- First come is whose wait began first: task 5 before task 4, which was made ready before it.
+      ∷ case 0 1
+      (step (X slp-tsk 0 0 0) (pos 1) 0 0 2 0
+      ∷ step (X slp-tsk 0 0 0) (pos 1) 0 0 5 0
+      ∷ step (X wai-sem 1 0 0) (pos 1) 0 0 4 0
+      ∷ step (X wai-sem 1 0 0) (pos 1) 0 0 0 0
+      ∷ step (H sem-sts 1 0 0) (pos 0) 5 0 0 0
+      ∷ step (H sig-sem 1 0 0) (pos 0) 0 0 5 1
+      ∷ [])
+      5 (pos 0) 0
       -- 14 wai_sem(a), 15 preq_sem(a): takes one if the count is above 0. H_POLL: a poll that can't be served at once. E_QOVR: semaphore
       -- already 65535.
       ∷ case 0 1
@@ -432,6 +453,8 @@ examples = record {
       ∷ step (X flg-sts 2 0 0) (pos 0) 0 7 1 0
       ∷ step (X clr-flg 2 6 0) (pos 0) 0 0 1 0
       ∷ step (X flg-sts 2 0 0) (pos 0) 0 6 1 0
+      ∷ step (X clr-flg 2 12 0) (pos 0) 0 0 1 0
+      ∷ step (X flg-sts 2 0 0) (pos 0) 0 4 1 0
       ∷ step (X± set-flg (pos 2) (minus 1) (pos 0)) (pos 0) 0 0 1 0
       ∷ step (X flg-sts 2 0 0) (pos 0) 0 4294967295 1 0
       ∷ step (X± clr-flg (pos 2) (minus 2) (pos 0)) (pos 0) 0 0 1 0
@@ -461,6 +484,7 @@ examples = record {
       -- H_PAR: flag pattern 0 in a wait or poll, mode not 0..3. The parameters left to right, then E_CTX.
       ∷ case 0 1
       (step (X wai-flg 99 0 9) (minus 2100) 0 0 1 0
+      ∷ step (X pol-flg 99 0 9) (minus 2100) 0 0 1 0
       ∷ step (X wai-flg 1 0 9) (minus 2) 0 0 1 0
       ∷ step (X wai-flg 1 1 4) (minus 2) 0 0 1 0
       ∷ step (X pol-flg 1 0 0) (minus 2) 0 0 1 0
@@ -509,6 +533,13 @@ examples = record {
       ∷ step (X tsk-sts 1 0 0) (pos 0) 4 2 5 0
       ∷ [])
       1 (pos 0) 2
+      -- A waiter's pattern is the unsigned number with the same bits too: here bit 31.
+      ∷ case 0 1
+      (step (X± wai-flg (pos 1) (minus 2147483648) (pos 0)) (pos 1) 0 0 2 0
+      ∷ step (X set-flg 1 1 0) (pos 0) 0 0 2 0
+      ∷ step (X± set-flg (pos 1) (minus 2147483648) (pos 0)) (pos 0) 0 0 2 1
+      ∷ [])
+      1 (pos 0) 2147483649
       -- 20 snd_msg(a, b): to the first waiter, else last in the mailbox. 21 rcv_msg(a), 22 prcv_msg(a): w1 the first message. A received
       -- message may be sent again. 30 mbx_sts: w1 the first waiter or 0, w2 the first message or 0.
       ∷ case 0 1
@@ -534,6 +565,7 @@ examples = record {
       ∷ step (X snd-msg 3 4 0) (minus 2100) 0 0 1 0
       ∷ step (X snd-msg 2 1 0) (pos 0) 0 0 1 0
       ∷ step (X snd-msg 2 1 0) (minus 6) 0 0 1 0
+      ∷ step (X mbx-sts 2 0 0) (pos 0) 0 1 1 0
       ∷ step (X rcv-msg 1 0 0) (pos 1) 0 0 2 0
       ∷ step (X snd-msg 1 1 0) (minus 6) 0 0 2 0
       ∷ step (X mbx-sts 1 0 0) (pos 0) 1 0 2 0
@@ -591,6 +623,9 @@ examples = record {
       ∷ step (X mpl-sts 2 0 0) (pos 0) 1 0 5 0
       ∷ step (X rel-blk 2 1 0) (pos 0) 0 0 5 1
       ∷ step (X mpl-sts 2 0 0) (pos 0) 2 0 5 0
+      ∷ step (X ter-tsk 2 0 0) (pos 0) 0 0 5 0
+      ∷ step (X rel-blk 2 1 0) (pos 0) 0 0 5 0
+      ∷ step (X mpl-sts 2 0 0) (pos 0) 0 1 5 0
       ∷ [])
       1 (pos 0) 1
       -- A wait is for the object that the call names: the second of each kind.
@@ -748,6 +783,11 @@ examples = record {
       6 (minus 2100) 0
       ∷ [];
 }
+
+-- the state that an event leaves of the fresh one
+unfoldable pub leaves : Event → Read View
+unfolding answers
+leaves e = and-then (setup exampleBytes) (λ u i. got (event (fresh u) e .next) i)
 
 -- ---- damaged states
 
