@@ -5,12 +5,17 @@ use mathlib.Core.Path.{_≡_, refl}
 use lib.IntN.{ℤ, pos}
 use Rattle.rules.specs.Codes.{minus}
 use Rattle.rules.specs.Events.{Event}
+use Rattle.rules.specs.Runs.{play, plainPlay}
 use Rattle.rules_examples.specs.BenchSheet.{slp-tsk, wai-tsk, get-tid, X, X±, ran, plainRan, expected, Holds}
-use Rattle.rules_examples.specs.Examples.{examples, leaves, damages, repairs, touched, unchanged, readings, read}
+use Rattle.rules_examples.specs.Examples.{examples, leaves, runBytes, runWords, runAnswers, damages, repairs, touched, unchanged, readings, read}
 
 pub examples-hold : Holds examples
 unfolding ran plainRan expected
 examples-hold = (refl, refl)
+
+pub recorded-run-holds : (play runBytes runWords ≡ runAnswers) × (plainPlay runBytes runWords ≡ runAnswers)
+unfolding play plainPlay
+recorded-run-holds = (refl, refl)
 
 -- wai_tsk(-1) waits for ever, as slp_tsk does: no number of ticks would show it, the state does
 pub waits-for-ever : leaves (X± wai-tsk (minus 1) (pos 0) (pos 0)) ≡ leaves (X slp-tsk 0 0 0)

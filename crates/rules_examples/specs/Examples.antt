@@ -1,17 +1,17 @@
 -- Worked examples: every call in use and every code that a run can give; damaged states; setups that are refused.
-use mathlib.Core.Bool.{cond}
+use mathlib.Core.Bool.{Bool, true, cond}
 use mathlib.Core.List.{List, [], _∷_, _++_, map}
 use mathlib.Core.Option.{none, some}
 use Prim.Native.Nat.{ℕ, _-_, _/_, _%_, _^_}
 use lib.IntN.{ℤ, pos}
 use lib.ListN.{replicate}
 use Rattle.rules.specs.Ids.{put}
-use Rattle.rules.specs.Codes.{H-POLL, E-RLWAI, minus, number}
+use Rattle.rules.specs.Codes.{OK, H-POLL, E-RLWAI, minus, number}
 use Rattle.rules.specs.Setup.{Fault, S1, S2, S3, S4, Read, got, refused, and-then, setup}
 use Rattle.rules.specs.Events.{Event, tick, call}
-use Rattle.rules.specs.State.{Kind, semaphore, flag, mailbox, pool, asleep, timed, on, State, suspended, waiting, Body}
+use Rattle.rules.specs.State.{Kind, semaphore, flag, mailbox, pool, asleep, timed, on, State, suspended, waiting, waiting-suspended, Body}
 use Rattle.rules.specs.Places.{sameKind, at, each}
-use Rattle.rules.specs.Acts.{with-state, with-priority, with-wakeups, with-cell, with-semaphores, with-messages, with-store, change}
+use Rattle.rules.specs.Acts.{with-state, with-priority, with-wakeups, with-cell, with-semaphores, with-flags, with-messages, with-pools, with-store, change}
 use Rattle.rules.specs.View.{View}
 use Rattle.rules.specs.Answers.{numbers}
 use Rattle.rules.specs.Kernel.{fresh, event, cell}
@@ -789,6 +789,29 @@ unfoldable pub leaves : Event → Read View
 unfolding answers
 leaves e = and-then (setup exampleBytes) (λ u i. got (event (fresh u) e .next) i)
 
+-- A recorded run over another setup: priorities 1 and 2; task 1 starts at priority 1, task 2, of priority 2, is not started. Fresh: the
+-- others are dormant, clock 0; a dormant task has its starting priority. Kinds 0 task, 1 handler, 2 tick; any other is H_CALL.
+abbrev pub runBytes : List ℕ
+runBytes = bytes (2 ∷ 2 ∷ 1 ∷ 1 ∷ 2 ∷ 0 ∷ 0 ∷ 0 ∷ 0 ∷ 0 ∷ 0 ∷ [])
+
+abbrev pub runWords : List ℤ
+runWords =
+    pos 0 ∷ pos 32 ∷ pos 0 ∷ pos 0 ∷ pos 0
+    ∷ pos 1 ∷ pos 27 ∷ pos 2 ∷ pos 0 ∷ pos 0
+    ∷ pos 2 ∷ pos 0 ∷ pos 0 ∷ pos 0 ∷ pos 0
+    ∷ pos 0 ∷ pos 32 ∷ pos 0 ∷ pos 0 ∷ pos 0
+    ∷ pos 3 ∷ pos 32 ∷ pos 0 ∷ pos 0 ∷ pos 0
+    ∷ []
+
+abbrev pub runAnswers : Read (List (List ℤ))
+runAnswers =
+    got ((pos 0 ∷ pos 0 ∷ pos 0 ∷ pos 1 ∷ pos 0 ∷ [])
+    ∷ (pos 0 ∷ pos 0 ∷ pos 2 ∷ pos 1 ∷ pos 0 ∷ [])
+    ∷ (pos 0 ∷ pos 0 ∷ pos 0 ∷ pos 1 ∷ pos 0 ∷ [])
+    ∷ (pos 0 ∷ pos 0 ∷ pos 1 ∷ pos 1 ∷ pos 0 ∷ [])
+    ∷ (minus 1 ∷ pos 0 ∷ pos 0 ∷ pos 1 ∷ pos 0 ∷ [])
+    ∷ []) 44
+
 -- ---- damaged states
 
 abbrev with-body : (Body → Body) → View → View
@@ -823,6 +846,9 @@ with-waiter k o p m v = with-waiters k o (2 ∷ []) (with-ready 2 (1 ∷ 5 ∷ [
 abbrev pub with-sleeper : State → View → View
 with-sleeper s v = with-ready 2 (1 ∷ 5 ∷ []) (with-body (change (with-state s) 2) v)
 
+abbrev with-blocks : List Bool → View → View
+with-blocks l = with-body (λ b. with-store (with-pools (l ∷ (true ∷ []) ∷ []) (b .store)) b)
+
 -- each breaks one rule in the fresh state of the examples' setup
 abbrev pub damages : List (View → View)
 damages =
@@ -845,8 +871,11 @@ damages =
     ∷ (λ v. with-message 1 (with-waiter mailbox 1 0 0 v))
     ∷ with-waiter pool 1 0 0
     ∷ with-waiter flag 2 4 0
-    -- A wait names an object that exists: there is no semaphore 4. A flag wait has a nonzero pattern and a mode 0..3.
+    -- Any bit of 6 is met by 5.
+    ∷ with-waiter flag 2 6 1
+    -- A wait names an object that exists: there is no semaphore 4, and none is 0. A flag wait has a nonzero pattern and a mode 0..3.
     ∷ with-waiter semaphore 4 0 0
+    ∷ with-waiter semaphore 0 0 0
     ∷ with-waiter flag 1 0 1
     ∷ with-waiter flag 1 2 4
     -- Numbers lie in their ranges: the clock is 2^48; a wake-up count is 16; a priority is 5; a semaphore has the
@@ -855,9 +884,17 @@ damages =
     ∷ with-body (change (with-wakeups 16) 1)
     ∷ (λ v. with-ready 3 [] (with-body (change (with-priority 5) 4) v))
     ∷ with-body (λ b. with-store (with-semaphores (0 ∷ 1 ∷ 65536 ∷ []) (b .store)) b)
+    -- A priority is 0; a starting priority is 5; a flag has the pattern 2^32, and a waiter asks for it; a pool has 33 blocks, or none.
+    ∷ (λ v. with-ready 3 [] (with-body (change (with-priority 0) 4) v))
+    ∷ with-body (change (λ t. record { state = t .state; priority = t .priority; start = 5; wakeups = t .wakeups; cell = t .cell }) 1)
+    ∷ with-body (λ b. with-store (with-flags (2 ^ 32 ∷ 5 ∷ []) (b .store)) b)
+    ∷ with-waiter flag 1 (2 ^ 32) 0
+    ∷ with-blocks (replicate 33 true)
+    ∷ with-blocks []
     -- A cell's code is 0, E_TMOUT or E_RLWAI, its word 0 unless the code is 0.
     ∷ with-body (change (with-cell (record { code = H-POLL; word = 0 })) 1)
     ∷ with-body (change (with-cell (record { code = E-RLWAI; word = 5 })) 1)
+    ∷ with-body (change (with-cell (record { code = OK; word = 2 ^ 32 })) 1)
     -- A message lies in one mailbox at most, once: message 1 stands in both; twice in one; it lies in one in which it does not stand;
     -- it lies in one that there is not.
     ∷ (λ v. with-mail 2 (1 ∷ []) (with-message 1 v))
@@ -866,6 +903,7 @@ damages =
     ∷ with-message 3
     -- A sleeper and a dormant task have wake-up count 0; a dormant task has its starting priority.
     ∷ (λ v. with-body (change (with-wakeups 1) 2) (with-sleeper (waiting asleep) v))
+    ∷ (λ v. with-body (change (with-wakeups 1) 2) (with-sleeper (waiting-suspended (timed 5)) v))
     ∷ with-body (change (with-wakeups 1) 3)
     ∷ with-body (change (with-priority 2) 3)
     -- A timed wait has 1 to 2147483647 ticks left.
@@ -874,7 +912,8 @@ damages =
     ∷ []
 
 -- close to these, but no rule is broken: a waiter on semaphore 1, whose count is 0; one on flag 2 that asks for a bit that is not set; one
--- beside another mailbox's message; a sleeper with one tick left; the last clock; a message that lies in a mailbox
+-- beside another mailbox's message; a sleeper with one tick left; the last clock; a message that lies in a mailbox; the most ticks, wake-ups,
+-- pattern and mode; the largest word in a cell, and pattern of a flag
 abbrev pub repairs : List (View → View)
 repairs =
     with-waiter semaphore 1 0 0
@@ -883,6 +922,11 @@ repairs =
     ∷ with-sleeper (waiting (timed 1))
     ∷ with-body (at-clock (2 ^ 48 - 1))
     ∷ with-message 1
+    ∷ with-sleeper (waiting (timed 2147483647))
+    ∷ with-body (change (with-wakeups 15) 1)
+    ∷ with-waiter flag 1 (2 ^ 32 - 1) 3
+    ∷ with-body (change (with-cell (record { code = OK; word = 2 ^ 32 - 1 })) 2)
+    ∷ with-body (λ b. with-store (with-flags ((2 ^ 32 - 1) ∷ 5 ∷ []) (b .store)) b)
     ∷ []
 
 -- what comes back of an event there, the state after it, and the cell of a task before it
