@@ -7,11 +7,15 @@ use Rattle.rules.specs.Codes.{minus}
 use Rattle.rules.specs.Events.{Event}
 use Rattle.rules.specs.Runs.{play, plainPlay}
 use Rattle.rules_examples.specs.BenchSheet.{slp-tsk, wai-tsk, get-tid, X, X±, ran, plainRan, expected, Holds}
-use Rattle.rules_examples.specs.Examples.{examples, leaves, runBytes, runWords, runAnswers, damages, repairs, touched, unchanged, readings, read}
+use Rattle.rules_examples.specs.Examples.{taskExamples, objectExamples, leaves, runBytes, runWords, runAnswers, damages, repairs, touched, unchanged, readings, read}
 
-pub examples-hold : Holds examples
+pub task-examples-hold : Holds taskExamples
 unfolding ran plainRan expected
-examples-hold = (refl, refl)
+task-examples-hold = (refl, refl)
+
+pub object-examples-hold : Holds objectExamples
+unfolding ran plainRan expected
+object-examples-hold = (refl, refl)
 
 pub recorded-run-holds : (play runBytes runWords ≡ runAnswers) × (plainPlay runBytes runWords ≡ runAnswers)
 unfolding play plainPlay

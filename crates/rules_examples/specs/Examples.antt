@@ -30,9 +30,9 @@ bytes (w ∷ l) = w % 256 ∷ w / 256 % 256 ∷ w / 65536 % 256 ∷ w / 16777216
 abbrev pub exampleBytes : List ℕ
 exampleBytes = bytes (4 ∷ 5 ∷ 2 ∷ 1 ∷ 2 ∷ 1 ∷ 1 ∷ 0 ∷ 3 ∷ 1 ∷ 2 ∷ 1 ∷ 3 ∷ 0 ∷ 1 ∷ 65535 ∷ 2 ∷ 0 ∷ 5 ∷ 2 ∷ 3 ∷ 2 ∷ 2 ∷ 1 ∷ [])
 
--- Each case has the paper's words above it.
-abbrev pub examples : Sheet
-examples = record {
+-- Calls 1 to 12: tasks. Each case has the paper's words above it.
+abbrev pub taskExamples : Sheet
+taskExamples = record {
   bytes = exampleBytes;
   cases =
       -- 1 sta_tsk(a): ready at its starting priority. The running task is the head of the nonempty ready queue with the smallest priority
@@ -406,8 +406,16 @@ examples = record {
       ∷ step (X slp-tsk 0 0 0) (pos 1) 0 0 2 0
       ∷ [])
       2 (minus 3413) 0
+      ∷ [];
+}
+
+-- Calls 13 to 32: semaphores, flags, mailboxes, pools, states and the clock; then the refusals that all calls share.
+abbrev pub objectExamples : Sheet
+objectExamples = record {
+  bytes = exampleBytes;
+  cases =
       -- 13 sig_sem(a): releases the first waiter, else adds one. Wait queues are first come, first served, whatever the priority.
-      ∷ case 0 1
+      case 0 1
       (step (X wai-sem 1 0 0) (pos 1) 0 0 2 0
       ∷ step (X wai-sem 1 0 0) (pos 1) 0 0 5 0
       ∷ step (X chg-pri 2 1 0) (pos 0) 0 0 5 0
@@ -846,6 +854,7 @@ with-waiter k o p m v = with-waiters k o (2 ∷ []) (with-ready 2 (1 ∷ 5 ∷ [
 abbrev pub with-sleeper : State → View → View
 with-sleeper s v = with-ready 2 (1 ∷ 5 ∷ []) (with-body (change (with-state s) 2) v)
 
+-- other blocks in pool 1
 abbrev with-blocks : List Bool → View → View
 with-blocks l = with-body (λ b. with-store (with-pools (l ∷ (true ∷ []) ∷ []) (b .store)) b)
 
