@@ -1,13 +1,14 @@
 -- What the customer demands of runs holds of every chain of steps, by the theorems of the rules. Assumes nothing.
 use mathlib.Core.Bool.{Bool, true, false, not, _&&_, _||_, false≢true}
 use mathlib.Core.List.{List, [], _∷_, map}
+use mathlib.Core.Logic.{_≢_}
 use mathlib.Core.Path.{_≡_, refl, sym, ap, _∙_, subst}
 use Prim.Native.Nat.{ℕ, _≤_}
 use native.Mathlib.Omega.{arith}
 use lib.Dec.{eqb, lit≤}
 use lib.IntN.{ℤ, pos, negsuc}
 use Rattle.rules.specs.Ids.{once}
-use Rattle.rules.specs.Codes.{Code, OK, WAITS, H-STATE, H-CALL, H-PAR, E-NOEXS, E-TPRI, E-ILTIME, E-CTX, E-SELF, E-DMT, H-NODMT, H-SUS, E-NOSUS, E-NOWAI, E-QOVR, H-POLL, H-MSG, H-ILBLK, E-TMOUT, E-RLWAI, number}
+use Rattle.rules.specs.Codes.{H-STATE, E-RLWAI, number}
 use Rattle.rules.specs.State.{Body, task}
 use Rattle.rules.specs.Setup.{got, setup, Setup}
 use Rattle.rules.specs.Events.{Event, tick, call, nat, AllWords}
@@ -22,48 +23,17 @@ use Rattle.rules.proofs.Events.{event-served, event-next}
 use Rattle.rules.proofs.Blocks.{Balance, event-balance}
 use Rattle.rules.proofs.Demand3.{demand3}
 use Rattle.rules.proofs.Broken.{stays-broken}
+use Rattle.rules.proofs.Codes.{own-number}
+use Rattle.rules.proofs.OnlyBroken.{only-rel-wai, never-answered}
 use Rattle.memory_picture.specs.Picture.{viewShown, Accepted}
 use Rattle.kernel_start.specs.Starting.{Starts}
 use Rattle.kernel_start.specs.declared.Started.{Started}
 use Rattle.kernel_start.proofs.Fresh.{Holds}
-use Rattle.kernel_events.specs.Steps.{Reply, told, Step, Link, Chain}
-use Rattle.kernel_demands.specs.Demands.{Same, seen, Demand3OnCode, OutNotGranted, BlocksOnce, stateIn, StaysBrokenOnCode}
+use Rattle.kernel_events.specs.Steps.{Reply, told, unsound, Step, Link, Chain}
+use Rattle.kernel_demands.specs.Demands.{Same, seen, Demand3OnCode, OutNotGranted, BlocksOnce, stateIn, StaysBrokenOnCode, BrokenOnCode, OnlyRelWaiOnCode}
 use Rattle.kernel_demands.proofs.Chains.{start-holds, cell-is, step-holds, step-says}
 
 -- ---- demand 3
-
-abbrev isNine : ℤ → Bool
-isNine (pos n) = false
-isNine (negsuc n) = eqb n 8
-
--- H_STATE alone has its number
-only-state : (c : Code) → isNine (number c) ≡ true → c ≡ H-STATE
-unfolding number
-only-state H-STATE e = refl
-only-state OK e = absurd (false≢true e)
-only-state WAITS e = absurd (false≢true e)
-only-state H-CALL e = absurd (false≢true e)
-only-state H-PAR e = absurd (false≢true e)
-only-state E-NOEXS e = absurd (false≢true e)
-only-state E-TPRI e = absurd (false≢true e)
-only-state E-ILTIME e = absurd (false≢true e)
-only-state E-CTX e = absurd (false≢true e)
-only-state E-SELF e = absurd (false≢true e)
-only-state E-DMT e = absurd (false≢true e)
-only-state H-NODMT e = absurd (false≢true e)
-only-state H-SUS e = absurd (false≢true e)
-only-state E-NOSUS e = absurd (false≢true e)
-only-state E-NOWAI e = absurd (false≢true e)
-only-state E-QOVR e = absurd (false≢true e)
-only-state H-POLL e = absurd (false≢true e)
-only-state H-MSG e = absurd (false≢true e)
-only-state H-ILBLK e = absurd (false≢true e)
-only-state E-TMOUT e = absurd (false≢true e)
-only-state E-RLWAI e = absurd (false≢true e)
-
-state-number : (c : Code) → number c ≡ number H-STATE → c ≡ H-STATE
-unfolding number
-state-number c e = only-state c (ap isNine e)
 
 -- the claim begins with what holds now
 now-alike : {past : List Happened} {v : View} {s : Plain} (l : List Event) → Demand3 past v s l → Alike past v s
@@ -87,7 +57,7 @@ on-code past s [] H C D = same H D
 on-code past {b} {m} {v} s (k ∷ l) H C D = (
   same H (D .0),
   step-says H (C .0) ∙ ap told (D .1),
-  (λ h. D .2 (state-number _ (ap (λ (r : Reply). r .code) (sym (step-says H (C .0))) ∙ h))),
+  (λ h. D .2 (own-number _ H-STATE (ap (λ (r : Reply). r .code) (sym (step-says H (C .0))) ∙ h))),
   subst (λ (x : Happened). Demand3OnCode (x ∷ past) (k .words) (k .marks) (plainNext s (k .event)) l) (sym was)
       (on-code (happened s (k .event) ∷ past) (plainNext s (k .event)) l after (C .1) (D .3)),
 )
@@ -95,11 +65,15 @@ on-code past {b} {m} {v} s (k ∷ l) H C D = (
     after : Holds (k .words) (k .marks) (event v (k .event) .next)
     after = step-holds H (C .0)
 
-    -- the memories show the plain kernel's tasks
-    was : seen b m k (plainAnswer s (k .event)) ≡ happened s (k .event)
+    says : k .reply ≡ told (plainAnswer s (k .event))
+    says = step-says H (C .0) ∙ ap told (D .1)
+
+    -- the replies are the plain kernel's, and the memories show its tasks
+    was : seen b m k ≡ happened s (k .event)
     was = λ z. record {
       event = k .event;
-      answer = plainAnswer s (k .event);
+      code = says z .code;
+      w1 = says z .w1;
       before = same-body H (D .0 .agree) z;
       after = same-body after (now-alike (map (λ k. k .event) l) (D .3) .agree) z;
     }
@@ -111,15 +85,6 @@ demand3-on-code s u i e r words marks b m S l C w = on-code [] (plainFresh u) l 
 
 -- ---- a block is given to one at a time
 
--- a grant and a return are read from the numbers of an answer
-by-numbers : (e : Event) (a c : Answer) → told a ≡ told c → (p j : ℕ) → (taken e a p j ≡ taken e c p j) × (returned e a p j ≡ returned e c p j)
-unfolding ok
-by-numbers tick a c q p j = (refl, refl)
-by-numbers (call x n y w u) a c q p j = (
-  (λ z. (is n 23 || is n 24) && (is (q z .code) 0 && (eqb (nat y) p && eqb (q z .w1) j))),
-  (λ z. is n 25 && (is (q z .code) 0 && (eqb (nat y) p && eqb (nat w) j))),
-)
-
 once-most : (t : Bool) → once t ≤ 1
 once-most true = lit≤ tt
 once-most false = lit≤ tt
@@ -127,17 +92,14 @@ once-most false = lit≤ tt
 -- in the rules' balance of the block, which is out before, there is no room for a grant
 not-granted : {b m : List ℕ} → Accepted b m → (k : Link) → Step (k .event) b m (k .reply) (k .words) (k .marks) → OutNotGranted b m k
 unfolding granted gaveBack
-not-granted {b} {m} A k S a q p rp j rj out back =
+not-granted {b} {m} A k S p rp j rj out back =
     omega (arith, balance, back, ap (λ (t : Bool). once (not t)) out, once-most (not (isFree (viewShown (k .words) (k .marks) .body) p j)))
   where
-    given : Answer
-    given = served (viewShown b m) (k .event) .answer
+    given : k .reply ≡ told (served (viewShown b m) (k .event) .answer)
+    given = S .answers A ∙ ap (λ (o : Outcome). told (o .answer)) (event-served (viewShown b m) (k .event) (A .sound))
 
-    read : (taken (k .event) a p j ≡ taken (k .event) given p j) × (returned (k .event) a p j ≡ returned (k .event) given p j)
-    read = by-numbers (k .event) a given (sym q ∙ S .answers A ∙ ap (λ (o : Outcome). told (o .answer)) (event-served (viewShown b m) (k .event) (A .sound))) p j
-
-    balance : Balance (viewShown b m .body) (viewShown (k .words) (k .marks) .body) (taken (k .event) a p j) (returned (k .event) a p j) p j
-    balance = rw (S .shows A ∙ event-next (viewShown b m) (k .event) (A .sound), read .0, read .1) (event-balance (viewShown b m) (A .sound) (k .event) p j rp rj)
+    balance : Balance (viewShown b m .body) (viewShown (k .words) (k .marks) .body) (taken (k .event) (k .reply .code) (k .reply .w1) p j) (returned (k .event) (k .reply .code) p j) p j
+    balance = rw (S .shows A ∙ event-next (viewShown b m) (k .event) (A .sound), given) (event-balance (viewShown b m) (A .sound) (k .event) p j rp rj)
 
 -- from every accepted memory
 pub chain-block-once : (b m : List ℕ) → Accepted b m → (l : List Link) → Chain b m l → BlocksOnce b m l
@@ -172,3 +134,34 @@ stays-broken-on-code b m A k l C x a y z e c w =
   where
     H : Holds b m (viewShown b m)
     H = record { accepted = A; view = refl }
+
+-- behind each of them
+pub chain-broken : (b m : List ℕ) → Accepted b m → (l : List Link) → Chain b m l → AllWords (map (λ k. k .event) l) → BrokenOnCode l
+chain-broken b m A [] C w = tt
+chain-broken b m A (k ∷ l) C w =
+    (λ x a y z e c. stays-broken-on-code b m A k l C x a y z e c w, chain-broken (k .words) (k .marks) (C .0 .accepted A) l (C .1) (w .1))
+
+-- ---- nothing else breaks a wait off
+
+state-not-broken : number H-STATE ≢ number E-RLWAI
+unfolding number
+state-not-broken h = false≢true (sym (ap isNine h))
+  where
+    isNine : ℤ → Bool
+    isNine (pos n) = false
+    isNine (negsuc n) = eqb n 8
+
+-- whatever the memory holds
+pub never-answered-on-code : {e : Event} {b m : List ℕ} {r : Reply} {b′ m′ : List ℕ} → Step e b m r b′ m′ → r .code ≢ number E-RLWAI
+never-answered-on-code {e} {b} {m} {r} S h = state-not-broken (sym (ap (λ (q : Reply). q .code) damaged) ∙ h)
+  where
+    damaged : r ≡ unsound
+    damaged = S .refuses (λ A. never-answered (viewShown b m) e (own-number _ E-RLWAI (ap (λ (q : Reply). q .code) (sym (S .answers A)) ∙ h)))
+
+pub chain-only-rel-wai : (b m : List ℕ) → Accepted b m → (l : List Link) → Chain b m l → OnlyRelWaiOnCode b m l
+chain-only-rel-wai b m A [] C = tt
+chain-only-rel-wai b m A (k ∷ l) C = (
+  never-answered-on-code (C .0),
+  (λ i. rw (C .0 .shows A, C .0 .answers A) (only-rel-wai (viewShown b m) (k .event) i)),
+  chain-only-rel-wai (k .words) (k .marks) (C .0 .accepted A) l (C .1),
+)

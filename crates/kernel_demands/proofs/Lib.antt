@@ -3,3 +3,4 @@ pub mod Chains
 pub mod Demands
 pub mod Clocks
 pub mod Sheets
+pub mod Uses

@@ -7,14 +7,14 @@ use Prim.Native.Nat.{ℕ, _/_, _%_, _^_}
 use lib.IntN.{ℤ, pos}
 use lib.ListN.{length}
 use Rattle.rules.specs.Ids.{of, In}
-use Rattle.rules.specs.Codes.{number, H-STATE}
+use Rattle.rules.specs.Codes.{number, H-STATE, E-RLWAI}
 use Rattle.rules.specs.State.{State, Cell, task}
-use Rattle.rules.specs.Events.{nat}
-use Rattle.rules.specs.Answers.{Answer, readCell}
+use Rattle.rules.specs.Events.{call, nat}
+use Rattle.rules.specs.Answers.{readCell}
 use Rattle.rules.specs.Plain.{Plain, plainNext, plainAnswer}
 use Rattle.rules.specs.Blocks.{isFree, Happened, granted, gaveBack, AllAccounted}
 use Rattle.rules.specs.Demand3.{Agree}
-use Rattle.rules.specs.Broken.{broken, isFresh, Unless}
+use Rattle.rules.specs.Broken.{broken, isFresh, Unless, OnlyRelWai}
 use Rattle.rules_examples.specs.BenchSheet.{Case, Sheet}
 use Rattle.memory_columns.specs.Layout as Layout
 use Rattle.memory_columns.specs.Layout.{put}
@@ -39,24 +39,24 @@ pub record Same (past : List Happened) (b m : List ℕ) (s : Plain) : Type 0 whe
   pub cells : (a : ℤ) → CellIs b m a (readCell (s .body) a)
   pub blocks : AllAccounted past (viewShown b m .body)
 
--- an event of the code's run, as the blocks' accounts read it: this answer, and the tasks that the memory shows before and after
-abbrev pub seen : List ℕ → List ℕ → Link → Answer → Happened
-seen b m k a = record { event = k .event; answer = a; before = viewShown b m .body; after = viewShown (k .words) (k .marks) .body }
+-- an event of the code's run, as the blocks' accounts read it: the numbers that came back, and what the memory shows before and after
+abbrev pub seen : List ℕ → List ℕ → Link → Happened
+seen b m k = record { event = k .event; code = k .reply .code; w1 = k .reply .w1; before = viewShown b m .body; after = viewShown (k .words) (k .marks) .body }
 
--- At each link the answer is the plain kernel's and not H_STATE; the accounts are kept from these answers and these memories.
+-- At each link the answer is the plain kernel's and not H_STATE; the accounts are kept from the replies and the memories.
 abbrev pub Demand3OnCode : List Happened → List ℕ → List ℕ → Plain → List Link → Type 0
 Demand3OnCode past b m s [] = Same past b m s
 Demand3OnCode past b m s (k ∷ l) =
     Same past b m s × (k .reply ≡ told (plainAnswer s (k .event))) × (k .reply .code ≢ number H-STATE)
-    × Demand3OnCode (seen b m k (plainAnswer s (k .event)) ∷ past) (k .words) (k .marks) (plainNext s (k .event)) l
+    × Demand3OnCode (seen b m k ∷ past) (k .words) (k .marks) (plainNext s (k .event)) l
 
 -- ---- a block is given to one at a time
 
 -- a block that the memory shows as out is not granted at this link, unless the same event returns it
 abbrev pub OutNotGranted : List ℕ → List ℕ → Link → Type 0
 OutNotGranted b m k =
-    (a : Answer) → k .reply ≡ told a → (p : ℕ) → In p (length (viewShown b m .body .store .pools)) → (j : ℕ) → In j (length (of (viewShown b m .body .store .pools) p []))
-    → isFree (viewShown b m .body) p j ≡ false → gaveBack (seen b m k a) p j ≡ 0 → granted (seen b m k a) p j ≡ 0
+    (p : ℕ) → In p (length (viewShown b m .body .store .pools)) → (j : ℕ) → In j (length (of (viewShown b m .body .store .pools) p []))
+    → isFree (viewShown b m .body) p j ≡ false → gaveBack (seen b m k) p j ≡ 0 → granted (seen b m k) p j ≡ 0
 
 -- along a chain
 abbrev pub BlocksOnce : List ℕ → List ℕ → List Link → Type 0
@@ -74,6 +74,19 @@ abbrev pub StaysBrokenOnCode : ℤ → List ℕ → List ℕ → List Link → T
 StaysBrokenOnCode a b m [] = CellIs b m a broken
 StaysBrokenOnCode a b m (k ∷ l) =
     CellIs b m a broken × Unless (isFresh (stateIn b m a) (stateIn (k .words) (k .marks) a)) (StaysBrokenOnCode a (k .words) (k .marks) l)
+
+-- behind every rel_wai of a chain that is answered with 0
+abbrev pub BrokenOnCode : List Link → Type 0
+BrokenOnCode [] = Unit {0}
+BrokenOnCode (k ∷ l) = ((x a y z : ℤ) → k .event ≡ call x (pos 6) a y z → k .reply .code ≡ pos 0 → StaysBrokenOnCode a (k .words) (k .marks) l) × BrokenOnCode l
+
+-- at no link E_RLWAI is answered, and a cell that is E_RLWAI after a link was so before, or the link is an accepted rel_wai that names the task
+abbrev pub OnlyRelWaiOnCode : List ℕ → List ℕ → List Link → Type 0
+OnlyRelWaiOnCode b m [] = Unit {0}
+OnlyRelWaiOnCode b m (k ∷ l) =
+    (k .reply .code ≢ number E-RLWAI)
+    × ((i : ℕ) → OnlyRelWai i (k .event) (k .reply .code) (task (viewShown b m .body) i) (task (viewShown (k .words) (k .marks) .body) i))
+    × OnlyRelWaiOnCode (k .words) (k .marks) l
 
 -- ---- worked cases
 

@@ -1,2 +1,3 @@
 -- What is demanded of runs.
 pub mod Demands
+pub mod Uses

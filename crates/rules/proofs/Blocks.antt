@@ -379,15 +379,13 @@ lowest-block : (j : ℕ) (l : List Bool) → lowest 1 l ≡ suc j → getD l j t
 lowest-block j l e = let d : suc j - 1 ≡ j = omega arith in rw d at (lowest-free 1 j l e (λ w. omega arith) .1)
 
 module _ (v : View) (s : Sound v) (x a y z : ℤ) (p k : ℕ) (rp : In p (length (v .body .store .pools))) (rk : In k (length (of (v .body .store .pools) p []))) where
-  abbrev said : Verdict → Answer
-  said r = record { code = r .code; w1 = r .w1; w2 = r .w2; runs = 0; released = 0 }
-
   -- the account of the block at call n
   data Books (n : ℤ) (r : Verdict) : Type 0 where
-    books : Balance (v .body) (afters (r .acts) (v .body)) (taken (call x n a y z) (said r) p k) (returned (call x n a y z) (said r) p k) p k → Books n r
+    books : Balance (v .body) (afters (r .acts) (v .body)) (taken (call x n a y z) (number (r .code)) (r .w1) p k) (returned (call x n a y z) (number (r .code)) p k) p k → Books n r
 
   -- a code that is not 0 takes nothing and returns nothing
   no-way : (n : ℤ) (c : Code) → bad c ≡ true → Books n (refuse c)
+  unfolding ok
   no-way n c e = books (rw (bad-not-ok c e, and-false (is n 23 || is n 24), and-false (is n 25)) (still-balance (v .body) [] (still-none (v .body)) p k))
 
   quiet : {n : ℤ} {r : Verdict} → is n 23 ≡ false → is n 24 ≡ false → is n 25 ≡ false → StillVerdict (v .body) r → Books n r
@@ -453,7 +451,7 @@ module _ (v : View) (s : Sound v) (x a y z : ℤ) (p k : ℕ) (rp : In p (length
 
 -- the account of every block at every event on a sound state
 pub event-balance : (v : View) → Sound v → (e : Event) (p k : ℕ) → In p (length (v .body .store .pools)) → In k (length (of (v .body .store .pools) p []))
-    → Balance (v .body) (next v e .body) (taken e (served v e .answer) p k) (returned e (served v e .answer) p k) p k
+    → Balance (v .body) (next v e .body) (taken e (number (served v e .answer .code)) (served v e .answer .w1) p k) (returned e (number (served v e .answer .code)) p k) p k
 unfolding next served answer judge ticked ok number
 event-balance v s tick p k rp rk = rw (body-acts (ticked v .acts) v) (still-balance (v .body) _ (tick-still (v .body)) p k)
 event-balance v s (call x n a y z) p k rp rk =

@@ -12,16 +12,16 @@ use Rattle.rules.specs.Codes.{Code, number}
 use Rattle.rules.specs.State.{pool, Task, Body, isFreed}
 use Rattle.rules.specs.Places.{awaits}
 use Rattle.rules.specs.Events.{Event, tick, call, nat}
-use Rattle.rules.specs.Answers.{Answer}
 
 -- block k of pool p is free; out means not free
 abbrev pub isFree : Body → ℕ → ℕ → Bool
 isFree b p k = of (of (b .store .pools) p []) k true
 
--- an event of a run: what was answered, and the states before and after
+-- an event of a run: the code and the first word that were answered, and the states before and after
 pub record Happened : Type 0 where
   pub event : Event
-  pub answer : Answer
+  pub code : ℤ
+  pub w1 : ℕ
   pub before : Body
   pub after : Body
 
@@ -36,9 +36,9 @@ unfolding number
 ok c = is (number c) 0
 
 -- Code 0 of get_blk or pget_blk, the block in w1.
-abbrev pub taken : Event → Answer → ℕ → ℕ → Bool
-taken tick r p k = false
-taken (call x n a b c) r p k = (is n 23 || is n 24) && (ok (r .code) && (eqb (nat a) p && eqb (r .w1) k))
+abbrev pub taken : Event → ℤ → ℕ → ℕ → ℕ → Bool
+taken tick code w1 p k = false
+taken (call x n a b c) code w1 p k = (is n 23 || is n 24) && (is code 0 && (eqb (nat a) p && eqb w1 k))
 
 -- A pool waiter's cell of code 0 at release, the block its word: a task that waits on the pool before the event, is READY, RUN or
 -- SUSPEND after it, and whose cell then reads 0 and the block.
@@ -51,16 +51,16 @@ handedCount p k (t ∷ ts) [] = 0
 handedCount p k (t ∷ ts) (u ∷ us) = once (handed p k t u) + handedCount p k ts us
 
 -- A return is code 0 of rel_blk naming it.
-abbrev pub returned : Event → Answer → ℕ → ℕ → Bool
-returned tick r p k = false
-returned (call x n a b c) r p k = is n 25 && (ok (r .code) && (eqb (nat a) p && eqb (nat b) k))
+abbrev pub returned : Event → ℤ → ℕ → ℕ → Bool
+returned tick code p k = false
+returned (call x n a b c) code p k = is n 25 && (is code 0 && (eqb (nat a) p && eqb (nat b) k))
 
 -- at one event
 unfoldable pub granted : Happened → ℕ → ℕ → ℕ
-granted h p k = once (taken (h .event) (h .answer) p k) + handedCount p k (h .before .tasks) (h .after .tasks)
+granted h p k = once (taken (h .event) (h .code) (h .w1) p k) + handedCount p k (h .before .tasks) (h .after .tasks)
 
 unfoldable pub gaveBack : Happened → ℕ → ℕ → ℕ
-gaveBack h p k = once (returned (h .event) (h .answer) p k)
+gaveBack h p k = once (returned (h .event) (h .code) p k)
 
 -- in a run so far
 unfoldable pub grants : List Happened → ℕ → ℕ → ℕ

@@ -3,7 +3,7 @@ use mathlib.Core.List.{List, [], _∷_}
 use mathlib.Core.Logic.{_≢_}
 use mathlib.Core.Path.{_≡_}
 use lib.IntN.{ℤ}
-use Rattle.rules.specs.Codes.{H-STATE}
+use Rattle.rules.specs.Codes.{number, H-STATE}
 use Rattle.rules.specs.Places.{tabulate}
 use Rattle.rules.specs.Events.{Event}
 use Rattle.rules.specs.View.{View}
@@ -25,7 +25,7 @@ pub record Alike (past : List Happened) (v : View) (s : Plain) : Type 0 where
 
 -- an event of the plain kernel's run
 abbrev pub happened : Plain → Event → Happened
-happened s e = record { event = e; answer = plainAnswer s e; before = s .body; after = plainNext s e .body }
+happened s e = record { event = e; code = number (plainAnswer s e .code); w1 = plainAnswer s e .w1; before = s .body; after = plainNext s e .body }
 
 -- At each event both give the same code, words, running task and released count, and no event gets H_STATE.
 abbrev pub Demand3 : List Happened → View → Plain → List Event → Type 0

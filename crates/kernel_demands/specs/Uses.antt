@@ -1,0 +1,81 @@
+-- From the functions that a user calls to the demands: what `run` promises, and what `start` and then any mix of `call`, `tick` and `events`
+-- promise, is a chain of steps, of which the demands are said.
+use mathlib.Core.List.{List, [], _∷_, _++_}
+use mathlib.Core.Path.{_≡_}
+use Prim.Native.Nat.{ℕ}
+use lib.IntN.{ℤ}
+use Rattle.rules.specs.Ids.{Each}
+use Rattle.rules.specs.Setup.{got, Setup, setup}
+use Rattle.rules.specs.Events.{Event, Word, Words}
+use Rattle.rules.specs.Plain.{plainFresh}
+use Rattle.kernel_start.specs.Starting.{Starts}
+use Rattle.kernel_start.specs.declared.Started.the-variants.{Fresh}
+use Rattle.kernel_events.specs.Steps.{Reply, Step, Link}
+use Rattle.kernel_batches.specs.declared.Batch.{Batch}
+use Rattle.kernel_batches.specs.declared.Batch.the-variants as Batch
+use Rattle.kernel_batches.specs.Batches.{Lent, lent, RanThrough, fitted, BatchedAs, Batched}
+use Rattle.kernel_demands.specs.Demands.{Demand3OnCode, BrokenOnCode, OnlyRelWaiOnCode, BlocksOnce}
+
+-- ---- what is demanded of a chain from a fresh start
+
+pub record Demanded (u : Setup) (b m : List ℕ) (l : List Link) : Type 0 where
+  pub plain : Demand3OnCode [] b m (plainFresh u) l
+  pub broken : BrokenOnCode l
+  pub only : OnlyRelWaiOnCode b m l
+  pub blocks : BlocksOnce b m l
+
+-- ---- `run`
+
+-- The bytes are a setup's; the events ran one after the other from the memory that a start left, in just these links, and what was written are
+-- their replies (`RanThrough`); all that is demanded holds of them.
+pub record RunDemanded (s : List ℕ) (given : List ℤ) (old new : Lent) : Type 0 where
+  pub read : Setup
+  pub end : ℕ
+  pub accepted : setup s ≡ got read end
+  pub words : List ℕ
+  pub marks : List ℕ
+  pub starts : Starts s Fresh (old .words) (old .marks) words marks
+  pub ran : RanThrough given (lent words marks (old .codes) (old .answers)) new
+  pub demanded : Demanded read words marks (ran .links)
+
+-- ---- `call`, `tick` and `events` in any order
+
+-- a call or a tick: the event, what came back, and the memory that it left; or `events`: the words given, what was said, the places lent for codes
+-- and answers, and all that it left
+pub data Turn : Type 0 where
+  one : Event → Reply → List ℕ → List ℕ → Turn
+  many : List ℤ → Batch → List ℤ → List ℕ → Lent → Turn
+
+-- each turn is as its function promises, from the memory that the last one left
+abbrev pub Mix : List ℕ → List ℕ → List Turn → Type 0
+Mix b m [] = Unit {0}
+Mix b m (one e r b′ m′ ∷ t) = Step e b m r b′ m′ × Mix b′ m′ t
+Mix b m (many given q codes answers new ∷ t) = Batched given q (lent b m codes answers) new × Mix (new .words) (new .marks) t
+
+-- the words are those of 32 bits
+abbrev pub TurnWords : List Turn → Type 0
+TurnWords [] = Unit {0}
+TurnWords (one e r b m ∷ t) = Words e × TurnWords t
+TurnWords (many given q codes answers new ∷ t) = Each Word given × TurnWords t
+
+-- the links of a batch: those that it promises, none if it did not run
+abbrev pub batchLinks : (q : Batch) (given : List ℤ) (old new : Lent) → BatchedAs q given old new → List Link
+batchLinks Batch.Done given old new R = R .links
+batchLinks Batch.Ragged given old new R = []
+batchLinks Batch.FewCodes given old new R = []
+batchLinks Batch.FewWords given old new R = []
+
+-- the links of a mix, in order
+unfoldable pub mixLinks : (b m : List ℕ) (t : List Turn) → Mix b m t → List Link
+unfolding Batched
+mixLinks b m [] M = []
+mixLinks b m (one e r b′ m′ ∷ t) M = record { event = e; reply = r; words = b′; marks = m′ } ∷ mixLinks b′ m′ t (M .1)
+mixLinks b m (many given q codes answers new ∷ t) M =
+    batchLinks (fitted given (lent b m codes answers)) given (lent b m codes answers) new (M .0 .1) ++ mixLinks (new .words) (new .marks) t (M .1)
+
+-- after a start that was not refused
+pub record MixDemanded (s b m : List ℕ) (t : List Turn) (M : Mix b m t) : Type 0 where
+  pub read : Setup
+  pub end : ℕ
+  pub accepted : setup s ≡ got read end
+  pub demanded : Demanded read b m (mixLinks b m t M)
