@@ -16,7 +16,7 @@ use Rattle.rules.specs.State.{Kind, semaphore, flag, mailbox, pool, Body, task,
 use Rattle.rules.specs.Places.{readyAt, waiters, mail, population, belongs, lineAt}
 use Rattle.rules.specs.Events.{Event, tick, call, Words, nat, outside, above}
 use Rattle.rules.specs.Acts.{Act, rotate, release, elapse, after}
-use Rattle.rules.specs.View.{View, line, nonempty, best, running}
+use Rattle.rules.specs.View.{View, line, best, running}
 use Rattle.rules.specs.Verdicts.{Verdict}
 use Rattle.rules.specs.Tasks.{starting, sta-tsk, ext-tsk, ter-tsk, chg-pri, rot-rdq, rel-wai, sus-tsk, rsm-tsk, take-wakeup, slp-tsk, wai-tsk, waking, wup-tsk, can-wup, get-tid, tsk-sts}
 use Rattle.rules.specs.Objects.{to-first, obj-sts, sig-sem, take-sem, met, left, serve-flag, set-flg, clr-flg, take-flg, snd-msg, take-msg, blocksOf, lowest, take-blk, rel-blk}
@@ -27,7 +27,7 @@ use Rattle.rules.specs.Sound.{Known, Sound}
 use Rattle.rules.specs.Kernel.{next}
 use Rattle.rules.proofs.Ids.{length-put, tested, kept-passes, times-head, times-tail}
 use Rattle.rules.proofs.Fits.{in-range}
-use Rattle.rules.proofs.Queues.{first-belongs}
+use Rattle.rules.proofs.Queues.{first-belongs, nonempty-at}
 use Rattle.rules.proofs.Calls.{Steps, steps-of-judge}
 use Rattle.rules.proofs.Waits.{in-by, both-true, neither}
 use Rattle.rules.proofs.Judge.{_⊗_, AllRows, OnActs, on-acts, acts-check, acts-choose, acts-first, acts-count, acts-wait, acts-call}
@@ -39,18 +39,6 @@ use Rattle.call_words.proofs.Performing.{Names, AllNames, shown-body, performs-
 use Rattle.call_dispatch.proofs.Arms.{upto}
 
 -- ---- who stands first in a queue is there
-
-no-first : (x : ℕ) (m : List ℕ) → [] ≡ x ∷ m → ⊥
-no-first x m e = false≢true (ap some? e)
-  where
-    some? : List ℕ → Bool
-    some? [] = false
-    some? (y ∷ l) = true
-
-nonempty-at : (l : List (List ℕ)) (x : ℕ) (m : List ℕ) → nonempty l ≡ x ∷ m → (i : ℕ) × (i < length l) × (getD l i [] ≡ x ∷ m)
-nonempty-at [] x m e = absurd (no-first x m e)
-nonempty-at ([] ∷ l) x m e = let r = nonempty-at l x m e in (suc (r .0), omega (arith, r .1), r .2)
-nonempty-at ((y ∷ q) ∷ l) x m e = (0, omega arith, e)
 
 module _ (v : View) (h : Sound v) where
   first-ready : (p x : ℕ) (m : List ℕ) → In p (v .body .store .priorities) → line v (readyAt p) ≡ x ∷ m → Names (v .body) (rotate x)

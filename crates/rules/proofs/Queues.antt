@@ -151,7 +151,7 @@ module _ (v : View) (h : Sound v) (q : Place) (r : Exists (v .body .store) q) wh
   empty-belongs e i = empty-line-belongs (v .body) q i (subst (Queue (v .body) q) e (h .queues q r))
 
 -- the first nonempty list is one of them
-nonempty-at : (l : List (List ℕ)) (x : ℕ) (m : List ℕ) → nonempty l ≡ x ∷ m → (i : ℕ) × (i < length l) × (getD l i [] ≡ x ∷ m)
+pub nonempty-at : (l : List (List ℕ)) (x : ℕ) (m : List ℕ) → nonempty l ≡ x ∷ m → (i : ℕ) × (i < length l) × (getD l i [] ≡ x ∷ m)
 nonempty-at [] x m e = absurd (no-first e)
   where
     no-first : {x : ℕ} {m : List ℕ} → [] ≡ x ∷ m → ⊥

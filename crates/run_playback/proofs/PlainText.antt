@@ -17,12 +17,12 @@ use Rattle.rules.specs.Plain.{Plain, viewOf, plainFresh, plainNext}
 use Rattle.rules.specs.Runs.{answers, plainAnswers}
 use Rattle.rules.specs.Blocks.{Happened}
 use Rattle.rules.specs.Demand3.{happened, Demand3}
-use Rattle.rules.proofs.Accepted.{Reads, Fits, SectionFits, section-reads}
+use Rattle.rules.proofs.Accepted.{Reads, Fits, SectionFits, section-reads, reads-then}
 use Rattle.rules.proofs.Ids.{Each}
 use Rattle.rules.proofs.Agree.{fresh-shows}
 use Rattle.rules.proofs.Demand3.{demand3}
-use Rattle.setup.proofs.Reading.{reads-then}
-use Rattle.run_reading.specs.Recorded.{Run, events, signedWord, joined, readEvents, recorded}
+use Rattle.rules.specs.Writing.{joined}
+use Rattle.run_reading.specs.Recorded.{Run, events, signedWord, readEvents, recorded}
 use Rattle.run_playback.specs.Text.{runLines, runText, plainRunText, textFrom, textOf, plainTextOf}
 use Rattle.run_reading.proofs.Reach.{setup-prefix}
 use Rattle.run_reading.proofs.Events.{reads-both, Lie, events-lie}
@@ -44,7 +44,6 @@ event-fits (pos (suc (suc (suc k)))) n a b c x y z v w = (x, y, z, v, w)
 event-fits (negsuc k) n a b c x y z v w = (x, y, z, v, w)
 
 rows-fit : (l : List (List ℕ)) → Each (Fits (events .entry)) l → AllWords (eventsOf (map signedWord (joined l)))
-unfolding joined
 rows-fit [] h = tt
 rows-fit ([] ∷ l) h = absurd (h .0)
 rows-fit ((k ∷ []) ∷ l) h = absurd (h .0 .1)

@@ -11,7 +11,7 @@ use Rattle.rules.specs.Setup.{Fault, S4, digit, Read, got, refused, and-then, w
 use Rattle.setup.specs.Judging.{judgedOf}
 use Rattle.setup.specs.declared.Judged.{Judged}
 use Rattle.setup.specs.declared.Judged.the-variants.{Bad, Good}
-use Rattle.setup.proofs.Reading.{from-read}
+use Rattle.rules.proofs.Accepted.{from-read}
 use Rattle.setup.proofs.Judging.{good-read, bad-read}
 use Rattle.run_reading.specs.Recorded.{Run, readEvents, recorded}
 use Rattle.run_text.specs.Lines.{startLine, refusal, lines, rows}

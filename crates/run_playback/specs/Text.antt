@@ -10,7 +10,7 @@ use Rattle.rules.specs.Kernel.{fresh}
 use Rattle.rules.specs.Plain.{viewOf, plainFresh}
 use Rattle.rules.specs.Runs.{answers, plainAnswers}
 use Rattle.run_text.specs.Lines.{digits, decimal, signed, fields, startLine, refusal, lines}
-use Rattle.run_reading.specs.Recorded.{Run, joined, readEvents, recorded}
+use Rattle.run_reading.specs.Recorded.{Run, readEvents, recorded}
 
 -- the task that runs first, and the answers
 unfoldable pub runLines : ℕ → List Answer → List ℕ
@@ -32,10 +32,10 @@ textFrom play (refused f place) = refusal (digit f) place
 
 -- the text of a file. Whoever unfolds it computes the text of any file.
 unfoldable pub textOf : List ℕ → List ℕ
-unfolding answers joined readEvents recorded digits decimal signed fields startLine refusal lines runLines runText textFrom
+unfolding answers readEvents recorded digits decimal signed fields startLine refusal lines runLines runText textFrom
 textOf s = textFrom runText (recorded s)
 
 -- the same by the plain kernel
 unfoldable pub plainTextOf : List ℕ → List ℕ
-unfolding plainAnswers joined readEvents recorded digits decimal signed fields startLine refusal lines runLines plainRunText textFrom
+unfolding plainAnswers readEvents recorded digits decimal signed fields startLine refusal lines runLines plainRunText textFrom
 plainTextOf s = textFrom plainRunText (recorded s)

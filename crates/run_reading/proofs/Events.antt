@@ -8,12 +8,13 @@ use lib.Dec.{leb}
 use lib.IntN.{ℤ}
 use lib.ListN.{length, replicate, length-replicate}
 use Rattle.rules.specs.Setup.{S2, S3, S4, Read, got, refused, and-then, wordAt, Range, to, readWord, readEntry, readEntries, readSection, at-end}
-use Rattle.rules.proofs.Accepted.{Reads}
+use Rattle.rules.proofs.Accepted.{Reads, reads-then, from-read}
 use Rattle.setup.specs.Judging.{judgedOf, onGood}
 use Rattle.setup.specs.declared.Judged.the-variants.{Bad, Good}
-use Rattle.setup.proofs.Reading.{reads-then, from-read, WordAt, word-lies}
+use Rattle.setup.proofs.Reading.{WordAt, word-lies}
 use Rattle.setup.proofs.Judging.{then-judged, map-judged}
-use Rattle.run_reading.specs.Recorded.{anyWord, events, signedWord, joined, readEvents, wordsFrom}
+use Rattle.rules.specs.Writing.{joined}
+use Rattle.run_reading.specs.Recorded.{anyWord, events, signedWord, readEvents, wordsFrom}
 use Rattle.run_reading.proofs.Reach.{word-within}
 
 -- ---- one read behind the other
@@ -50,7 +51,7 @@ module _ (s : List ℕ) where
 
   -- n entries of five words are 5 n words
   flat : (n i : ℕ) → and-then (readEntries s (events .entry) n i) (λ l j. got (joined l) j) ≡ readEntry s (replicate (5 * n) anyWord) i
-  unfolding readEntry readEntries and-then joined
+  unfolding readEntry readEntries and-then
   flat zero i = refl
   flat (suc n) i =
       let five : List Range = events .entry in

@@ -10,9 +10,9 @@ use lib.Dec.{leb}
 use lib.ListN.{length, take, getD, length-take}
 use borrow.Author.Tests.{le-leb, lt-leb, leb-true, leb-false}
 use Rattle.rules.specs.Setup.{Fault, S1, S2, S3, Read, got, refused, and-then, wordAt, Range, within, readWord, Section, priorities, sections, readEntry, readEntries, readSection, readSections, Setup, setupOf, readSetup, at-end, setup}
-use Rattle.rules.proofs.Accepted.{Reads}
-use Rattle.setup.proofs.Reading.{from-read}
-use Rattle.run_reading.specs.Recorded.{Run, events, signedWord, joined, readEvents, recorded}
+use Rattle.rules.proofs.Accepted.{Reads, from-read}
+use Rattle.rules.specs.Writing.{joined}
+use Rattle.run_reading.specs.Recorded.{Run, events, signedWord, readEvents, recorded}
 
 -- the offset behind the last byte that decided
 abbrev reach : {A : Type 0} → Read A → ℕ

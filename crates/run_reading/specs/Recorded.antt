@@ -6,6 +6,7 @@ use Prim.Native.Nat.{ℕ, zero, suc, _+_, _-_, _^_}
 use lib.Dec.{ltb}
 use lib.IntN.{ℤ, pos, negsuc}
 use Rattle.rules.specs.Setup.{Read, got, and-then, wordAt, Range, to, Section, section, readSection, Setup, readSetup, at-end}
+use Rattle.rules.specs.Writing.{joined}
 
 pub record Run : Type 0 where
   pub setup : Setup
@@ -26,11 +27,6 @@ signedWord w = cond (ltb w (2 ^ 31)) (pos w) (negsuc (2 ^ 32 - 1 - w))
 unfoldable pub wordsFrom : List ℕ → ℕ → ℕ → List ℕ
 wordsFrom s zero i = []
 wordsFrom s (suc n) i = wordAt s i ∷ wordsFrom s n (i + 4)
-
--- one entry after the other
-unfoldable pub joined : List (List ℕ) → List ℕ
-joined [] = []
-joined (e ∷ l) = e ++ joined l
 
 -- the section of events, as signed words
 unfoldable pub readEvents : List ℕ → ℕ → Read (List ℤ)

@@ -10,7 +10,8 @@ use Rattle.rules.specs.Setup.{Fault, S2, S3, S4, digit, Read, got, refused, and
 use Rattle.setup.specs.Judging.{judgedOf, onGood}
 use Rattle.setup.specs.declared.Judged.{Judged}
 use Rattle.setup.specs.declared.Judged.the-variants.{Bad, Good}
-use Rattle.setup.proofs.Reading.{from-read, word-lies, section-lies}
+use Rattle.rules.proofs.Accepted.{from-read}
+use Rattle.setup.proofs.Reading.{word-lies, section-lies}
 
 module _ {A B : Type 0} where
   -- where what follows goes by the offset alone

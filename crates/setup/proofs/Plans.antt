@@ -10,9 +10,9 @@ use lib.Dec.{eqb, leb}
 use lib.ListN.{length, drop, getD, length-map}
 use Rattle.rules.specs.Ids.{of, In}
 use Rattle.rules.specs.Setup.{S4, Read, got, refused, wordAt, Range, Section, section, priorities, sections, readSection, readSections, Entry, Setup, wordOf, taskEntry, setupOf, readSetup, at-end, setup}
-use Rattle.rules.proofs.Accepted.{Reads, SectionFits, section-reads}
+use Rattle.rules.proofs.Accepted.{Reads, SectionFits, section-reads, reads-then, from-read}
 use Rattle.setup.specs.Layout.{partAt, planOf, entryAt, PlanShows, PlanFits}
-use Rattle.setup.proofs.Reading.{reads-then, from-read, RowsAt, section-lies}
+use Rattle.setup.proofs.Reading.{RowsAt, section-lies}
 
 -- an entry within a table, whatever the defaults
 map-at : {A B : Type 0} (f : A → B) (l : List A) (y : ℕ) (d : B) (a : A) → y < length l → getD (map f l) y d ≡ f (getD l y a)

@@ -8,16 +8,7 @@ use native.Mathlib.Omega.{arith}
 use lib.Dec.{leb}
 use lib.ListN.{length, getD}
 use Rattle.rules.specs.Setup.{Fault, S1, S2, S3, Read, got, refused, and-then, wordAt, Range, within, readWord, Section, readEntry, readEntries, readSection}
-use Rattle.rules.proofs.Accepted.{Reads}
-
-module _ {A B : Type 0} (P : A → ℕ → Type 0) (Q : B → ℕ → Type 0) where
-  pub reads-then : (r : Read A) (f : A → ℕ → Read B) → Reads P r → ((a : A) (i : ℕ) → P a i → Reads Q (f a i)) → Reads Q (and-then r f)
-  unfolding and-then
-  reads-then (got a next) f h g = g a next h
-  reads-then (refused d place) f h g = tt
-
-pub from-read : {A : Type 0} (P : A → ℕ → Type 0) (r : Read A) (a : A) (i : ℕ) → r ≡ got a i → Reads P r → P a i
-from-read P r a i e h = rw e at h
+use Rattle.rules.proofs.Accepted.{Reads, reads-then}
 
 module _ (s : List ℕ) where
   abbrev pub WordAt : ℕ → ℕ → ℕ → Type 0
