@@ -2,12 +2,12 @@
 use mathlib.Core.Bool.{Bool, true, false, cond}
 use mathlib.Core.List.{List, [], _∷_}
 use mathlib.Core.Path.{_≡_, refl, ap, _∙_}
-use Prim.Native.Nat.{ℕ, zero, suc, _-_, _<_}
+use Prim.Native.Nat.{ℕ, zero, suc, _+_, _-_, _<_}
 use native.Mathlib.Omega.{arith}
 use lib.Dec.{leb}
 use lib.ListN.{length}
-use Rattle.rules.specs.Setup.{Fault, S2, S3, S4, digit, Read, got, refused, and-then, wordAt, Range, readWord, Section, priorities, sections, readEntry, readEntries, readSection, readSections, readSetup, at-end, setup}
-use Rattle.setup.specs.Judging.{judgedOf, onGood}
+use Rattle.rules.specs.Setup.{Fault, S1, S2, S3, S4, digit, Read, got, refused, and-then, wordAt, Range, within, readWord, Section, priorities, sections, readEntry, readEntries, readSection, readSections, readSetup, at-end, setup}
+use Rattle.setup.specs.Judging.{judgedOf, toldAs, onGood}
 use Rattle.setup.specs.declared.Judged.{Judged}
 use Rattle.setup.specs.declared.Judged.the-variants.{Bad, Good}
 use Rattle.rules.proofs.Accepted.{from-read}
@@ -104,3 +104,15 @@ module _ (s : List ℕ) where
           pick true = refl
           pick false = refl
       go (refused d i) = refl
+
+-- ---- a word
+
+-- told by the digit of a fault, it is the word read with that fault
+pub word-told : (s : List ℕ) (r : Range) (f : Fault) (i : ℕ) {j : Judged} → j ≡ toldAs (digit f) (readWord s r S3 i) → j ≡ judgedOf (readWord s r f i)
+unfolding readWord
+word-told s r f i e = e ∙ go (leb (i + 4) (length s)) (within r (wordAt s i))
+  where
+    go : (t u : Bool) → toldAs (digit f) (cond t (cond u (got (wordAt s i) (i + 4)) (refused S3 i)) (refused S1 i)) ≡ judgedOf (cond t (cond u (got (wordAt s i) (i + 4)) (refused f i)) (refused S1 i))
+    go true true = refl
+    go true false = refl
+    go false u = refl

@@ -1,7 +1,7 @@
 -- What judging a setup gives: what the rules' reader gives, without what was read.
 use mathlib.Core.List.{List, [], _∷_}
 use Prim.Native.Nat.{ℕ, zero, suc}
-use Rattle.rules.specs.Setup.{Read, got, refused, digit, Range, to}
+use Rattle.rules.specs.Setup.{S1, S2, S3, S4, digit, Read, got, refused, Range, to}
 use Rattle.setup.specs.declared.Judged.{Judged}
 use Rattle.setup.specs.declared.Judged.the-variants.{Bad, Good}
 use Rattle.setup.specs.declared.Shape.{Shape}
@@ -10,6 +10,14 @@ use Rattle.setup.specs.declared.Shape.{Shape}
 abbrev pub judgedOf : {A : Type 0} → Read A → Judged
 judgedOf (got a next) = Good next
 judgedOf (refused f place) = Bad (digit f) place
+
+-- the same of a word, whose fault S3 is told by another digit
+abbrev pub toldAs : {A : Type 0} → ℕ → Read A → Judged
+toldAs d (got a next) = Good next
+toldAs d (refused S1 place) = Bad (digit S1) place
+toldAs d (refused S2 place) = Bad (digit S2) place
+toldAs d (refused S3 place) = Bad d place
+toldAs d (refused S4 place) = Bad (digit S4) place
 
 -- an earlier fault stays
 abbrev pub onGood : Judged → (ℕ → Judged) → Judged

@@ -5,8 +5,8 @@ ghost use mathlib.Core.List.{[], _∷_};
 ghost use Prim.Native.Nat.{_+_, _≤_, _<_};
 ghost use lib.Dec.{leb};
 ghost use lib.ListN.{length, getD};
-ghost use Rattle.rules.specs.Setup.{Fault, digit, wordAt, to, section, readWord, readEntry, readEntries, readSection, readSetup, setup};
-ghost use Rattle.setup.specs.Judging.{judgedOf, onGood, rangesOf};
+ghost use Rattle.rules.specs.Setup.{S3, wordAt, to, section, readWord, readEntry, readEntries, readSection, readSetup, setup};
+ghost use Rattle.setup.specs.Judging.{judgedOf, toldAs, onGood, rangesOf};
 ghost use Rattle.setup.specs.Layout.{countAt, onward, partAt, planOf};
 
 // The largest counts.
@@ -86,9 +86,9 @@ struct Shape {
     second: Span,
 }
 
-// The word at an offset is whole, and within its range or else has the fault that is given.
+// The word at an offset is whole, or has the fault S1; and it lies within its range, or has the fault whose digit is given.
 pub fn judge_word(bytes: &[u8], r: Span, fault: u32, at: usize) -> Judged
-    ensures { λ j. ⌜ ((f : Fault) → fault ≡ digit f → j ≡ judgedOf (readWord (now (bytes .entry)) (to (r .least) (r .most)) f at)) ⌝ }
+    ensures { λ j. ⌜ j ≡ toldAs fault (readWord (now (bytes .entry)) (to (r .least) (r .most)) S3 at) ⌝ }
 {
     if !has_word(bytes, at) {
         return Judged::Bad(1, at);

@@ -6,6 +6,7 @@ use Rattle.rules.specs.Setup.{S2, wordAt, readEntry}
 use Rattle.setup.specs.Judging.{judgedOf, onGood}
 use Rattle.run_reading.specs.Recorded.{anyWord, readEvents}
 use Rattle.run_reading.proofs.Events.{events-judged}
+use Rattle.setup.proofs.Judging.{word-told}
 use borrow.Author.Needs.{needs}
 use Rattle.run_reading.proofs.judge_section.Statement.{statement}
 use Rattle.run_reading.proofs.judge_section.Tie as tie
@@ -37,7 +38,7 @@ judge-words-requires c κs = search needs
 -- the words go by what was judged of the count
 counted : (c : tie.After-judge-word) → let a = c .before .before .args in
     judgedOf (readEvents (a .bytes .now) (a .at)) ≡ onGood (c .judge-word .result) (λ j. judgedOf (readEntry (a .bytes .now) (replicate (5 * wordAt (a .bytes .now) (a .at)) anyWord) j))
-counted c = events-judged _ _ ∙ simp (c .judge-word .ensures S2 refl)
+counted c = events-judged _ _ ∙ simp (word-told _ _ S2 _ (c .judge-word .ensures))
 
 returns : tie.Need-returns
 returns c = sym (counted (c .before .before .before) ∙ simp (c .before .d .given .1))

@@ -3,6 +3,7 @@ use mathlib.Core.Path.{_≡_, refl, sym, _∙_}
 use Prim.Native.Nat.{_-_}
 use native.Mathlib.Omega.{arith}
 use lib.ListN.{replicate}
+use Rattle.setup.proofs.Judging.{word-told}
 use borrow.Author.Needs.{needs}
 use Rattle.rules.specs.Setup.{S3, readEntry}
 use Rattle.setup.specs.Judging.{judgedOf, onGood}
@@ -30,7 +31,7 @@ enum-known-d c = search needs
 turn : (c : tie.After-judge-word Inv-loop μ-loop) → let loop = c .before .before in let a = loop .before .before .args in
     judgedOf (readEntry (a .bytes .now) (replicate (a .n) anyWord) (a .from))
     ≡ onGood (c .judge-word .result) (λ j. judgedOf (readEntry (a .bytes .now) (replicate (loop .loop .left - 1) anyWord) j))
-turn c = c .before .before .loop .inv ∙ next-word _ _ _ (c .before .loop-test .taken) ∙ simp (c .judge-word .ensures S3 refl)
+turn c = c .before .before .loop .inv ∙ next-word _ _ _ (c .before .loop-test .taken) ∙ simp (word-told _ _ S3 _ (c .judge-word .ensures))
 
 returns : tie.Need-returns Inv-loop μ-loop
 returns c = sym (turn (c .before .before .before) ∙ simp (c .before .d .given .1))

@@ -4,7 +4,7 @@ use mathlib.Core.Path.{_≡_, refl, sym, _∙_}
 use Prim.Native.Nat.{ℕ, zero, suc}
 use Rattle.rules.specs.Setup.{S3, Range, to, readWord, readEntry}
 use Rattle.setup.specs.Judging.{judgedOf, onGood, firstOf, rangesOf}
-use Rattle.setup.proofs.Judging.{nothing-judged, word-judged, pair-judged}
+use Rattle.setup.proofs.Judging.{nothing-judged, word-judged, pair-judged, word-told}
 use borrow.Author.Needs.{needs}
 use Rattle.setup.proofs.judge_entry.Statement.{statement}
 use Rattle.setup.proofs.judge_entry.Tie as tie
@@ -16,7 +16,7 @@ judge-word-requires : tie.Need-judge-word-requires
 judge-word-requires c κs = search needs
 
 returns-2 : tie.Need-returns-2
-returns-2 c = rw (c .if2 .taken) (c .before .before .judge-word .ensures S3 refl ∙ sym (word-judged _ _ _))
+returns-2 c = rw (c .if2 .taken) (word-told _ _ S3 _ (c .before .before .judge-word .ensures) ∙ sym (word-judged _ _ _))
 
 -- neither 0 nor 1
 two : (n : ℕ) (a b : Range) → (n ≡ 0 → ⊥) → (n ≡ 1 → ⊥) → firstOf n a b ≡ a ∷ b ∷ []
@@ -29,7 +29,7 @@ both : (c : tie.Else2) → let first = c .before .before in let a = first .befor
     judgedOf (readEntry (a .bytes .now) (rangesOf (a .e)) (a .at)) ≡ onGood (first .judge-word .result) (λ j. judgedOf (readWord (a .bytes .now) (to (a .e .second .least) (a .e .second .most)) S3 j))
 both c =
     let first = c .before .before in
-    rw (two _ _ _ (first .before .if1 .left) (c .if2 .left)) (pair-judged _ _ _ _ ∙ simp (first .judge-word .ensures S3 refl))
+    rw (two _ _ _ (first .before .if1 .left) (c .if2 .left)) (pair-judged _ _ _ _ ∙ simp (word-told _ _ S3 _ (first .judge-word .ensures)))
 
 enum-known-first : tie.Need-enum-known-first
 enum-known-first c = search needs
@@ -44,7 +44,7 @@ returns-3 : tie.Need-returns-3
 returns-3 c = sym (both (c .before .before .before) ∙ simp (c .before .first .given .1))
 
 returns-4 : tie.Need-returns-4
-returns-4 c = c .judge-word2 .ensures S3 refl ∙ sym (both (c .before .before .before .before) ∙ simp (c .before .before .first2 .given .1))
+returns-4 c = word-told _ _ S3 _ (c .judge-word2 .ensures) ∙ sym (both (c .before .before .before .before) ∙ simp (c .before .before .first2 .given .1))
 
 pub judge-entry-spec : {M : Type 1} → statement M
 judge-entry-spec =

@@ -2,7 +2,7 @@
 use mathlib.Core.Path.{_≡_, refl, sym, _∙_}
 use Rattle.rules.specs.Setup.{S2, wordAt, to, section, readEntries, readSection}
 use Rattle.setup.specs.Judging.{judgedOf, onGood, rangesOf}
-use Rattle.setup.proofs.Judging.{section-judged}
+use Rattle.setup.proofs.Judging.{section-judged, word-told}
 use borrow.Author.Needs.{needs}
 use Rattle.setup.proofs.judge_section.Statement.{statement}
 use Rattle.setup.proofs.judge_section.Tie as tie
@@ -26,7 +26,7 @@ judge-entries-requires c κs = search needs
 counted : (c : tie.After-judge-word) → let a = c .before .before .args in
     judgedOf (readSection (a .bytes .now) (section (to (a .least) (a .most)) (rangesOf (a .e))) (a .at))
     ≡ onGood (c .judge-word .result) (λ j. judgedOf (readEntries (a .bytes .now) (rangesOf (a .e)) (wordAt (a .bytes .now) (a .at)) j))
-counted c = section-judged _ _ _ ∙ simp (c .judge-word .ensures S2 refl)
+counted c = section-judged _ _ _ ∙ simp (word-told _ _ S2 _ (c .judge-word .ensures))
 
 returns : tie.Need-returns
 returns c = sym (counted (c .before .before .before) ∙ simp (c .before .d .given .1))

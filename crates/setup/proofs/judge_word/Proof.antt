@@ -20,23 +20,23 @@ held c = sym (c .before .has-word .ensures) ∙ not-false (c .before .has-word .
 
 returns : tie.Need-returns
 unfolding readWord
-returns c f e = simp (← c .before .has-word .ensures, not-true (c .before .has-word .result) (c .if1 .taken))
+returns c = simp (← c .before .has-word .ensures, not-true (c .before .has-word .result) (c .if1 .taken))
 
 word-requires : tie.Need-word-requires
 word-requires c κs = search needs
 
 returns-2 : tie.Need-returns-2
 unfolding readWord
-returns-2 c f e =
+returns-2 c =
     let read = c .before .before in
-    simp (held (read .before), ← read .word .ensures, lt-leb _ _ (c .if2 .taken), e)
+    simp (held (read .before), ← read .word .ensures, lt-leb _ _ (c .if2 .taken))
 
 returns-3 : tie.Need-returns-3
 unfolding readWord
-returns-3 c f e =
+returns-3 c =
     let least = c .before .before in
     let read = least .before .before in
-    simp (held (read .before), ← read .word .ensures, le-leb _ _ (least .if2 .left), lt-leb _ _ (c .if3 .taken), e)
+    simp (held (read .before), ← read .word .ensures, le-leb _ _ (least .if2 .left), lt-leb _ _ (c .if3 .taken))
 
 add-next : tie.Need-add-next
 add-next c =
@@ -46,7 +46,7 @@ add-next c =
 
 returns-4 : tie.Need-returns-4
 unfolding readWord
-returns-4 c f e =
+returns-4 c =
     let least = c .before .before in
     let read = least .before .before in
     simp (held (read .before), ← read .word .ensures, le-leb _ _ (least .if2 .left), le-leb _ _ (c .if3 .left))
