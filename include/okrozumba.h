@@ -130,8 +130,8 @@ typedef struct okrozumba_answer {
     uint32_t released; /* the number of tasks released from a wait */
 } okrozumba_answer;
 
-/* An answer cell: the code that a task's last wait ended with, and the pattern, message or block that it got. It is 0 and 0 from a start of
-   the task to the end of its first wait. */
+/* An answer cell: the code that the task was last released from a wait with, and the pattern, message or block that it got. It is 0 and 0 from
+   a start of the task to its first release. A wait that ends since the task is terminated writes nothing. */
 typedef struct okrozumba_reading {
     int32_t code;
     uint32_t word;

@@ -1,7 +1,7 @@
 //! Okrozumba, a small μITRON kernel that was proved in Rattle, for programs in Rust.
 //!
 //! A kernel is a [`State`]: two arrays that the program owns. [`State::start`] makes a fresh one from a setup, [`State::call`] and
-//! [`State::tick`] carry it from event to event, [`State::cell`] reads what a task's last wait ended with, [`State::events`] and
+//! [`State::tick`] carry it from event to event, [`State::cell`] reads what a task was last released from a wait with, [`State::events`] and
 //! [`State::run`] play many events at once. Nothing is kept elsewhere: a clone is a second kernel in the same state. [`playback::play`] gives
 //! the text of a recorded run.
 //!
@@ -100,7 +100,8 @@ pub struct Answer {
     pub released: u32,
 }
 
-/// An answer cell: the code that a task's last wait ended with, and the pattern, message or block that it got.
+/// An answer cell: the code that the task was last released from a wait with, and the pattern, message or block that it got. A wait that
+/// ends since the task is terminated writes nothing.
 #[repr(C)]
 #[derive(Clone, Copy, PartialEq, Eq, Debug, Default)]
 pub struct Cell {

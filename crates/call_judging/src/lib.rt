@@ -1,4 +1,5 @@
-// What of a call is judged before its own rule: the words, then E_CTX, E_SELF and E_DMT. A refusal is its code, none is 0.
+// What of a call is judged before its own rule: the words, then E_CTX, E_SELF and E_DMT. A refusal is its code, none is 0. The
+// contracts speak of an accepted memory (`Judges`).
 use call_words::codes::E_CTX;
 use call_words::codes::E_DMT;
 use call_words::codes::E_ILTIME;

@@ -1,4 +1,5 @@
-// The tick: the waits that it ends are released, then the other timed waits lose one and the clock rises.
+// The tick: the waits that it ends are released, then the other timed waits lose one and the clock rises. The contract speaks of an accepted
+// memory.
 use call_words::Outcome;
 use call_words::releases;
 use memory_columns::CELL_TMOUT;

@@ -1,1 +1,2 @@
-// The customer's demands, as theorems on every chain of events (specs/Demands.antt, proofs/Demands.antt). It has no code of its own.
+// The customer's demands, as theorems on every chain of events (specs/Demands.antt), and from what the public functions promise to these
+// (specs/Uses.antt). It has no code of its own.

@@ -1,4 +1,5 @@
-// Every event on every memory: a call, and the tick. Nobody has to check first.
+// Every event on every memory: `call` and `tick`. Nobody has to check first. `serve` is for `kernel_batches`, which knows whether the state is
+// sound and who runs, and promises as much as that knowledge (`Serves`).
 use call_dispatch::dispatch;
 use call_judging::is_above;
 use call_words::Outcome;

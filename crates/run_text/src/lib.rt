@@ -1,6 +1,6 @@
 // Text in a lent output: the lines of a run, or the line of a refusal. Each private function writes from a place on and gives the place behind what it
 // wrote. Behind the output's end nothing is written and the places are counted all the same: so the length of a text is known before a byte
-// of it is written. What `show_run` requires is for `run_playback`, which meets it: the lent places hold the answers of the n events.
+// of it is written.
 use call_words::bits_of;
 use run_reading::EVENTS;
 ghost use mathlib.Core.Path.{_≡_};
