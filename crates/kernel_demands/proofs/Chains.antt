@@ -7,7 +7,7 @@ use lib.IntN.{ℤ}
 use Rattle.rules.specs.Codes.{number}
 use Rattle.rules.specs.State.{Cell}
 use Rattle.rules.specs.Setup.{got, setup, Setup}
-use Rattle.rules.specs.Events.{Event}
+use Rattle.rules.specs.Events.{Event, AllWords}
 use Rattle.rules.specs.View.{View, running}
 use Rattle.rules.specs.Answers.{readCell}
 use Rattle.rules.specs.Kernel.{fresh, event, cell}
@@ -48,6 +48,11 @@ module _ {b m : List ℕ} {v : View} (H : Holds b m v) where
     step-says = S .answers (H .accepted) ∙ ap (λ (w : View). told (event w e .answer)) (H .view)
 
 -- ---- a chain
+
+-- its words have 32 bits
+pub chain-words : (b m : List ℕ) (l : List Link) → Chain b m l → AllWords (map (λ k. k .event) l)
+chain-words b m [] C = tt
+chain-words b m (k ∷ l) C = (C .0 .words, chain-words (k .words) (k .marks) l (C .1))
 
 pub chain-holds : {b m : List ℕ} {v : View} (l : List Link) → Holds b m v → Chain b m l → Holds (lastWords b l) (lastMarks m l) (states v (map (λ k. k .event) l))
 unfolding states

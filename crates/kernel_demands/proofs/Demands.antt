@@ -7,20 +7,21 @@ use Prim.Native.Nat.{ℕ, _≤_}
 use native.Mathlib.Omega.{arith}
 use lib.Dec.{eqb, lit≤}
 use lib.IntN.{ℤ, pos, negsuc}
-use Rattle.rules.specs.Ids.{once}
+use lib.ListN.{length}
+use Rattle.rules.specs.Ids.{of, In, once}
 use Rattle.rules.specs.Codes.{H-STATE, E-RLWAI, number}
 use Rattle.rules.specs.State.{Body, task}
 use Rattle.rules.specs.Setup.{got, setup, Setup}
 use Rattle.rules.specs.Events.{Event, tick, call, nat, AllWords}
-use Rattle.rules.specs.View.{View}
+use Rattle.rules.specs.View.{View, running}
 use Rattle.rules.specs.Answers.{Answer}
 use Rattle.rules.specs.Kernel.{Outcome, next, served, event}
-use Rattle.rules.specs.Plain.{Plain, plainFresh, plainNext, plainAnswer}
-use Rattle.rules.specs.Blocks.{isFree, Happened, is, ok, taken, returned, granted, gaveBack, AllAccounted}
+use Rattle.rules.specs.Plain.{Plain, viewOf, plainFresh, plainNext, plainAnswer}
+use Rattle.rules.specs.Blocks.{isFree, Happened, granted, gaveBack, AllAccounted}
 use Rattle.rules.specs.Demand3.{Agree, Alike, happened, Demand3}
 use Rattle.rules.specs.Broken.{isFresh, Unless, StaysBroken}
 use Rattle.rules.proofs.Events.{event-served, event-next}
-use Rattle.rules.proofs.Blocks.{Balance, event-balance}
+use Rattle.rules.proofs.Blocks.{event-balance}
 use Rattle.rules.proofs.Demand3.{demand3}
 use Rattle.rules.proofs.Broken.{stays-broken}
 use Rattle.rules.proofs.Codes.{own-number}
@@ -30,8 +31,8 @@ use Rattle.kernel_start.specs.Starting.{Starts}
 use Rattle.kernel_start.specs.declared.Started.{Started}
 use Rattle.kernel_start.proofs.Fresh.{Holds}
 use Rattle.kernel_events.specs.Steps.{Reply, told, unsound, Step, Link, Chain}
-use Rattle.kernel_demands.specs.Demands.{Same, seen, Demand3OnCode, OutNotGranted, BlocksOnce, stateIn, StaysBrokenOnCode, BrokenOnCode, OnlyRelWaiOnCode}
-use Rattle.kernel_demands.proofs.Chains.{start-holds, cell-is, step-holds, step-says}
+use Rattle.kernel_demands.specs.Demands.{Same, seen, Demand3OnCode, Balanced, OutNotGranted, BlocksOnce, stateIn, StaysBrokenOnCode, BrokenOnCode, OnlyRelWaiOnCode}
+use Rattle.kernel_demands.proofs.Chains.{start-holds, chain-words, runs-is, cell-is, step-holds, step-says}
 
 -- ---- demand 3
 
@@ -43,10 +44,16 @@ now-alike (e ∷ l) D = D .0
 same-body : {b m : List ℕ} {v : View} {s : Plain} → Holds b m v → Agree v s → viewShown b m .body ≡ s .body
 same-body H A = ap (λ (w : View). w .body) (H .view) ∙ A .body
 
+-- states that agree are one view
+same-view : {v : View} {s : Plain} → Agree v s → v ≡ viewOf s
+unfolding viewOf
+same-view A = λ z. record { body = A .body z; lines = A .lines z }
+
 same : {past : List Happened} {b m : List ℕ} {v : View} {s : Plain} → Holds b m v → Alike past v s → Same past b m s
 same {past} {s = s} H A = record {
   accepted = H .accepted;
   agree = subst (λ (w : View). Agree w s) (sym (H .view)) (A .agree);
+  runs = λ r R. runs-is H R ∙ ap running (same-view (A .agree));
   cells = λ a. cell-is H a (A .cells a);
   blocks = subst (λ (x : Body). AllAccounted past x) (sym (same-body H (A .agree))) (A .blocks);
 }
@@ -80,8 +87,9 @@ on-code past {b} {m} {v} s (k ∷ l) H C D = (
 
 -- from every start on a setup that is accepted
 pub demand3-on-code : (s : List ℕ) (u : Setup) (i : ℕ) → setup s ≡ got u i → (r : Started) (words marks b m : List ℕ) → Starts s r words marks b m
-    → (l : List Link) → Chain b m l → AllWords (map (λ k. k .event) l) → Demand3OnCode [] b m (plainFresh u) l
-demand3-on-code s u i e r words marks b m S l C w = on-code [] (plainFresh u) l (start-holds s u i e r words marks b m S) C (demand3 s u i e (map (λ k. k .event) l) w)
+    → (l : List Link) → Chain b m l → Demand3OnCode [] b m (plainFresh u) l
+demand3-on-code s u i e r words marks b m S l C =
+    on-code [] (plainFresh u) l (start-holds s u i e r words marks b m S) C (demand3 s u i e (map (λ k. k .event) l) (chain-words b m l C))
 
 -- ---- a block is given to one at a time
 
@@ -89,22 +97,26 @@ once-most : (t : Bool) → once t ≤ 1
 once-most true = lit≤ tt
 once-most false = lit≤ tt
 
--- in the rules' balance of the block, which is out before, there is no room for a grant
-not-granted : {b m : List ℕ} → Accepted b m → (k : Link) → Step (k .event) b m (k .reply) (k .words) (k .marks) → OutNotGranted b m k
+-- the rules' account of a block, in the numbers that came back
+block-balance : {b m : List ℕ} → Accepted b m → (k : Link) → Step (k .event) b m (k .reply) (k .words) (k .marks)
+    → (p : ℕ) → In p (length (viewShown b m .body .store .pools)) → (j : ℕ) → In j (length (of (viewShown b m .body .store .pools) p [])) → Balanced b m k p j
 unfolding granted gaveBack
-not-granted {b} {m} A k S p rp j rj out back =
-    omega (arith, balance, back, ap (λ (t : Bool). once (not t)) out, once-most (not (isFree (viewShown (k .words) (k .marks) .body) p j)))
+block-balance {b} {m} A k S p rp j rj = rw (S .shows A ∙ event-next (viewShown b m) (k .event) (A .sound), given) (event-balance (viewShown b m) (A .sound) (k .event) p j rp rj)
   where
     given : k .reply ≡ told (served (viewShown b m) (k .event) .answer)
     given = S .answers A ∙ ap (λ (o : Outcome). told (o .answer)) (event-served (viewShown b m) (k .event) (A .sound))
 
-    balance : Balance (viewShown b m .body) (viewShown (k .words) (k .marks) .body) (taken (k .event) (k .reply .code) (k .reply .w1) p j) (returned (k .event) (k .reply .code) p j) p j
-    balance = rw (S .shows A ∙ event-next (viewShown b m) (k .event) (A .sound), given) (event-balance (viewShown b m) (A .sound) (k .event) p j rp rj)
+-- for one that is out there is no room in it for a grant
+not-granted : (b m : List ℕ) (k : Link) (p j : ℕ) → Balanced b m k p j → OutNotGranted b m k p j
+not-granted b m k p j B out back = omega (arith, B, back, ap (λ (t : Bool). once (not t)) out, once-most (not (isFree (viewShown (k .words) (k .marks) .body) p j)))
 
 -- from every accepted memory
 pub chain-block-once : (b m : List ℕ) → Accepted b m → (l : List Link) → Chain b m l → BlocksOnce b m l
 chain-block-once b m A [] C = tt
-chain-block-once b m A (k ∷ l) C = (not-granted A k (C .0), chain-block-once (k .words) (k .marks) (C .0 .accepted A) l (C .1))
+chain-block-once b m A (k ∷ l) C = (
+  (λ p rp j rj. let B = block-balance A k (C .0) p rp j rj in (B, not-granted b m k p j B)),
+  chain-block-once (k .words) (k .marks) (C .0 .accepted A) l (C .1),
+)
 
 -- ---- a broken wait
 
@@ -125,21 +137,23 @@ broken-on-code a {b} {m} {v} (k ∷ l) H C B = (
     shown : {b m : List ℕ} {v : View} → Holds b m v → stateIn b m a ≡ task (v .body) (nat a) .state
     shown H = ap (λ (w : View). task (w .body) (nat a) .state) (H .view)
 
--- behind a rel_wai that is answered with 0
+-- after a rel_wai that is answered with 0
 pub stays-broken-on-code : (b m : List ℕ) → Accepted b m → (k : Link) (l : List Link) → Chain b m (k ∷ l) → (x a y z : ℤ) → k .event ≡ call x (pos 6) a y z → k .reply .code ≡ pos 0
-    → AllWords (map (λ k. k .event) (k ∷ l)) → StaysBrokenOnCode a (k .words) (k .marks) l
-stays-broken-on-code b m A k l C x a y z e c w =
+    → StaysBrokenOnCode a (k .words) (k .marks) l
+stays-broken-on-code b m A k l C x a y z e c =
     broken-on-code a l (rw e at (step-holds H (C .0))) (C .1)
     (stays-broken (viewShown b m) x a y z (A .sound) (rw e at (w .0)) (rw e at (ap (λ (r : Reply). r .code) (sym (step-says H (C .0))) ∙ c)) (map (λ k. k .event) l) (w .1))
   where
+    w : AllWords (map (λ k. k .event) (k ∷ l))
+    w = chain-words b m (k ∷ l) C
+
     H : Holds b m (viewShown b m)
     H = record { accepted = A; view = refl }
 
--- behind each of them
-pub chain-broken : (b m : List ℕ) → Accepted b m → (l : List Link) → Chain b m l → AllWords (map (λ k. k .event) l) → BrokenOnCode l
-chain-broken b m A [] C w = tt
-chain-broken b m A (k ∷ l) C w =
-    (λ x a y z e c. stays-broken-on-code b m A k l C x a y z e c w, chain-broken (k .words) (k .marks) (C .0 .accepted A) l (C .1) (w .1))
+-- after each of them
+pub chain-broken : (b m : List ℕ) → Accepted b m → (l : List Link) → Chain b m l → BrokenOnCode l
+chain-broken b m A [] C = tt
+chain-broken b m A (k ∷ l) C = (λ x a y z e c. stays-broken-on-code b m A k l C x a y z e c, chain-broken (k .words) (k .marks) (C .0 .accepted A) l (C .1))
 
 -- ---- nothing else breaks a wait off
 

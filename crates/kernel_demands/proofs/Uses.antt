@@ -1,13 +1,11 @@
 -- What `run` promises, and what a start and any mix of `call`, `tick` and `events` after it promise, is a chain from a fresh memory, so all that
 -- is demanded of chains holds of it. Assumes nothing.
 use mathlib.Core.Bool.{Bool, true, false, false≢true}
-use mathlib.Core.List.{List, [], _∷_, _++_, map}
+use mathlib.Core.List.{List, [], _∷_, _++_}
 use mathlib.Core.Path.{_≡_, refl, sym, ap, _∙_, subst}
-use Prim.Native.Nat.{ℕ, zero, suc}
-use lib.IntN.{ℤ, pos, negsuc}
-use Rattle.rules.specs.Ids.{Each}
+use Prim.Native.Nat.{ℕ}
+use lib.IntN.{ℤ}
 use Rattle.rules.specs.Setup.{Read, got, refused, Setup, setup}
-use Rattle.rules.specs.Events.{Event, Word, Words, AllWords, eventOf, eventsOf}
 use Rattle.memory_picture.specs.Picture.{Accepted}
 use Rattle.kernel_start.specs.Starting.{Starts, StartsAs}
 use Rattle.kernel_start.specs.declared.Started.{Started}
@@ -18,27 +16,20 @@ use Rattle.kernel_batches.specs.declared.Batch.the-variants as Batch
 use Rattle.kernel_batches.specs.declared.Ran.{Ran}
 use Rattle.kernel_batches.specs.declared.Ran.the-variants as Ran
 use Rattle.kernel_batches.specs.Batches.{Lent, lent, fitted, RanThrough, BatchedAs, Batched, RunsAs, RunsFrom}
-use Rattle.kernel_demands.specs.Uses.{Demanded, RunDemanded, Turn, one, many, Mix, TurnWords, batchLinks, mixLinks, MixDemanded}
+use Rattle.kernel_demands.specs.Uses.{Kept, Demanded, RunDemanded, Turn, one, many, Mix, batchLinks, mixLinks, MixDemanded}
 use Rattle.kernel_demands.proofs.Chains.{start-holds}
 use Rattle.kernel_demands.proofs.Demands.{demand3-on-code, chain-broken, chain-only-rel-wai, chain-block-once}
 
--- ---- a chain from a fresh start
+-- ---- a chain
 
--- the events of a chain
-abbrev events : List Link → List Event
-events l = map (λ k. k .event) l
+chain-kept : (b m : List ℕ) → Accepted b m → (l : List Link) → Chain b m l → Kept b m l
+chain-kept b m A l C = record { broken = chain-broken b m A l C; only = chain-only-rel-wai b m A l C; blocks = chain-block-once b m A l C }
 
-all-demanded : (s : List ℕ) (u : Setup) (i : ℕ) → setup s ≡ got u i → (words marks b m : List ℕ) → Starts s Fresh words marks b m
-    → (l : List Link) → Chain b m l → AllWords (events l) → Demanded u b m l
-all-demanded s u i e words marks b m S l C w = record {
-  plain = demand3-on-code s u i e Fresh words marks b m S l C w;
-  broken = chain-broken b m A l C w;
-  only = chain-only-rel-wai b m A l C;
-  blocks = chain-block-once b m A l C;
+chain-demanded : (s : List ℕ) (u : Setup) (i : ℕ) → setup s ≡ got u i → (words marks b m : List ℕ) → Starts s Fresh words marks b m → (l : List Link) → Chain b m l → Demanded u b m l
+chain-demanded s u i e words marks b m S l C = record {
+  plain = demand3-on-code s u i e Fresh words marks b m S l C;
+  kept = chain-kept b m (start-holds s u i e Fresh words marks b m S .accepted) l C;
 }
-  where
-    A : Accepted b m
-    A = start-holds s u i e Fresh words marks b m S .accepted
 
 -- a start that was not refused has read a setup
 start-read : (s words marks b m : List ℕ) → Starts s Fresh words marks b m → (u : Setup) × (i : ℕ) × (setup s ≡ got u i)
@@ -53,32 +44,11 @@ start-read s words marks b m S = go (setup s) refl S
     go (got u i) e h = (u, i, e)
     go (refused f p) e h = absurd (false≢true (sym (ap isFresh (h .0))))
 
--- ---- words of 32 bits
-
-word-event : (k n a b c : ℤ) → Word k → Word n → Word a → Word b → Word c → Words (eventOf k n a b c)
-word-event (pos zero) n a b c hk hn ha hb hc = (hk, hn, ha, hb, hc)
-word-event (pos (suc zero)) n a b c hk hn ha hb hc = (hk, hn, ha, hb, hc)
-word-event (pos (suc (suc zero))) n a b c hk hn ha hb hc = tt
-word-event (pos (suc (suc (suc k)))) n a b c hk hn ha hb hc = (hk, hn, ha, hb, hc)
-word-event (negsuc k) n a b c hk hn ha hb hc = (hk, hn, ha, hb, hc)
-
-event-words : (given : List ℤ) → Each Word given → AllWords (eventsOf given)
-event-words [] w = tt
-event-words (k ∷ []) w = tt
-event-words (k ∷ n ∷ []) w = tt
-event-words (k ∷ n ∷ a ∷ []) w = tt
-event-words (k ∷ n ∷ a ∷ b ∷ []) w = tt
-event-words (k ∷ n ∷ a ∷ b ∷ c ∷ l) w =
-    (word-event k n a b c (w .0) (w .1 .0) (w .1 .1 .0) (w .1 .1 .1 .0) (w .1 .1 .1 .1 .0), event-words l (w .1 .1 .1 .1 .1))
-
-ran-words : (given : List ℤ) (old new : Lent) (R : RanThrough given old new) → Each Word given → AllWords (events (R .links))
-ran-words given old new R w = subst AllWords (sym (R .events)) (event-words given w)
-
 -- ---- `run`
 
-pub run-demanded : (s : List ℕ) (given : List ℤ) (old new : Lent) → Each Word given → RunsFrom s given Ran.Done old new → RunDemanded s given old new
+pub run-demanded : (s : List ℕ) (given : List ℤ) (old new : Lent) → RunsFrom s given Ran.Done old new → RunDemanded s given old new
 unfolding RunsFrom
-run-demanded s given old new w R = go (fitted given old) (setup s) refl R
+run-demanded s given old new R = go (fitted given old) (setup s) refl R
   where
     isDone : Ran → Bool
     isDone Ran.Done = true
@@ -99,7 +69,7 @@ run-demanded s given old new w R = go (fitted given old) (setup s) refl R
           marks = F .marks;
           starts = F .starts;
           ran = F .ran;
-          demanded = all-demanded s u i e (old .words) (old .marks) (F .words) (F .marks) (F .starts) (F .ran .links) (F .ran .chain) (ran-words given _ new (F .ran) w);
+          demanded = chain-demanded s u i e (old .words) (old .marks) (F .words) (F .marks) (F .starts) (F .ran .links) (F .ran .chain);
         }
     go Batch.Done (refused f p) e h = not-done (h .0) refl
     go Batch.Ragged r e h = not-done (h .0) refl
@@ -111,10 +81,6 @@ run-demanded s given old new w R = go (fitted given old) (setup s) refl R
 chain-append : (b m : List ℕ) (l k : List Link) → Chain b m l → Chain (lastWords b l) (lastMarks m l) k → Chain b m (l ++ k)
 chain-append b m [] k C D = D
 chain-append b m (x ∷ l) k C D = (C .0, chain-append (x .words) (x .marks) l k (C .1) D)
-
-words-append : (l k : List Link) → AllWords (events l) → AllWords (events k) → AllWords (events (l ++ k))
-words-append [] k v w = w
-words-append (x ∷ l) k v w = (v .0, words-append l k (v .1) w)
 
 -- a batch ran in its links, to the memory that it left
 module _ (given : List ℤ) (old new : Lent) where
@@ -128,13 +94,7 @@ module _ (given : List ℤ) (old new : Lent) where
   batch-chain Batch.FewCodes R = (tt, ap (λ (x : Lent). x .words) R, ap (λ (x : Lent). x .marks) R)
   batch-chain Batch.FewWords R = (tt, ap (λ (x : Lent). x .words) R, ap (λ (x : Lent). x .marks) R)
 
-  batch-words : (q : Batch) (R : BatchedAs q given old new) → Each Word given → AllWords (events (links q R))
-  batch-words Batch.Done R w = ran-words given old new R w
-  batch-words Batch.Ragged R w = tt
-  batch-words Batch.FewCodes R w = tt
-  batch-words Batch.FewWords R w = tt
-
-mix-chain : (b m : List ℕ) (t : List Turn) (M : Mix b m t) → Chain b m (mixLinks b m t M)
+pub mix-chain : (b m : List ℕ) (t : List Turn) (M : Mix b m t) → Chain b m (mixLinks b m t M)
 unfolding mixLinks Batched
 mix-chain b m [] M = tt
 mix-chain b m (one e r b′ m′ ∷ t) M = (M .0, mix-chain b′ m′ t (M .1))
@@ -146,21 +106,12 @@ mix-chain b m (many given q codes answers new ∷ t) M =
     (subst (λ (y : List ℕ). Chain (lastWords b (links given old new (fitted given old) (M .0 .1))) y rest) (B .2)
     (subst (λ (x : List ℕ). Chain x (new .marks) rest) (B .1) (mix-chain (new .words) (new .marks) t (M .1))))
 
-mix-words : (b m : List ℕ) (t : List Turn) (M : Mix b m t) → TurnWords t → AllWords (events (mixLinks b m t M))
-unfolding mixLinks Batched
-mix-words b m [] M w = tt
-mix-words b m (one e r b′ m′ ∷ t) M w = (w .0, mix-words b′ m′ t (M .1) (w .1))
-mix-words b m (many given q codes answers new ∷ t) M w =
-    let old : Lent = lent b m codes answers in
-    words-append (links given old new (fitted given old) (M .0 .1)) (mixLinks (new .words) (new .marks) t (M .1)) (batch-words given old new (fitted given old) (M .0 .1) (w .0))
-    (mix-words (new .words) (new .marks) t (M .1) (w .1))
+-- from any accepted memory
+pub mix-kept : (b m : List ℕ) → Accepted b m → (t : List Turn) (M : Mix b m t) → Kept b m (mixLinks b m t M)
+mix-kept b m A t M = chain-kept b m A (mixLinks b m t M) (mix-chain b m t M)
 
-pub mix-demanded : (s words marks b m : List ℕ) → Starts s Fresh words marks b m → (t : List Turn) (M : Mix b m t) → TurnWords t → MixDemanded s b m t M
-mix-demanded s words marks b m S t M w =
+-- after a start
+pub mix-demanded : (s words marks b m : List ℕ) → Starts s Fresh words marks b m → (t : List Turn) (M : Mix b m t) → MixDemanded s b m t M
+mix-demanded s words marks b m S t M =
     let r = start-read s words marks b m S in
-    record {
-      read = r .0;
-      end = r .1;
-      accepted = r .2;
-      demanded = all-demanded s (r .0) (r .1) (r .2) words marks b m S (mixLinks b m t M) (mix-chain b m t M) (mix-words b m t M w);
-    }
+    record { read = r .0; end = r .1; accepted = r .2; demanded = chain-demanded s (r .0) (r .1) (r .2) words marks b m S (mixLinks b m t M) (mix-chain b m t M) }

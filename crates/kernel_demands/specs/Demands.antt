@@ -1,17 +1,18 @@
 -- What the customer demands of runs, said of the code: of every chain of steps.
-use mathlib.Core.Bool.{false}
+use mathlib.Core.Bool.{false, not}
 use mathlib.Core.List.{List, [], _∷_, map}
 use mathlib.Core.Logic.{_≢_}
 use mathlib.Core.Path.{_≡_}
-use Prim.Native.Nat.{ℕ, _/_, _%_, _^_}
+use Prim.Native.Nat.{ℕ, _+_, _/_, _%_, _^_}
 use lib.IntN.{ℤ, pos}
 use lib.ListN.{length}
-use Rattle.rules.specs.Ids.{of, In}
+use Rattle.rules.specs.Ids.{of, In, once}
 use Rattle.rules.specs.Codes.{number, H-STATE, E-RLWAI}
 use Rattle.rules.specs.State.{State, Cell, task}
 use Rattle.rules.specs.Events.{call, nat}
 use Rattle.rules.specs.Answers.{readCell}
-use Rattle.rules.specs.Plain.{Plain, plainNext, plainAnswer}
+use Rattle.rules.specs.View.{running}
+use Rattle.rules.specs.Plain.{Plain, viewOf, plainNext, plainAnswer}
 use Rattle.rules.specs.Blocks.{isFree, Happened, granted, gaveBack, AllAccounted}
 use Rattle.rules.specs.Demand3.{Agree}
 use Rattle.rules.specs.Broken.{broken, isFresh, Unless, OnlyRelWai}
@@ -31,11 +32,12 @@ CellIs b m a c = (code : ℤ) (word : ℕ) → Reads b m a code word → (code �
 
 -- ---- demand 3
 
--- what holds before the first event and after each: the memory shows a view that agrees with the plain state, each task's cell reads as the
--- plain one's, each block is accounted for
+-- what holds before the first event and after each: the memory shows a view that agrees with the plain state, `running` names the plain
+-- kernel's task, each task's cell reads as the plain one's, each block is accounted for
 pub record Same (past : List Happened) (b m : List ℕ) (s : Plain) : Type 0 where
   pub accepted : Accepted b m
   pub agree : Agree (viewShown b m) s
+  pub runs : (r : ℕ) → Runs b m r → r ≡ running (viewOf s)
   pub cells : (a : ℤ) → CellIs b m a (readCell (s .body) a)
   pub blocks : AllAccounted past (viewShown b m .body)
 
@@ -52,16 +54,21 @@ Demand3OnCode past b m s (k ∷ l) =
 
 -- ---- a block is given to one at a time
 
--- a block that the memory shows as out is not granted at this link, unless the same event returns it
-abbrev pub OutNotGranted : List ℕ → List ℕ → Link → Type 0
-OutNotGranted b m k =
-    (p : ℕ) → In p (length (viewShown b m .body .store .pools)) → (j : ℕ) → In j (length (of (viewShown b m .body .store .pools) p []))
-    → isFree (viewShown b m .body) p j ≡ false → gaveBack (seen b m k) p j ≡ 0 → granted (seen b m k) p j ≡ 0
+-- block j of pool p at this link: out before it and granted at it, counted, is out after it and returned at it
+abbrev pub Balanced : List ℕ → List ℕ → Link → ℕ → ℕ → Type 0
+Balanced b m k p j =
+    once (not (isFree (viewShown b m .body) p j)) + granted (seen b m k) p j ≡ once (not (isFree (viewShown (k .words) (k .marks) .body) p j)) + gaveBack (seen b m k) p j
 
--- along a chain
+-- so one that is out is not granted, unless the same event returns it
+abbrev pub OutNotGranted : List ℕ → List ℕ → Link → ℕ → ℕ → Type 0
+OutNotGranted b m k p j = isFree (viewShown b m .body) p j ≡ false → gaveBack (seen b m k) p j ≡ 0 → granted (seen b m k) p j ≡ 0
+
+-- every block that the memory shows, along a chain
 abbrev pub BlocksOnce : List ℕ → List ℕ → List Link → Type 0
 BlocksOnce b m [] = Unit {0}
-BlocksOnce b m (k ∷ l) = OutNotGranted b m k × BlocksOnce (k .words) (k .marks) l
+BlocksOnce b m (k ∷ l) =
+    ((p : ℕ) → In p (length (viewShown b m .body .store .pools)) → (j : ℕ) → In j (length (of (viewShown b m .body .store .pools) p [])) → Balanced b m k p j × OutNotGranted b m k p j)
+    × BlocksOnce (k .words) (k .marks) l
 
 -- ---- a broken wait
 
@@ -75,12 +82,13 @@ StaysBrokenOnCode a b m [] = CellIs b m a broken
 StaysBrokenOnCode a b m (k ∷ l) =
     CellIs b m a broken × Unless (isFresh (stateIn b m a) (stateIn (k .words) (k .marks) a)) (StaysBrokenOnCode a (k .words) (k .marks) l)
 
--- behind every rel_wai of a chain that is answered with 0
+-- after every rel_wai of a chain that is answered with 0
 abbrev pub BrokenOnCode : List Link → Type 0
 BrokenOnCode [] = Unit {0}
 BrokenOnCode (k ∷ l) = ((x a y z : ℤ) → k .event ≡ call x (pos 6) a y z → k .reply .code ≡ pos 0 → StaysBrokenOnCode a (k .words) (k .marks) l) × BrokenOnCode l
 
--- at no link E_RLWAI is answered, and a cell that is E_RLWAI after a link was so before, or the link is an accepted rel_wai that names the task
+-- at no link E_RLWAI is answered, and a cell that is E_RLWAI after a link was so before and the task was neither released nor started, or the
+-- link is an accepted rel_wai that names the task
 abbrev pub OnlyRelWaiOnCode : List ℕ → List ℕ → List Link → Type 0
 OnlyRelWaiOnCode b m [] = Unit {0}
 OnlyRelWaiOnCode b m (k ∷ l) =

@@ -4,9 +4,8 @@ use mathlib.Core.List.{List, [], _∷_, _++_}
 use mathlib.Core.Path.{_≡_}
 use Prim.Native.Nat.{ℕ}
 use lib.IntN.{ℤ}
-use Rattle.rules.specs.Ids.{Each}
 use Rattle.rules.specs.Setup.{got, Setup, setup}
-use Rattle.rules.specs.Events.{Event, Word, Words}
+use Rattle.rules.specs.Events.{Event}
 use Rattle.rules.specs.Plain.{plainFresh}
 use Rattle.kernel_start.specs.Starting.{Starts}
 use Rattle.kernel_start.specs.declared.Started.the-variants.{Fresh}
@@ -16,13 +15,18 @@ use Rattle.kernel_batches.specs.declared.Batch.the-variants as Batch
 use Rattle.kernel_batches.specs.Batches.{Lent, lent, RanThrough, fitted, BatchedAs, Batched}
 use Rattle.kernel_demands.specs.Demands.{Demand3OnCode, BrokenOnCode, OnlyRelWaiOnCode, BlocksOnce}
 
--- ---- what is demanded of a chain from a fresh start
+-- ---- what is demanded of a chain
 
-pub record Demanded (u : Setup) (b m : List ℕ) (l : List Link) : Type 0 where
-  pub plain : Demand3OnCode [] b m (plainFresh u) l
+-- from any accepted memory: a broken wait stays broken, only rel_wai breaks one off, a block is given to one at a time
+pub record Kept (b m : List ℕ) (l : List Link) : Type 0 where
   pub broken : BrokenOnCode l
   pub only : OnlyRelWaiOnCode b m l
   pub blocks : BlocksOnce b m l
+
+-- from the memory that a start on setup u left: it is the plain kernel's too, link by link
+pub record Demanded (u : Setup) (b m : List ℕ) (l : List Link) : Type 0 where
+  pub plain : Demand3OnCode [] b m (plainFresh u) l
+  pub kept : Kept b m l
 
 -- ---- `run`
 
@@ -40,8 +44,8 @@ pub record RunDemanded (s : List ℕ) (given : List ℤ) (old new : Lent) : Type
 
 -- ---- `call`, `tick` and `events` in any order
 
--- a call or a tick: the event, what came back, and the memory that it left; or `events`: the words given, what was said, the places lent for codes
--- and answers, and all that it left
+-- a call or a tick: the event, what came back, and the memory that it left; or `events`: the words given, what was said, what was lent for codes and
+-- answers, and all that it left
 pub data Turn : Type 0 where
   one : Event → Reply → List ℕ → List ℕ → Turn
   many : List ℤ → Batch → List ℤ → List ℕ → Lent → Turn
@@ -51,12 +55,6 @@ abbrev pub Mix : List ℕ → List ℕ → List Turn → Type 0
 Mix b m [] = Unit {0}
 Mix b m (one e r b′ m′ ∷ t) = Step e b m r b′ m′ × Mix b′ m′ t
 Mix b m (many given q codes answers new ∷ t) = Batched given q (lent b m codes answers) new × Mix (new .words) (new .marks) t
-
--- the words are those of 32 bits
-abbrev pub TurnWords : List Turn → Type 0
-TurnWords [] = Unit {0}
-TurnWords (one e r b m ∷ t) = Words e × TurnWords t
-TurnWords (many given q codes answers new ∷ t) = Each Word given × TurnWords t
 
 -- the links of a batch: those that it promises, none if it did not run
 abbrev pub batchLinks : (q : Batch) (given : List ℤ) (old new : Lent) → BatchedAs q given old new → List Link

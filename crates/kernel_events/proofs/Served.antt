@@ -62,6 +62,7 @@ module _ (e : Event) (b m b′ m′ : List ℕ) (A : Accepted b m) (w : Words e)
       let L = does-law b m e D A w in
       let runs : r ≡ running (next v e) = g (L .0) ∙ ap running (L .1) in
       record {
+        words = w;
         answers = λ _. rw (event-served v e (A .sound), event-told v e, released-by-acts v e (A .sound), ← runs) (ap (λ (o : Outcome). replied o r) (D .says));
         accepted = λ _. L .0;
         shows = λ _. L .1 ∙ sym (ap (λ (o : _). o .next) (event-served v e (A .sound)) ∙ served-next v e);
@@ -70,8 +71,8 @@ module _ (e : Event) (b m b′ m′ : List ℕ) (A : Accepted b m) (w : Words e)
       }
 
 -- on a damaged one
-pub unsound-step : (e : Event) (b m : List ℕ) (r : Reply) → (Accepted b m → ⊥) → r ≡ unsound → Step e b m r b m
-unsound-step e b m r n g = record { answers = λ A. absurd (n A); accepted = λ A. absurd (n A); shows = λ A. absurd (n A); refuses = λ _. g; kept = λ _. (refl, refl) }
+pub unsound-step : (e : Event) (b m : List ℕ) (r : Reply) → Words e → (Accepted b m → ⊥) → r ≡ unsound → Step e b m r b m
+unsound-step e b m r w n g = record { words = w; answers = λ A. absurd (n A); accepted = λ A. absurd (n A); shows = λ A. absurd (n A); refuses = λ _. g; kept = λ _. (refl, refl) }
 
 -- ---- calls
 

@@ -5,7 +5,7 @@ use mathlib.Core.Path.{_≡_}
 use Prim.Native.Nat.{ℕ}
 use lib.IntN.{ℤ}
 use Rattle.rules.specs.Codes.{number, negative, H-STATE}
-use Rattle.rules.specs.Events.{Event}
+use Rattle.rules.specs.Events.{Event, Words}
 use Rattle.rules.specs.Answers.{Answer}
 use Rattle.rules.specs.Kernel.{event}
 use Rattle.memory_picture.specs.Picture.{viewShown, Accepted}
@@ -29,9 +29,11 @@ told a = reply (number (a .code)) (a .w1) (a .w2) (a .runs) (a .released)
 abbrev pub unsound : Reply
 unsound = reply (number H-STATE) 0 0 0 0
 
--- A sound state: the rules' answer, and a memory that shows the rules' next state and is accepted again. A damaged one: H_STATE, zeros, and the
--- memory as it was. A negative code leaves the memory as it was, whatever it holds.
+-- The event's words have 32 bits, as the functions' types say. A sound state: the rules' answer, and a memory that shows the rules' next state
+-- and is accepted again. A damaged one: H_STATE, zeros, and the memory as it was. A negative code leaves the memory as it was, whatever it
+-- holds.
 pub record Step (e : Event) (b m : List ℕ) (r : Reply) (b′ m′ : List ℕ) : Type 0 where
+  pub words : Words e
   pub answers : Accepted b m → r ≡ told (event (viewShown b m) e .answer)
   pub accepted : Accepted b m → Accepted b′ m′
   pub shows : Accepted b m → viewShown b′ m′ ≡ event (viewShown b m) e .next

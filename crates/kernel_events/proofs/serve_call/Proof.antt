@@ -20,7 +20,7 @@ damaged-requires c κs = search needs
 returns : tie.Need-returns
 returns c =
     let first = c .before in
-    λ K. unsound-step _ _ _ _ (not-sound K (not-true _ (first .if1 .taken))) (c .damaged .ensures)
+    λ K. unsound-step _ _ _ _ (words-fit (first .before)) (not-sound K (not-true _ (first .if1 .taken))) (c .damaged .ensures)
 
 is-above-requires : tie.Need-is-above-requires
 is-above-requires c κs = search needs

@@ -11,7 +11,7 @@ damaged-requires c κs = search needs
 returns : tie.Need-returns
 returns c =
     let first = c .before in
-    λ K. unsound-step _ _ _ _ (not-sound K (not-true _ (first .if1 .taken))) (c .damaged .ensures)
+    λ K. unsound-step _ _ _ _ tt (not-sound K (not-true _ (first .if1 .taken))) (c .damaged .ensures)
 
 tick-requires : tie.Need-tick-requires
 tick-requires c κs = search needs
