@@ -1,5 +1,6 @@
 // The calls on flags: what is left of each once the common refusals are out of the way (crate `call_judging`). `i` is the flag that the call
-// names, `me` the caller. The contracts speak of an accepted memory (`DoesOnWords`).
+// names, `me` the caller. The contracts speak of an accepted memory, where what is named is there
+// (`DoesOnWords`).
 use call_objects::first_waiter;
 use call_words::Outcome;
 use call_words::codes::H_POLL;

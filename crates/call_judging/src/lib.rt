@@ -179,7 +179,7 @@ pub fn on_time(words: &[u32; STATE_WORDS], handler: bool, me: u32, a: i32) -> i3
     common(words, TASK_ONLY, UNNAMED, handler, me, 0)
 }
 
-// Object i of a kind.
+// Object i of a kind, given by the kind's number.
 pub fn on_object(
     words: &[u32; STATE_WORDS],
     kind: u32,

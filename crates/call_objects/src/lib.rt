@@ -1,5 +1,6 @@
 // The calls on semaphores, mailboxes and pools: what is left of each once the common refusals are out of the way (crate `call_judging`).
-// `i` is the object that the call names, `me` the caller. The contracts speak of an accepted memory (`DoesOnWords`).
+// `i` is the object that the call names, `me` the caller. The contracts speak of an accepted memory, where what is named is there
+// (`DoesOnWords`).
 pub mod mailboxes;
 pub mod pools;
 pub mod semaphores;

@@ -1,5 +1,6 @@
 // The calls on tasks and time: what is left of each once the common refusals are out of the way (crate `call_judging`). `i` is the task
-// that the call names, `me` the caller. The contracts speak of an accepted memory (`DoesOnWords`).
+// that the call names, `me` the caller. The contracts speak of an accepted memory, where what is named is there
+// (`DoesOnWords`).
 pub mod reading;
 
 use crate::reading::is_sleeping;

@@ -1,4 +1,4 @@
-// The queues: rings of tasks and of messages, over the crate `rings`.
+// The queues: rings of tasks and of messages, over the crate `memory_rings`.
 use memory_columns::LINKS;
 use memory_columns::LINKS_END;
 use memory_columns::MAIL_ANCHORS;

@@ -63,6 +63,6 @@ unfoldable pub rows : List ℤ → List ℕ → ℕ → ℕ → List (List ℤ)
 rows codes words zero i = []
 rows codes words (suc n) i = rowAt codes words i ∷ rows codes words n (suc i)
 
--- n, if no run has more events than that and the answers of n are lent
+-- n, if a run may have so many events (3,000 at most) and the answers of n are lent; else 0
 unfoldable pub lentCount : ℕ → ℕ → ℕ → ℕ
 lentCount n codes words = cond (leb n 3000 && (leb n codes && leb (4 * n) words)) n 0

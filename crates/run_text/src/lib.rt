@@ -196,7 +196,7 @@ fn lent(n: usize, codes: &[i32], answers: &[u32]) -> usize
     n
 }
 
-// The lines of a run of n events whose answers are lent, where there is place for them.
+// The lines of a run of n events, where there is room for them; of none, if the answers of n are not all lent.
 pub fn show_run(text: &mut [u8], runs: u32, n: usize, codes: &[i32], answers: &[u32]) -> Played
     ensures { λ r. ⌜ Shown (startLine runs ++ lines 1 (rows (now (codes .entry)) (now (answers .entry)) (lentCount n (length (now (codes .entry))) (length (now (answers .entry)))) 0)) r (now (text .entry)) (now (text .exit)) ⌝ }
 {
