@@ -5,8 +5,11 @@
 //   S w w ..     the words of the setup, at most 20
 //   F n          a fresh start over the setup's first n bytes
 //   W i v        word i of the state is overwritten by v; M: the mark at index i of the messages
-//   X k a b c    call k from a task; H: from a handler; N, Q: from the contexts -1 and 3
-//   P k a        call k from context 2, not among the events of E and R
+//   X k a b c    call k from a task; I: from a handler; N, Q: from the contexts -1 and 5
+//   (            the entry of a handler; ): its return
+//   H k a b c    entry, call k from the handler, return: the call's answer with the running task of the return's; a refused call
+//                must leave the state after the return as it was before the entry
+//   P x k a      call k from context x: 2, 3 and 4 are none, though in a list they are kinds; not among the events of E and R
 //   T            a tick
 //   C t          the cell of task t
 //   A v          how many words, each overwritten by v alone, make the state a damaged one
@@ -27,25 +30,36 @@ use crate::text::first_byte;
 use crate::text::nth;
 use crate::text::say;
 use crate::text::word;
+use crate::turns::ENTRY;
+use crate::turns::HANDLED;
+use crate::turns::HANDLER;
+use crate::turns::LIST_WORDS;
+use crate::turns::RETURN;
+use crate::turns::TASK;
+use crate::turns::TICK;
 use crate::turns::at_once;
-use crate::turns::counted;
-use crate::turns::event;
-use crate::turns::keep;
+use crate::turns::happen;
 use crate::turns::stray;
 use libc::STDIN_FILENO;
 use memory_columns::STATE_WORDS;
 ghost use Prim.Native.Nat.{_≤_};
 ghost use lib.ListN.{length};
 
-// The kind of an event's line, 9 of any other.
+// The kind of a line that is no event.
+const NO_EVENT: i32 = 9;
+
+// The kind of a line by its letter.
 fn kind_of(letter: u8) -> i32 {
     match letter {
-        b'X' => 0,
-        b'H' => 1,
-        b'T' => 2,
+        b'X' => TASK,
+        b'I' => HANDLER,
+        b'T' => TICK,
+        b'(' => ENTRY,
+        b')' => RETURN,
+        b'H' => HANDLED,
         b'N' => -1,
-        b'Q' => 3,
-        _ => 9,
+        b'Q' => 5,
+        _ => NO_EVENT,
     }
 }
 
@@ -84,24 +98,14 @@ fn obey(
     messages: &mut [u32; 256],
     first_words: &mut [u32; STATE_WORDS],
     first_messages: &mut [u32; 256],
-    list: &mut [i32; 320],
+    list: &mut [i32; LIST_WORDS],
     n: usize,
 ) -> usize {
     say(line);
     let letter = first_byte(line);
     let kind = kind_of(letter);
-    if kind < 9 {
-        keep(
-            list,
-            n,
-            kind,
-            nth(line, 1),
-            nth(line, 2),
-            nth(line, 3),
-            nth(line, 4),
-        );
-        event(words, messages, list, n);
-        return counted(n);
+    if kind != NO_EVENT {
+        return happen(line, kind, words, messages, list, n);
     }
     if prepared(line, letter, setup, words, messages) {
         *first_words = *words;
@@ -113,7 +117,7 @@ fn obey(
             lay(setup, line);
             say(b"\n");
         }
-        b'P' => stray(words, messages, nth(line, 1), nth(line, 2)),
+        b'P' => stray(words, messages, nth(line, 1), nth(line, 2), nth(line, 3)),
         b'C' => cell(words, messages, nth(line, 1)),
         b'A' => damages(words, messages, word(line, 1)),
         b'E' => at_once(line, false, setup, first_words, first_messages, list, n),
@@ -144,7 +148,7 @@ fn play(text: &[u8]) {
     let mut messages = [0u32; 256];
     let mut first_words = [0u32; STATE_WORDS];
     let mut first_messages = [0u32; 256];
-    let mut list = [0i32; 320];
+    let mut list = [0i32; LIST_WORDS];
     let mut n: usize = 0;
     let mut at: usize = 0;
     while at < text.len() {

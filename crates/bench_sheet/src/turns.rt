@@ -2,6 +2,7 @@
 use crate::memory::fault;
 use crate::memory::same_memory;
 use crate::text::field;
+use crate::text::nth;
 use crate::text::say;
 use crate::text::signed;
 use crate::text::upto;
@@ -10,21 +11,40 @@ use kernel_batches::Ran;
 use kernel_events::Answer;
 use memory_columns::STATE_WORDS;
 
+// The kinds of events in a list.
+pub const TASK: i32 = 0;
+
+pub const HANDLER: i32 = 1;
+
+pub const TICK: i32 = 2;
+
+pub const ENTRY: i32 = 3;
+
+pub const RETURN: i32 = 4;
+
+// The kind of a line that is three events: the entry of a handler, its call, its return.
+pub const HANDLED: i32 = 6;
+
+// The list has place for so many events.
+const EVENTS: usize = 128;
+
+pub const LIST_WORDS: usize = 5 * EVENTS;
+
+const ANSWER_WORDS: usize = 4 * EVENTS;
+
 // ---- one by one
 
-// An event of five words becomes entry n of the list, which has place for 64.
-pub fn keep(list: &mut [i32; 320], n: usize, kind: i32, number: i32, a: i32, b: i32, c: i32) {
-    if n < 64 {
-        list[5 * n] = kind;
-        list[5 * n + 1] = number;
-        list[5 * n + 2] = a;
-        list[5 * n + 3] = b;
-        list[5 * n + 4] = c;
+// An event of a kind, with the numbers of a line, becomes entry n of the list; gives how many stand there then.
+fn keep(list: &mut [i32; LIST_WORDS], n: usize, kind: i32, line: &[u8]) -> usize {
+    if EVENTS <= n {
+        return n;
     }
-}
-
-pub fn counted(n: usize) -> usize {
-    if n < 64 { n + 1 } else { n }
+    list[5 * n] = kind;
+    list[5 * n + 1] = nth(line, 1);
+    list[5 * n + 2] = nth(line, 2);
+    list[5 * n + 3] = nth(line, 3);
+    list[5 * n + 4] = nth(line, 4);
+    n + 1
 }
 
 // The answer to no event: what stands in the places for answers before anything is written there.
@@ -42,26 +62,28 @@ fn blank() -> Answer {
 fn served(
     words: &mut [u32; STATE_WORDS],
     messages: &mut [u32; 256],
-    list: &[i32; 320],
+    list: &[i32; LIST_WORDS],
     i: usize,
 ) -> Answer {
-    if 64 <= i {
+    if EVENTS <= i {
         return blank();
     }
     let at = 5 * i;
     let kind = list[at];
-    if kind == 2 {
-        return kernel_events::tick(words, messages);
+    match kind {
+        TICK => kernel_events::tick(words, messages),
+        ENTRY => kernel_events::enter(words, messages),
+        RETURN => kernel_events::leave(words, messages),
+        _ => kernel_events::call(
+            words,
+            messages,
+            kind,
+            list[at + 1],
+            list[at + 2],
+            list[at + 3],
+            list[at + 4],
+        ),
     }
-    kernel_events::call(
-        words,
-        messages,
-        kind,
-        list[at + 1],
-        list[at + 2],
-        list[at + 3],
-        list[at + 4],
-    )
 }
 
 // Says what is to be, or that it is not so.
@@ -86,24 +108,80 @@ fn tell(r: Answer, same: bool) {
     say(b"\n");
 }
 
-// Does entry n of the list.
-pub fn event(
+// What comes of a line, and how many events stand in the list then.
+struct Turn {
+    answer: Answer,
+    n: usize,
+}
+
+// An event of a kind, kept as entry n of the list and done.
+fn alone(
+    line: &[u8],
+    kind: i32,
     words: &mut [u32; STATE_WORDS],
     messages: &mut [u32; 256],
-    list: &[i32; 320],
+    list: &mut [i32; LIST_WORDS],
     n: usize,
+) -> Turn {
+    let next = keep(list, n, kind, line);
+    let r = served(words, messages, list, n);
+    Turn { answer: r, n: next }
+}
+
+// A handler's call between entry and return: the call's answer, but who runs is read at the return.
+fn handled(
+    line: &[u8],
+    words: &mut [u32; STATE_WORDS],
+    messages: &mut [u32; 256],
+    list: &mut [i32; LIST_WORDS],
+    n: usize,
+) -> Turn {
+    let entry = alone(b"", ENTRY, words, messages, list, n);
+    let call = alone(line, HANDLER, words, messages, list, entry.n);
+    let back = alone(b"", RETURN, words, messages, list, call.n);
+    let mut r = call.answer;
+    let last = back.answer;
+    r.running = last.running;
+    Turn {
+        answer: r,
+        n: back.n,
+    }
+}
+
+// Does the event of a line, or its three, and tells what came of it; gives how many events stand in the list then.
+pub fn happen(
+    line: &[u8],
+    kind: i32,
+    words: &mut [u32; STATE_WORDS],
+    messages: &mut [u32; 256],
+    list: &mut [i32; LIST_WORDS],
+    n: usize,
+) -> usize {
+    let old_words = *words;
+    let old_messages = *messages;
+    let turn = if kind == HANDLED {
+        handled(line, words, messages, list, n)
+    } else {
+        alone(line, kind, words, messages, list, n)
+    };
+    tell(
+        turn.answer,
+        same_memory(words, messages, &old_words, &old_messages),
+    );
+    turn.n
+}
+
+// A call from any context; a list has calls from tasks and handlers alone.
+pub fn stray(
+    words: &mut [u32; STATE_WORDS],
+    messages: &mut [u32; 256],
+    context: i32,
+    number: i32,
+    a: i32,
 ) {
     let old_words = *words;
     let old_messages = *messages;
-    let r = served(words, messages, list, n);
-    tell(r, same_memory(words, messages, &old_words, &old_messages));
-}
-
-// A call from context 2, which is none, though the number 2 says in a list that an event is a tick.
-pub fn stray(words: &mut [u32; STATE_WORDS], messages: &mut [u32; 256], number: i32, a: i32) {
-    let old_words = *words;
-    let old_messages = *messages;
-    let r = kernel_events::call(words, messages, 2, number, a, 0, 0);
+    let r = kernel_events::call(words, messages, context, number, a, 0, 0);
     tell(r, same_memory(words, messages, &old_words, &old_messages));
 }
 
@@ -136,8 +214,8 @@ fn ran(r: Ran) -> bool {
 }
 
 // Whether an answer was written as the one to event i.
-fn is_written(r: Answer, codes: &[i32; 64], answers: &[u32; 256], i: usize) -> bool {
-    if 64 <= i {
+fn is_written(r: Answer, codes: &[i32; EVENTS], answers: &[u32; ANSWER_WORDS], i: usize) -> bool {
+    if EVENTS <= i {
         return false;
     }
     let k = 4 * i;
@@ -152,7 +230,7 @@ fn is_written(r: Answer, codes: &[i32; 64], answers: &[u32; 256], i: usize) -> b
 fn expected(
     words: &mut [u32; STATE_WORDS],
     messages: &mut [u32; 256],
-    list: &[i32; 320],
+    list: &[i32; LIST_WORDS],
     n: usize,
     i: usize,
 ) -> Answer {
@@ -167,13 +245,13 @@ fn expected(
 fn replayed(
     words: &mut [u32; STATE_WORDS],
     messages: &mut [u32; 256],
-    list: &[i32; 320],
+    list: &[i32; LIST_WORDS],
     n: usize,
-    codes: &[i32; 64],
-    answers: &[u32; 256],
+    codes: &[i32; EVENTS],
+    answers: &[u32; ANSWER_WORDS],
 ) -> bool {
     let mut i: usize = 0;
-    while i < 64 {
+    while i < EVENTS {
         let r = expected(words, messages, list, n, i);
         if !is_written(r, codes, answers, i) {
             return false;
@@ -201,7 +279,7 @@ fn batch(
     answers: &mut [u32],
     n: usize,
 ) -> bool {
-    if 64 < n {
+    if EVENTS < n {
         return false;
     }
     let e = short(line, 1, 5 * n);
@@ -246,13 +324,13 @@ pub fn at_once(
     setup: &[u8; 80],
     words: &[u32; STATE_WORDS],
     messages: &[u32; 256],
-    list: &[i32; 320],
+    list: &[i32; LIST_WORDS],
     n: usize,
 ) {
     let mut all_words = *words;
     let mut all_messages = *messages;
-    let mut codes = [77i32; 64];
-    let mut answers = [77u32; 256];
+    let mut codes = [77i32; EVENTS];
+    let mut answers = [77u32; ANSWER_WORDS];
     let ok = batch(
         line,
         by_run,

@@ -10,19 +10,20 @@ use lib.Dec.{eqb}
 use lib.IntN.{ℤ}
 use lib.ListN.{length, getD}
 use borrow.Author.Tests.{eqb-false}
-use Rattle.rules.specs.Ids.{ids, In, times, first}
+use Rattle.rules.specs.Ids.{ids, In, times}
 use Rattle.rules.specs.Codes.{OK, negative, refuses}
-use Rattle.rules.specs.State.{Kind, semaphore, flag, mailbox, pool, Body, task, nobody, objects, waitOf, wish}
+use Rattle.rules.specs.State.{Kind, semaphore, flag, mailbox, pool, Body, task, nobody, objects, waitOf, isReady, wish}
 use Rattle.rules.specs.Places.{readyAt, waiters, mail, population, belongs, lineAt}
-use Rattle.rules.specs.Events.{Event, tick, call, Words, nat, outside, above}
+use Rattle.rules.specs.Events.{Event, tick, enter, exit, call, Words, nat, outside, above}
 use Rattle.rules.specs.Acts.{Act, rotate, release, elapse, after}
-use Rattle.rules.specs.View.{View, line, best, running}
+use Rattle.rules.specs.View.{View, line, best}
 use Rattle.rules.specs.Verdicts.{Verdict}
 use Rattle.rules.specs.Tasks.{starting, sta-tsk, ext-tsk, ter-tsk, chg-pri, rot-rdq, rel-wai, sus-tsk, rsm-tsk, take-wakeup, slp-tsk, wai-tsk, waking, wup-tsk, can-wup, get-tid, tsk-sts}
 use Rattle.rules.specs.Objects.{to-first, obj-sts, sig-sem, take-sem, met, left, serve-flag, set-flg, clr-flg, take-flg, snd-msg, take-msg, blocksOf, lowest, take-blk, rel-blk}
 use Rattle.rules.specs.Time.{get-tim, ending, endings, timeout, ticked}
+use Rattle.rules.specs.Handling.{entered, exited}
 use Rattle.rules.specs.Rows.{staTsk, extTsk, terTsk, chgPri, rotRdq, relWai, susTsk, rsmTsk, slpTsk, waiTsk, wupTsk, canWup, sigSem, waiSem, preqSem, setFlg, clrFlg, waiFlg, polFlg, sndMsg, rcvMsg, prcvMsg, getBlk, pgetBlk, relBlk, getTid, tskSts, semSts, flgSts, mbxSts, mplSts, getTim}
-use Rattle.rules.specs.Table.{table, caller, judge}
+use Rattle.rules.specs.Table.{table, caller, handles, judge}
 use Rattle.rules.specs.Sound.{Known, Sound}
 use Rattle.rules.specs.Kernel.{next}
 use Rattle.rules.proofs.Ids.{length-put, tested, kept-passes, times-head, times-tail}
@@ -30,8 +31,9 @@ use Rattle.rules.proofs.Fits.{in-range}
 use Rattle.rules.proofs.Queues.{first-belongs, nonempty-at}
 use Rattle.rules.proofs.Calls.{Steps, steps-of-judge}
 use Rattle.rules.proofs.Waits.{in-by, both-true, neither}
+use Rattle.rules.proofs.Handling.{caller-ready}
 use Rattle.rules.proofs.Judge.{_⊗_, AllRows, OnActs, on-acts, acts-check, acts-choose, acts-first, acts-count, acts-wait, acts-call}
-use Rattle.rules.proofs.Clean.{Clean, refused, given, waited, judge-clean}
+use Rattle.rules.proofs.Clean.{refused, given, waited, CleanEvent, clean-verdict, nests, judge-clean}
 use Rattle.memory_picture.specs.Picture.{viewShown, Accepted}
 use Rattle.call_words.specs.declared.Outcome.{Outcome}
 use Rattle.call_words.specs.Doing.{performs, performsMarks, Does}
@@ -60,18 +62,9 @@ module _ (v : View) (h : Sound v) where
       let k : In (suc (r .0)) (v .body .store .priorities) = (omega arith, subst (λ (n : ℕ). suc (r .0) ≤ n) (h .shape .ready) (r .1)) in
       first-ready (suc (r .0)) x m k (r .2)
 
-  -- the running task, and the caller of a call that only a task may make
-  runs-there : eqb (running v) 0 ≡ false → In (running v) (length (v .body .tasks))
-  unfolding running
-  runs-there = go (best v) refl
-    where
-      go : (l : List ℕ) → best v ≡ l → eqb (first l) 0 ≡ false → In (first l) (length (v .body .tasks))
-      go [] e z = absurd (false≢true (sym z))
-      go (x ∷ l) e z = best-ready x l e .0
-
+  -- the caller of a call that only a task may make
   caller-there : (t : Bool) → eqb (caller v t) 0 ≡ false → In (caller v t) (length (v .body .tasks))
-  caller-there true z = absurd (false≢true (sym z))
-  caller-there false z = runs-there z
+  caller-there t z = tested (λ x. isReady (x .state)) (v .body .tasks) (caller v t) nobody refl (caller-ready v t z h)
 
   rot-named : (a : ℤ) → above a (v .body .store .priorities) ≡ false → OnActs (AllNames (v .body)) (rot-rdq v a)
   unfolding rot-rdq
@@ -115,6 +108,16 @@ tick-names v = timeout-names (v .body) _ (endings (v .body)) refl (known-by _ (e
   where
     there : (i : ℕ) → times i (endings (v .body)) ≢ 0 → In i (length (v .body .tasks))
     there i z = tested (λ t. ending (waitOf (t .state))) (v .body .tasks) i nobody refl (kept-passes (λ j. ending (waitOf (task (v .body) j .state))) i (ids (length (v .body .tasks))) z)
+
+-- ---- entry and return
+
+enter-names : (v : View) → OnActs (AllNames (v .body)) (entered v)
+unfolding entered
+enter-names v = acts-check _ tt (λ e. on-acts (tt, tt))
+
+exit-names : (v : View) → OnActs (AllNames (v .body)) (exited v)
+unfolding exited
+exit-names v = acts-check _ tt (λ e. on-acts (tt, tt))
 
 -- ---- the calls
 
@@ -186,7 +189,7 @@ module _ (v : View) (h : Sound v) (x : Bool) (a p c : ℤ) where
   whom : outside a (length (v .body .tasks)) ≡ false → In (nat a) (length (v .body .tasks))
   whom e = in-by a (length (v .body .tasks)) e
 
-  all-rows : AllRows (λ n r. OnActs (AllNames (v .body)) r) v x me 1 (table v me a p c)
+  all-rows : AllRows (λ n r. OnActs (AllNames (v .body)) r) v (handles v x) me 1 (table v me a p c)
   unfolding table staTsk extTsk terTsk chgPri rotRdq relWai susTsk rsmTsk slpTsk waiTsk wupTsk canWup sigSem waiSem preqSem setFlg clrFlg waiFlg polFlg sndMsg rcvMsg prcvMsg getBlk pgetBlk relBlk getTid tskSts semSts flgSts mbxSts mplSts getTim sta-tsk starting ext-tsk ter-tsk chg-pri rel-wai sus-tsk rsm-tsk slp-tsk wai-tsk can-wup clr-flg get-tid tsk-sts obj-sts get-tim
   all-rows =
       (λ t. acts-check _ tt (λ k. on-acts (whom (t .words .0), tt)))
@@ -229,6 +232,8 @@ module _ (v : View) (h : Sound v) (x : Bool) (a p c : ℤ) where
 names-of-judge : (v : View) (e : Event) → Sound v → AllNames (v .body) (judge v e .acts)
 unfolding judge
 names-of-judge v tick h = tick-names v
+names-of-judge v enter h = elim (enter-names v) [ on-acts k ↦ k ]
+names-of-judge v exit h = elim (exit-names v) [ on-acts k ↦ k ]
 names-of-judge v (call x n a p c) h = acts-call (AllNames (v .body)) tt v a p c (λ y. all-rows v h y a p c) x n
 
 judged-acts : (b m : List ℕ) (e : Event) → Accepted b m → Words e
@@ -243,11 +248,12 @@ judged-acts b m e A w =
     v = viewShown b m
 
 -- a refusal has no acts
-clean-unacted : (b : Body) (r : Verdict) → Clean b r → refuses (r .code) ≡ true → r .acts ≡ []
+clean-unacted : (b : Body) (r : Verdict) → CleanEvent b r → refuses (r .code) ≡ true → r .acts ≡ []
 unfolding refuses
-clean-unacted b r (refused c n) e = refl
-clean-unacted b r (given x y l g) e = absurd (false≢true e)
-clean-unacted b r (waited i w) e = absurd (false≢true e)
+clean-unacted b r (clean-verdict (refused c n)) e = refl
+clean-unacted b r (clean-verdict (given x y l g)) e = absurd (false≢true e)
+clean-unacted b r (clean-verdict (waited i w)) e = absurd (false≢true e)
+clean-unacted b r (nests x) e = absurd (false≢true e)
 
 pub refused-unacted : (v : View) (e : Event) → refuses (judge v e .code) ≡ true → judge v e .acts ≡ []
 refused-unacted v e h = clean-unacted (v .body) (judge v e) (judge-clean v e) h

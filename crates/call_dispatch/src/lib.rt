@@ -1,5 +1,5 @@
-// A call by its number, on a memory that is known to be sound (`Dispatches`): what is judged of any call, then the call's own rule. `me` is the
-// caller, 0 from a handler and while nothing runs. Each arm is a row of the paper's table.
+// A call by its number, on a memory that is known to be sound (`Dispatches`): what is judged of any call, then the call's own rule. `handler` says
+// that an open handler calls, `me` is the task that calls, 0 if none does. Each arm is a row of the paper's table.
 pub mod numbers;
 
 use crate::numbers::CAN_WUP;

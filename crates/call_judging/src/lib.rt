@@ -65,7 +65,7 @@ pub fn is_above(a: i32, n: u32) -> bool
     if a < 0 { true } else { n < named(a) }
 }
 
-// E_CTX: a task-only (strict) call from a handler, task context while nothing runs.
+// E_CTX: a task-only (strict) call while no task calls; any other while neither a task nor an open handler calls.
 fn misplaced(strict: bool, handler: bool, me: u32) -> bool
     ensures { λ r. ⌜ r ≡ Table.misplaced (contextOf strict) handler me ⌝ }
 {

@@ -10,7 +10,7 @@ use lib.ListN.{length}
 use Rattle.rules.specs.Ids.{of, In}
 use Rattle.rules.specs.Codes.{Code}
 use Rattle.rules.specs.State.{Body, task, isReady}
-use Rattle.rules.specs.Acts.{Act, start, retire, rotate, regrade, wait, release, suspend, resume, wakeups, count, pattern, post, receive, mark, elapse, after}
+use Rattle.rules.specs.Acts.{Act, start, retire, rotate, regrade, wait, release, suspend, resume, wakeups, count, pattern, post, receive, mark, elapse, nest, after}
 use Rattle.rules.specs.View.{View, act, acts}
 use Rattle.rules.specs.Objects.{laid}
 use Rattle.rules.specs.Sound.{CellNumbers, Sound}
@@ -40,6 +40,7 @@ Names b (post j m) = In j (length (b .store .messages)) × (laid (of (b .store .
 Names b (receive j) = In j (length (b .store .messages))
 Names b (mark p k t) = In p (length (b .store .pools)) × In k (length (of (b .store .pools) p []))
 Names b elapse = Unit {0}
+Names b (nest h) = Unit {0}
 
 -- of each act of a list, at its time
 abbrev pub AllNames : Body → List Act → Type 0
@@ -57,7 +58,7 @@ pre-fits b (start i) p n = n
 pre-fits b (retire i) p n = n
 pre-fits b (rotate i) p n = n
 pre-fits b (regrade i k) p n = (n, p .0)
-pre-fits b (wait i w) p n = (n, p n .0)
+pre-fits b (wait i w) p n = (n, p .1 n .0)
 pre-fits b (release i c w) p n = (n, cell-kept c w p)
 pre-fits b (suspend i) p n = n
 pre-fits b (resume i) p n = n
@@ -68,6 +69,7 @@ pre-fits b (post j m) p n = (n .0, p .0, n .1)
 pre-fits b (receive j) p n = n
 pre-fits b (mark q k t) p n = n
 pre-fits b elapse p n = n
+pre-fits b (nest h) p n = n
 
 -- ---- acts performed one after the other
 

@@ -4,7 +4,7 @@ use Prim.Native.Nat.{ℕ, _≤_}
 use lib.ListN.{length}
 use Rattle.rules.specs.Ids.{In}
 use Rattle.rules.specs.State.{Kind, objects}
-use Rattle.rules.specs.View.{View}
+use Rattle.rules.specs.View.{View, running}
 
 -- there is such a task
 abbrev pub NamesTask : ℕ → View → Type 0
@@ -25,3 +25,7 @@ NamesQueue p v = p ≤ v .body .store .priorities
 -- a task has made the call
 abbrev pub HasCaller : ℕ → View → Type 0
 HasCaller me v = me ≡ 0 → ⊥
+
+-- that task runs
+abbrev pub Runs : ℕ → View → Type 0
+Runs me v = me ≡ running v

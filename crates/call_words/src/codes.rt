@@ -15,6 +15,8 @@ pub const H_POLL: i32 = -5;
 
 pub const H_MSG: i32 = -6;
 
+pub const H_NEST: i32 = -7;
+
 pub const H_STATE: i32 = -9;
 
 pub const H_ILBLK: i32 = -10;

@@ -1,6 +1,6 @@
--- Tests decide statements: how `&&`, `cond`, `every` and the tests of numbers do. Assumes nothing.
-use mathlib.Core.Bool.{Bool, true, false, cond, not, _&&_, true≢false, false≢true}
-use mathlib.Core.Logic.{_↔_, _≢_}
+-- Tests decide statements: how `&&`, `||`, `cond`, `every` and the tests of numbers do. Assumes nothing.
+use mathlib.Core.Bool.{Bool, true, false, cond, not, _&&_, _||_, true≢false, false≢true}
+use mathlib.Core.Logic.{_↔_, _⊎_, inl, inr, _≢_}
 use mathlib.Core.Path.{_≡_, refl, sym, _∙_}
 use Prim.Native.Nat.{ℕ, zero, suc, _≤_, _<_, _+_}
 use native.Mathlib.Decide.{ℕ-discrete}
@@ -31,6 +31,17 @@ decides-and {s} {t} {A} {B} d f = go s refl
     go : (r : Bool) → s ≡ r → Decides (r && t) (A × B)
     go true e = let x : A = d .0 e in ((λ q. (x, f x .0 q)), (λ y. f x .1 (y .1)))
     go false e = decides-no (λ y. true≢false (sym (d .1 (y .0)) ∙ e))
+
+pub decides-or : {s t : Bool} {A B : Type 0} → Decides s A → Decides t B → Decides (s || t) (A ⊎ B)
+decides-or {s} {t} {A} {B} d f = go s refl
+  where
+    go : (r : Bool) → s ≡ r → Decides (r || t) (A ⊎ B)
+    go true e = decides-yes (inl (d .0 e))
+    go false e = ((λ q. inr (f .0 q)), back)
+      where
+        back : A ⊎ B → t ≡ true
+        back (inl x) = absurd (true≢false (sym (d .1 x) ∙ e))
+        back (inr y) = f .1 y
 
 -- a choice on both sides by the same test
 pub decides-cond : {A : Type 0} (P : A → Type 0) (t : Bool) {s r : Bool} {a c : A} → Decides s (P a) → Decides r (P c) → Decides (cond t s r) (P (cond t a c))

@@ -1,25 +1,26 @@
 -- The tests of ranges decide the rules of numbers for the body shown: test and picture choose by the same tests of the same words. Assumes nothing.
-use mathlib.Core.Bool.{Bool, true, false, cond, _&&_, false≢true}
+use mathlib.Core.Bool.{Bool, true, false, cond, _&&_, _||_, false≢true}
 use mathlib.Core.List.{List, [], map}
 use mathlib.Core.Logic.{_⊎_, inl, inr, _≢_}
 use mathlib.Core.Option.{none, some}
 use mathlib.Core.Path.{_≡_, refl, sym, ap, subst}
 use Prim.Native.Nat.{ℕ, zero, suc, _/_, _^_, _≤_, _<_}
+use native.Mathlib.Decide.{ℕ-discrete}
 use native.Mathlib.Omega.{arith}
 use lib.Dec.{eqb, leb}
 use lib.ListN.{length}
-use borrow.Author.Tests.{eqb-true, eqb-false}
+use borrow.Author.Tests.{eqb-true, eqb-false, ne-eqb}
 use Rattle.rules.specs.Ids.{of, ids, In}
 use Rattle.rules.specs.Codes.{Code, OK, H-STATE, E-TMOUT, E-RLWAI}
-use Rattle.rules.specs.State.{Kind, semaphore, flag, mailbox, pool, Wait, on, State, dormant, Task, Store, objects, waitOf, isDormant, sleeps}
-use Rattle.rules.specs.Sound.{Sizes, LiesWell, StoreNumbers, CellNumbers, WishNumbers, WaitNumbers, SoundTask}
-use Rattle.rules.proofs.Ids.{of-ids, length-ids}
+use Rattle.rules.specs.State.{Kind, semaphore, flag, mailbox, pool, Wait, on, State, dormant, waiting, waiting-suspended, Task, Store, nobody, objects, waitOf, isDormant, isFreed, sleeps}
+use Rattle.rules.specs.Sound.{Sizes, LiesWell, StoreNumbers, CellNumbers, WishNumbers, WaitNumbers, SoundTask, HandlersFit}
+use Rattle.rules.proofs.Ids.{tested, of-ids, length-ids}
 use Rattle.memory_columns.specs.Layout as Layout
-use Rattle.memory_columns.specs.Layout.{maxPriorities, maxTasks, maxObjects, maxMessages, maxPools, maxBlocks, entry}
+use Rattle.memory_columns.specs.Layout.{maxPriorities, maxTasks, maxObjects, maxMessages, maxPools, maxBlocks, maxDepth, entry}
 use Rattle.memory_picture.specs.Perform.{codeKept}
-use Rattle.memory_picture.specs.Picture.{codeOf, waitShown, stateShown, taskShown, messageShown, bitsOf, poolShown, tasksShown, storeShown, bodyShown}
-use Rattle.check_ranges.specs.Ranges.{every, within, many, sizesOk, cellOk, wishOk, ticksOk, flagWaitOk, waitOk, waitAt, stateOk, taskOk, semaphoreOk, flagOk, poolOk, messageOk, rangesOk}
-use Rattle.check_ranges.proofs.Decisions.{Decides, decides-as, decides-no, decides-yes, decides-and, decides-cond, decides-eq, decides-ne, decides-le, decides-lt, decides-in, decides-every}
+use Rattle.memory_picture.specs.Picture.{codeOf, noWait, waitShown, stateShown, taskShown, messageShown, bitsOf, poolShown, tasksShown, storeShown, openShown, handlersShown, bodyShown}
+use Rattle.check_ranges.specs.Ranges.{every, within, many, sizesOk, cellOk, wishOk, ticksOk, flagWaitOk, waitOk, waitAt, stateOk, taskOk, semaphoreOk, flagOk, poolOk, messageOk, freedAt, interruptedOk, openOk, handlingOk, rangesOk}
+use Rattle.check_ranges.proofs.Decisions.{Decides, decides-as, decides-no, decides-yes, decides-and, decides-or, decides-cond, decides-eq, decides-ne, decides-le, decides-lt, decides-in, decides-every}
 
 -- ---- a cell
 
@@ -179,6 +180,49 @@ pool-law b i = go (eqb (m / 2 ^ k) 0)
     go true = decides-as (decides-and {B = Unit {0}} (decides-in k maxBlocks) (λ _. decides-yes tt)) (λ h. rw (length-bits k m) (h .0)) (λ h. (rw (length-bits k m) at h, tt))
     go false = decides-as (decides-and {B = ⊥} (decides-in k maxBlocks) (λ _. decides-no (λ x. x))) (λ h. absurd (h .1)) (λ h. absurd (omega (arith, h .0)))
 
+-- ---- the handlers
+
+freed-shown : (s : ℕ) (w : Wait) → isFreed (stateShown s w) ≡ (eqb s 1 || eqb s 4)
+unfolding stateShown
+freed-shown s w = elim (ℕ-discrete s 1) [
+  | yes e ↦ rw e
+  | no n ↦ elim (ℕ-discrete s 4) [ yes e ↦ rw e | no m ↦ rw (ne-eqb s 1 n, ne-eqb s 4 m) (other (eqb s 0) (eqb s 3) (eqb s 5)) ]
+]
+  where
+    other : (x y z : Bool) → isFreed (cond x dormant (cond y (waiting w) (cond z (waiting-suspended w) (waiting noWait)))) ≡ false
+    other true y z = refl
+    other false true z = refl
+    other false false true = refl
+    other false false false = refl
+
+module _ (b : List ℕ) where
+  abbrev tasks : List Task
+  tasks = map (taskShown b) (ids (tasksShown b))
+
+  freed-law : (i : ℕ) → Decides (freedAt b i) (isFreed (taskShown b i .state) ≡ true)
+  unfolding taskShown
+  freed-law i = rw (freed-shown (entry Layout.status b i)) ((λ e. e), (λ e. e))
+
+  -- at a number that no task has, nobody is read, and nobody is dormant
+  freed-exists : (i : ℕ) → isFreed (of tasks i nobody .state) ≡ true → In i (tasksShown b)
+  freed-exists i e = subst (In i) (length-ids (taskShown b) (tasksShown b)) (tested (λ t. isFreed (t .state)) tasks i nobody refl e)
+
+  interrupted-law : (i : ℕ) → Decides (interruptedOk b i) ((i ≡ 0) ⊎ (isFreed (of tasks i nobody .state) ≡ true))
+  unfolding interruptedOk
+  interrupted-law i = decides-or (decides-eq i 0) (decides-as
+      (decides-and (decides-in i (tasksShown b)) (λ _. freed-law i))
+      (λ h. rw (of-ids (taskShown b) (tasksShown b) i nobody (h .0)) (h .1))
+      (λ e. (freed-exists i e, rw (of-ids (taskShown b) (tasksShown b) i nobody (freed-exists i e)) at e)))
+
+  open-law : (n i : ℕ) → Decides (openOk b n i) (HandlersFit tasks (openShown n i))
+  unfolding openOk
+  open-law zero i = decides-yes tt
+  open-law (suc n) i = rw (ne-eqb (suc n) 0 (λ e. omega arith)) (decides-and (decides-le (suc n) maxDepth) (λ _. interrupted-law i))
+
+  handlers-law : Decides (handlingOk b) (HandlersFit tasks (handlersShown b))
+  unfolding handlersShown
+  handlers-law = open-law _ _
+
 -- ---- the sizes
 
 sizes-law : (b msgs : List ℕ) → Decides (sizesOk b) (Sizes (bodyShown b msgs) × (entry Layout.system b Layout.clockLow < 2 ^ 32) × (storeShown b msgs .clock < 2 ^ 48))
@@ -227,6 +271,7 @@ pub record Ranges (b msgs : List ℕ) : Type 0 where
   pub low : entry Layout.system b Layout.clockLow < 2 ^ 32
   pub store : StoreNumbers (storeShown b msgs)
   pub tasks : (i : ℕ) → In i (tasksShown b) → SoundTask (storeShown b msgs) (taskShown b i)
+  pub handlers : HandlersFit (map (taskShown b) (ids (tasksShown b))) (handlersShown b)
 
 pub ranges-law : (b msgs : List ℕ) → Decides (rangesOk b msgs) (Ranges b msgs)
 unfolding rangesOk storeShown
@@ -235,11 +280,13 @@ ranges-law b msgs = decides-as
     (λ _. decides-and (table-law (λ n. n ≤ 65535) (many b Layout.semaphores) (semaphoreOk b) (entry Layout.semaphore b) 0 (λ i. decides-le _ 65535))
     (λ _. decides-and (table-law (λ n. n < 2 ^ 32) (many b Layout.flags) (flagOk b) (entry Layout.flag b) 0 (λ i. decides-as (decides-le (entry Layout.flag b i) 4294967295) (λ h. omega arith) (λ h. omega arith)))
     (λ _. decides-and (table-law (λ l. In (length l) maxBlocks) (many b Layout.pools) (poolOk b) (λ p. poolShown (entry Layout.size b p) (entry Layout.free b p)) [] (pool-law b))
-    (λ _. table-law (LiesWell (many b Layout.mailboxes)) (many b Layout.messages) (messageOk b msgs) (λ j. messageShown (of msgs j 0)) none (λ j. message-law (many b Layout.mailboxes) (of msgs j 0))))))))
+    (λ _. decides-and (table-law (LiesWell (many b Layout.mailboxes)) (many b Layout.messages) (messageOk b msgs) (λ j. messageShown (of msgs j 0)) none (λ j. message-law (many b Layout.mailboxes) (of msgs j 0)))
+    (λ _. handlers-law b)))))))
     (λ h. record {
       sizes = h .0 .0;
       low = h .0 .1;
-      store = record { semaphores = h .1 .1 .0; flags = h .1 .1 .1 .0; messages = h .1 .1 .1 .1 .1; pools = h .1 .1 .1 .1 .0; clock = h .0 .2 };
+      store = record { semaphores = h .1 .1 .0; flags = h .1 .1 .1 .0; messages = h .1 .1 .1 .1 .1 .0; pools = h .1 .1 .1 .1 .0; clock = h .0 .2 };
       tasks = h .1 .0;
+      handlers = h .1 .1 .1 .1 .1 .1;
     })
-    (λ r. ((r .sizes, r .low, r .store .clock), (r .tasks, (r .store .semaphores, (r .store .flags, (r .store .pools, r .store .messages))))))
+    (λ r. ((r .sizes, r .low, r .store .clock), (r .tasks, (r .store .semaphores, (r .store .flags, (r .store .pools, (r .store .messages, r .handlers)))))))

@@ -1,15 +1,16 @@
 -- The returns of the check: a test that fails decides, a test that passes leaves the rest. Assumes nothing.
 use Prim.Native.Nat.{ℕ, _/_, _^_, _≤_, _<_}
 use mathlib.Core.Path.{_≡_, refl, sym, _∙_}
-use mathlib.Core.Bool.{Bool, true, false, not, _&&_, and-false, true≢false}
+use mathlib.Core.Bool.{Bool, true, false, not, _&&_, _||_, and-false, true≢false}
 use mathlib.Core.List.{List}
+use mathlib.Core.Logic.{_≢_}
 use native.Mathlib.Decide.{ℕ-discrete, decLe}
 use native.Mathlib.Omega.{arith}
 use lib.Dec.{eqb, leb, ltb}
 use borrow.Author.Tests.{not-true, not-false, le-leb, lt-leb, lt-ltb, le-ltb, eq-eqb, ne-eqb}
 use Rattle.memory_columns.specs.Layout as Layout
 use Rattle.memory_columns.specs.Layout.{maxTasks, maxObjects, maxMessages, maxPools, maxBlocks, entry}
-use Rattle.check_ranges.specs.Ranges.{within, many, sizesOk, cellOk, poolOk, rangesOk}
+use Rattle.check_ranges.specs.Ranges.{within, many, sizesOk, cellOk, poolOk, interruptedOk, rangesOk}
 
 pub failed : {r t : Bool} → r ≡ t → not r ≡ true → t ≡ false
 failed {r} e h = sym e ∙ not-true r h
@@ -86,3 +87,10 @@ pool-full b p {k} {m} ek em f h = elim (ℕ-discrete k maxBlocks) [
   | yes e ↦ rw (← ek, ← em, e) (sym (eq-eqb (m / 2 ^ 32) 0 (omega arith)))
   | no ne ↦ rw (← ek, ne-eqb k maxBlocks ne, le-leb 1 k (omega arith), lt-leb k maxBlocks (omega arith))
 ]
+
+-- ---- handlers
+
+-- of a task that exists, the status decides
+pub interrupted-by : (b : List ℕ) {t s : ℕ} {r : Bool} → t ≢ 0 → within t (many b Layout.tasks) ≡ true → s ≡ entry Layout.status b t → r ≡ (eqb s 1 || eqb s 4) → r ≡ interruptedOk b t
+unfolding interruptedOk
+interrupted-by b {t} ne w e h = rw (ne-eqb t 0 ne, w, ← e) h

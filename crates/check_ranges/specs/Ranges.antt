@@ -1,11 +1,11 @@
--- Numbers lie in their ranges: the tests of the counts, of each task, object and message, for any words.
-use mathlib.Core.Bool.{Bool, true, false, cond, not, _&&_}
+-- Numbers lie in their ranges: the tests of the counts, of each task, object and message, and of the open handlers, for any words.
+use mathlib.Core.Bool.{Bool, true, false, cond, not, _&&_, _||_}
 use mathlib.Core.List.{List}
 use Prim.Native.Nat.{ℕ, zero, suc, _/_, _^_}
 use lib.Dec.{eqb, leb, ltb}
 use Rattle.rules.specs.Ids.{of}
 use Rattle.memory_columns.specs.Layout as Layout
-use Rattle.memory_columns.specs.Layout.{maxPriorities, maxTasks, maxObjects, maxMessages, maxPools, maxBlocks, entry}
+use Rattle.memory_columns.specs.Layout.{maxPriorities, maxTasks, maxObjects, maxMessages, maxPools, maxBlocks, maxDepth, entry}
 
 -- the ids i, i + 1, … , n of them, all pass
 unfoldable pub every : ℕ → ℕ → (ℕ → Bool) → Bool
@@ -73,6 +73,22 @@ poolOk b i = within (entry Layout.size b i) maxBlocks && eqb (entry Layout.free 
 abbrev pub messageOk : List ℕ → List ℕ → ℕ → Bool
 messageOk b msgs j = leb (of msgs j 0) (many b Layout.mailboxes)
 
+-- READY or SUSPEND
+abbrev pub freedAt : List ℕ → ℕ → Bool
+freedAt b i = eqb (entry Layout.status b i) 1 || eqb (entry Layout.status b i) 4
+
+-- the interrupted task: 0 where nobody ran
+unfoldable pub interruptedOk : List ℕ → ℕ → Bool
+interruptedOk b i = eqb i 0 || (within i (many b Layout.tasks) && freedAt b i)
+
+-- n handlers are open, and the outermost one interrupted task i; while none is open, i says nothing
+unfoldable pub openOk : List ℕ → ℕ → ℕ → Bool
+openOk b n i = eqb n 0 || (leb n maxDepth && interruptedOk b i)
+
+abbrev pub handlingOk : List ℕ → Bool
+handlingOk b = openOk b (entry Layout.handling b Layout.depth) (entry Layout.handling b Layout.interrupted)
+
 unfoldable pub rangesOk : List ℕ → List ℕ → Bool
 rangesOk b msgs =
-    sizesOk b && (every (many b Layout.tasks) 1 (taskOk b) && (every (many b Layout.semaphores) 1 (semaphoreOk b) && (every (many b Layout.flags) 1 (flagOk b) && (every (many b Layout.pools) 1 (poolOk b) && every (many b Layout.messages) 1 (messageOk b msgs)))))
+    sizesOk b && (every (many b Layout.tasks) 1 (taskOk b) && (every (many b Layout.semaphores) 1 (semaphoreOk b) && (every (many b Layout.flags) 1 (flagOk b) && (every (many b Layout.pools) 1 (poolOk b) && (every (many b Layout.messages) 1 (messageOk b msgs)
+    && handlingOk b)))))

@@ -1,16 +1,20 @@
-// The first part of the check of a memory: numbers lie in their ranges. Each task, object and message that the counts name is looked at once.
+// The first part of the check of a memory: numbers lie in their ranges. Each task, object and message that the counts name is looked at once,
+// the interrupted task once more.
 use memory_columns::ASLEEP;
 use memory_columns::CELL_OK;
 use memory_columns::CELL_RLWAI;
 use memory_columns::CELL_TMOUT;
 use memory_columns::CLOCK_HIGH;
 use memory_columns::CLOCK_LOW;
+use memory_columns::DEPTH;
 use memory_columns::DORMANT;
 use memory_columns::FLAG;
 use memory_columns::FLAGS;
+use memory_columns::INTERRUPTED;
 use memory_columns::MAILBOX;
 use memory_columns::MAILBOXES;
 use memory_columns::MAX_BLOCKS;
+use memory_columns::MAX_DEPTH;
 use memory_columns::MAX_MESSAGES;
 use memory_columns::MAX_OBJECTS;
 use memory_columns::MAX_POOLS;
@@ -34,6 +38,7 @@ use memory_columns::at_most;
 use memory_columns::code;
 use memory_columns::flag;
 use memory_columns::free;
+use memory_columns::handling;
 use memory_columns::kind;
 use memory_columns::mode;
 use memory_columns::object;
@@ -290,6 +295,37 @@ fn messages_ok(words: &[u32; STATE_WORDS], messages: &[u32; MESSAGE_WORDS], n: u
     true
 }
 
+// Task t can be the interrupted one, 0 where nobody ran: it does not wait while the handler is open, but can be suspended.
+fn interrupted_ok(words: &[u32; STATE_WORDS], t: u32) -> bool
+    ensures { λ r. ⌜ r ≡ Ranges.interruptedOk (now (words .entry)) t ⌝ }
+{
+    if t == 0 {
+        return true;
+    }
+    if !within(t, system(words, TASKS)) {
+        return false;
+    }
+    let s = status(words, t);
+    match s {
+        READY | SUSPEND => true,
+        _ => false,
+    }
+}
+
+// The open handlers. While none is open, the interrupted task says nothing.
+fn handling_ok(words: &[u32; STATE_WORDS]) -> bool
+    ensures { λ r. ⌜ r ≡ Ranges.handlingOk (now (words .entry)) ⌝ }
+{
+    let depth = handling(words, DEPTH);
+    if depth == 0 {
+        return true;
+    }
+    if MAX_DEPTH < depth {
+        return false;
+    }
+    interrupted_ok(words, handling(words, INTERRUPTED))
+}
+
 // All ranges. The counts have been judged before a loop is run over them.
 pub fn ranges_ok(words: &[u32; STATE_WORDS], messages: &[u32; MESSAGE_WORDS]) -> bool
     ensures { λ r. ⌜ r ≡ Ranges.rangesOk (now (words .entry)) (now (messages .entry)) ⌝ }
@@ -309,9 +345,12 @@ pub fn ranges_ok(words: &[u32; STATE_WORDS], messages: &[u32; MESSAGE_WORDS]) ->
     if !pools_ok(words, at_most(system(words, POOLS), MAX_POOLS)) {
         return false;
     }
-    messages_ok(
+    if !messages_ok(
         words,
         messages,
         at_most(system(words, MESSAGES), MAX_MESSAGES),
-    )
+    ) {
+        return false;
+    }
+    handling_ok(words)
 }

@@ -101,6 +101,7 @@ module _ (b msgs : List ℕ) where
     sizes = R .sizes;
     store = R .store;
     tasks = λ i h. subst (SoundTask (storeShown b msgs)) (sym (task-is b msgs i (count i h))) (R .tasks i (count i h));
+    handlers = R .handlers;
   }
 
   sound-shown : SoundBody (bodyShown b msgs) → (i : ℕ) → In i (tasksShown b) → SoundTask (storeShown b msgs) (taskShown b i)
@@ -119,7 +120,7 @@ module _ (b msgs : List ℕ) where
 
   ranges-of : Accepted b msgs → Ranges b msgs
   unfolding viewShown bodyShown
-  ranges-of A = let S = A .sound .body in record { sizes = S .sizes; low = A .whole .low; store = S .store; tasks = sound-shown S }
+  ranges-of A = let S = A .sound .body in record { sizes = S .sizes; low = A .whole .low; store = S .store; tasks = sound-shown S; handlers = S .handlers }
 
   nobody-of : Accepted b msgs → NobodyServed
   unfolding viewShown

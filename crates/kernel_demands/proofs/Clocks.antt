@@ -14,9 +14,9 @@ use Rattle.memory_rings.proofs.Columns.{col-store, length-store}
 use Rattle.memory_columns.specs.Layout as Layout
 use Rattle.memory_columns.specs.Layout.{words, entry}
 use Rattle.memory_columns.proofs.Frame.{words-length}
-use Rattle.memory_picture.specs.Picture.{taskShown, storeShown, bodyShown, lineShown, viewShown, Accepted}
+use Rattle.memory_picture.specs.Picture.{taskShown, storeShown, handlersShown, bodyShown, lineShown, viewShown, Accepted}
 use Rattle.memory_picture.proofs.FormWords.{back-clock}
-use Rattle.check_ranges.specs.Ranges.{sizesOk, taskOk, waitOk, stateOk, semaphoreOk, flagOk, poolOk, messageOk, rangesOk}
+use Rattle.check_ranges.specs.Ranges.{sizesOk, taskOk, waitOk, stateOk, semaphoreOk, flagOk, poolOk, messageOk, openOk, interruptedOk, rangesOk}
 use Rattle.check_queues.specs.Queues.{home, taskHome, tasksQueued, mailQueued}
 use Rattle.check_state.specs.Unserved.{waitFree, unservedOk, accepts}
 use Rattle.check_state.proofs.Accepted.{accepts-law}
@@ -41,7 +41,7 @@ module _ {b m : List ℕ} (A : Accepted b m) (t : ℕ) where
   wide = words-length Layout.system b (A .whole .size) refl
 
   pub clock-shown : viewShown (clockSet t b) m ≡ record { body = at-clock t (viewShown b m .body); lines = viewShown b m .lines }
-  unfolding viewShown bodyShown storeShown taskShown lineShown tabulate
+  unfolding viewShown bodyShown storeShown taskShown handlersShown lineShown tabulate
   clock-shown = simp (col-store, counts, low-half, high-half, wide, back-clock, taskShown, entry)
 
   module _ (h : t < 2 ^ 48) where
@@ -61,7 +61,7 @@ module _ {b m : List ℕ} (A : Accepted b m) (t : ℕ) where
 
     -- no other test reads the clock
     tests : accepts (clockSet t b) m ≡ accepts b m
-    unfolding accepts rangesOk tasksQueued mailQueued taskOk stateOk waitOk poolOk taskHome home unservedOk waitFree
+    unfolding accepts rangesOk tasksQueued mailQueued taskOk stateOk waitOk poolOk openOk interruptedOk taskHome home unservedOk waitFree
     tests = simp (sizes, col-store, counts, taskOk, semaphoreOk, flagOk, poolOk, messageOk, taskHome, unservedOk)
 
     pub clock-accepted : Accepted (clockSet t b) m

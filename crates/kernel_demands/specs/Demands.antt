@@ -1,5 +1,5 @@
 -- What the customer demands of runs, said of the code: of every chain of steps.
-use mathlib.Core.Bool.{false, not}
+use mathlib.Core.Bool.{Bool, true, false, not}
 use mathlib.Core.List.{List, [], _∷_, map}
 use mathlib.Core.Logic.{_≢_}
 use mathlib.Core.Path.{_≡_}
@@ -8,10 +8,10 @@ use lib.IntN.{ℤ, pos}
 use lib.ListN.{length}
 use Rattle.rules.specs.Ids.{of, In, once}
 use Rattle.rules.specs.Codes.{number, H-STATE, E-RLWAI}
-use Rattle.rules.specs.State.{State, Cell, task}
-use Rattle.rules.specs.Events.{call, nat}
+use Rattle.rules.specs.State.{State, Cell, isOpen, task}
+use Rattle.rules.specs.Events.{enter, call, nat}
 use Rattle.rules.specs.Answers.{readCell}
-use Rattle.rules.specs.View.{running}
+use Rattle.rules.specs.View.{head, running}
 use Rattle.rules.specs.Plain.{Plain, viewOf, plainNext, plainAnswer}
 use Rattle.rules.specs.Blocks.{isFree, Happened, granted, gaveBack, AllAccounted}
 use Rattle.rules.specs.Demand3.{Agree}
@@ -95,6 +95,30 @@ OnlyRelWaiOnCode b m (k ∷ l) =
     (k .reply .code ≢ number E-RLWAI)
     × ((i : ℕ) → OnlyRelWai i (k .event) (k .reply .code) (task (viewShown b m .body) i) (task (viewShown (k .words) (k .marks) .body) i))
     × OnlyRelWaiOnCode (k .words) (k .marks) l
+
+-- ---- handlers
+
+-- a handler is open
+abbrev pub openIn : List ℕ → List ℕ → Bool
+openIn b m = isOpen (viewShown b m .body .handlers)
+
+-- one or the other, by a test
+abbrev pub Whether : Bool → Type 0 → Type 0 → Type 0
+Whether true A B = A
+Whether false A B = B
+
+-- As long as a handler is open each reply names task r as running, whatever the events are; the first that leaves none open names the head of the
+-- best queue.
+abbrev pub UntilReturn : ℕ → List Link → Type 0
+UntilReturn r [] = Unit {0}
+UntilReturn r (k ∷ l) = Whether (openIn (k .words) (k .marks)) ((k .reply .runs ≡ r) × UntilReturn r l) (k .reply .runs ≡ head (viewShown (k .words) (k .marks)))
+
+-- An entry while no handler is open is answered with 0; the task that ran before it is named by its reply, and until the return.
+abbrev pub InterruptedOnCode : List ℕ → List ℕ → List Link → Type 0
+InterruptedOnCode b m [] = Unit {0}
+InterruptedOnCode b m (k ∷ l) =
+    (k .event ≡ enter → openIn b m ≡ false → (k .reply .code ≡ pos 0) × (k .reply .runs ≡ running (viewShown b m)) × UntilReturn (running (viewShown b m)) l)
+    × InterruptedOnCode (k .words) (k .marks) l
 
 -- ---- worked cases
 

@@ -1,4 +1,4 @@
--- From the functions that a user calls to the demands: what `run` promises, and what `start` and then any mix of `call`, `tick` and `events`
+-- From the functions that a user calls to the demands: what `run` promises, and what `start` and then any mix of `call`, `tick`, `enter`, `leave` and `events`
 -- promise, is a chain of steps, of which the demands are said.
 use mathlib.Core.List.{List, [], _∷_, _++_}
 use mathlib.Core.Path.{_≡_}
@@ -13,15 +13,17 @@ use Rattle.kernel_events.specs.Steps.{Reply, Step, Link}
 use Rattle.kernel_batches.specs.declared.Batch.{Batch}
 use Rattle.kernel_batches.specs.declared.Batch.the-variants as Batch
 use Rattle.kernel_batches.specs.Batches.{Lent, lent, RanThrough, fitted, BatchedAs, Batched}
-use Rattle.kernel_demands.specs.Demands.{Demand3OnCode, BrokenOnCode, OnlyRelWaiOnCode, BlocksOnce}
+use Rattle.kernel_demands.specs.Demands.{Demand3OnCode, BrokenOnCode, OnlyRelWaiOnCode, BlocksOnce, InterruptedOnCode}
 
 -- ---- what is demanded of a chain
 
--- from any accepted memory: a broken wait stays broken, only rel_wai breaks one off, a block is given to one at a time
+-- from any accepted memory: a broken wait stays broken, only rel_wai breaks one off, a block is given to one at a time, handlers do not switch
+-- tasks halfway
 pub record Kept (b m : List ℕ) (l : List Link) : Type 0 where
   pub broken : BrokenOnCode l
   pub only : OnlyRelWaiOnCode b m l
   pub blocks : BlocksOnce b m l
+  pub interrupted : InterruptedOnCode b m l
 
 -- from the memory that a start on setup u left: it is the plain kernel's too, link by link
 pub record Demanded (u : Setup) (b m : List ℕ) (l : List Link) : Type 0 where
@@ -42,9 +44,9 @@ pub record RunDemanded (s : List ℕ) (given : List ℤ) (old new : Lent) : Type
   pub ran : RanThrough given (lent words marks (old .codes) (old .answers)) new
   pub demanded : Demanded read words marks (ran .links)
 
--- ---- `call`, `tick` and `events` in any order
+-- ---- `call`, `tick`, `enter`, `leave` and `events` in any order
 
--- a call or a tick: the event, what came back, and the memory that it left; or `events`: the words given, what was said, what was lent for codes and
+-- a call, a tick, an entry or a return: the event, what came back, and the memory that it left; or `events`: the words given, what was said, what was lent for codes and
 -- answers, and all that it left
 pub data Turn : Type 0 where
   one : Event → Reply → List ℕ → List ℕ → Turn

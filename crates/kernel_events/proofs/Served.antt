@@ -1,5 +1,5 @@
 -- An event that is done as it is judged makes a step. Assumes nothing.
-use mathlib.Core.Bool.{Bool, true, false, cond, true≢false}
+use mathlib.Core.Bool.{Bool, true, false, cond, _&&_, _||_, true≢false}
 use mathlib.Core.List.{List}
 use mathlib.Core.Logic.{_↔_}
 use mathlib.Core.Path.{_≡_, refl, sym, ap, _∙_, subst}
@@ -13,22 +13,25 @@ use mir.Syntax.{w32}
 use mir.Val.{SFits, toZ, ofZ}
 use mir.Facts.{toZ-ofZ}
 use Rattle.rules.specs.Codes.{number, negative, H-CALL}
-use Rattle.rules.specs.Events.{Event, tick, call, eventOf, Word, Words, nat, above}
+use Rattle.rules.specs.Events.{Event, tick, enter, exit, call, eventOf, Word, Words, nat, above}
+use Rattle.rules.specs.State.{isOpen}
 use Rattle.rules.specs.View.{View, running}
 use Rattle.rules.specs.Verdicts.{Verdict, refuse}
 use Rattle.rules.specs.Answers.{answer, releasedCount}
-use Rattle.rules.specs.Table.{caller, numbered, called, judge}
+use Rattle.rules.specs.Table.{caller, handles, numbered, called, judge}
 use Rattle.rules.specs.Kernel as Kernel
 use Rattle.rules.specs.Kernel.{event, next, served}
 use Rattle.rules.proofs.Events.{event-served}
 use Rattle.rules.proofs.Released.{released-by-acts}
-use Rattle.memory_picture.specs.Picture.{viewShown, Accepted}
+use Rattle.memory_picture.specs.Picture.{handlersShown, bodyShown, viewShown, Accepted}
 use Rattle.memory_running.specs.Running.{runningOf}
 use Rattle.memory_running.proofs.Running.{running-law}
 use Rattle.rules.specs.Time.{ticked}
+use Rattle.rules.specs.Handling.{entered, exited}
 use Rattle.call_words.specs.declared.Outcome.{Outcome}
 use Rattle.call_words.specs.Outcomes.{outcome}
 use Rattle.call_words.specs.Doing.{Does, Anything, DoesOnWords}
+use Rattle.call_words.specs.Naming.{Runs}
 use Rattle.call_words.proofs.Verdicts.{refuses-with}
 use Rattle.call_dispatch.specs.Dispatching.{Dispatches}
 use Rattle.call_dispatch.proofs.Done.{does-law}
@@ -76,6 +79,10 @@ unsound-step e b m r w n g = record { words = w; answers = λ A. absurd (n A); a
 
 -- ---- calls
 
+handlers-are : (b m : List ℕ) → viewShown b m .body .handlers ≡ handlersShown b
+unfolding viewShown bodyShown
+handlers-are b m = refl
+
 -- a context other than 0 and 1
 pub misnamed : (v : View) (x n a b c : ℤ) → above x 1 ≡ true → judge v (call x n a b c) ≡ refuse H-CALL
 unfolding judge called
@@ -85,7 +92,7 @@ misnamed v (pos (suc (suc k))) n a b c e = refl
 misnamed v (negsuc k) n a b c e = refl
 
 -- a call from a context, by its number; a negative number is no call's, as 0 is
-named-call : (v : View) (x n a b c : ℤ) → above x 1 ≡ false → numbered v (eqb (nat x) 1) (caller v (eqb (nat x) 1)) (nat n) a b c ≡ judge v (call x n a b c)
+named-call : (v : View) (x n a b c : ℤ) → above x 1 ≡ false → numbered v (handles v (eqb (nat x) 1)) (caller v (eqb (nat x) 1)) (nat n) a b c ≡ judge v (call x n a b c)
 unfolding judge called numbered
 named-call v (pos zero) (pos n) a b c e = refl
 named-call v (pos zero) (negsuc n) a b c e = refl
@@ -101,31 +108,54 @@ module _ {sound : Bool} {me : ℕ} {b m : List ℕ} (K : Known sound me b m) (s 
   pub call-misnamed : t ≡ true → {o : Outcome} → o ≡ outcome (number H-CALL) 0 0 0 → Step (call x n a c d) b m (replied o me) b m
   call-misnamed z e = done-step (call x n a c d) b m b m here w (rw (misnamed (viewShown b m) x n a c d (sym et ∙ z)) (refuses-with H-CALL e)) (K .1)
 
-  pub call-done : t ≡ false → {h : Bool} {i j r : ℕ} {o : Outcome} {b′ m′ : List ℕ} → h ≡ eqb (nat x) 1 → j ≡ nat n → i ≡ cond h 0 me → Dispatches h i j a c d o b m b′ m′ → r ≡ runningOf b′
-      → Step (call x n a c d) b m (replied o r) b′ m′
-  call-done z {h} {i} {j} {r} {o} {b′} {m′} eh ej ei D er =
+  pub call-done : t ≡ false → {h q g : Bool} {i j r : ℕ} {o : Outcome} {b′ m′ : List ℕ} → h ≡ eqb (nat x) 1 → j ≡ nat n → q ≡ isOpen (handlersShown b) → i ≡ cond (h || q) 0 me → g ≡ h && q
+      → Dispatches g i j a c d o b m b′ m′ → r ≡ runningOf b′ → Step (call x n a c d) b m (replied o r) b′ m′
+  call-done z {h} {q} {g} {i} {j} {r} {o} {b′} {m′} eh ej eq ei eg D er =
       let v : View = viewShown b m in
-      let mine : i ≡ caller v h = ei ∙ ap (cond h 0) (K .1 here) in
-      let y : numbered v h i j a c d ≡ judge v (call x n a c d) = rw (mine, ej, eh) (named-call v x n a c d (sym et ∙ z)) in
+      let inside : q ≡ isOpen (v .body .handlers) = eq ∙ ap isOpen (sym (handlers-are b m)) in
+      let mine : i ≡ caller v h = ei ∙ (λ k. cond (h || inside k) 0 (K .1 here k)) in
+      let from : g ≡ handles v h = eg ∙ ap (λ (y : Bool). h && y) inside in
+      let y : numbered v g i j a c d ≡ judge v (call x n a c d) = rw (from, mine, ej, eh) (named-call v x n a c d (sym et ∙ z)) in
       done-step (call x n a c d) b m b′ m′ here w (subst (λ (q : Verdict). Does q o b m b′ m′) y (D here)) (λ A. er ∙ running-law b′ m′ A)
 
 -- ---- events of five words, by the bits of the kind
 
-pub kind-tick : (k n a b c : ℤ) → SFits w32 k → ofZ w32 k ≡ 2 → eventOf k n a b c ≡ tick
-kind-tick k n a b c f e = rw (sym (toZ-ofZ f) ∙ ap (toZ w32) e)
+module _ (k n a b c : ℤ) (f : SFits w32 k) where
+  kind-is : (x : ℕ) → ofZ w32 k ≡ x → k ≡ toZ w32 x
+  kind-is x e = sym (toZ-ofZ f) ∙ ap (toZ w32) e
 
-pub kind-call : (k n a b c : ℤ) → (ofZ w32 k ≡ 2 → ⊥) → eventOf k n a b c ≡ call k n a b c
-kind-call (pos zero) n a b c h = refl
-kind-call (pos (suc zero)) n a b c h = refl
-kind-call (pos (suc (suc zero))) n a b c h = absurd (h refl)
-kind-call (pos (suc (suc (suc k)))) n a b c h = refl
-kind-call (negsuc k) n a b c h = refl
+  pub kind-tick : ofZ w32 k ≡ 2 → eventOf k n a b c ≡ tick
+  kind-tick e = rw (kind-is 2 e)
 
--- ---- the tick
+  pub kind-enter : ofZ w32 k ≡ 3 → eventOf k n a b c ≡ enter
+  kind-enter e = rw (kind-is 3 e)
 
-pub tick-done : {sound : Bool} {me : ℕ} {b m b′ : List ℕ} → Known sound me b m → sound ≡ true → {o : Outcome} {r : ℕ} → DoesOnWords Anything ticked o b b′ → r ≡ runningOf b′ → Step tick b m (replied o r) b′ m
-unfolding judge
-tick-done {b = b} {m = m} {b′ = b′} K s D e = let A = K .0 .0 s in done-step tick b m b′ m A tt (D m A tt) (λ A′. e ∙ running-law b′ m A′)
+  pub kind-leave : ofZ w32 k ≡ 4 → eventOf k n a b c ≡ exit
+  kind-leave e = rw (kind-is 4 e)
+
+pub kind-call : (k n a b c : ℤ) → (ofZ w32 k ≡ 2 → ⊥) → (ofZ w32 k ≡ 3 → ⊥) → (ofZ w32 k ≡ 4 → ⊥) → eventOf k n a b c ≡ call k n a b c
+kind-call (pos zero) n a b c x y z = refl
+kind-call (pos (suc zero)) n a b c x y z = refl
+kind-call (pos (suc (suc zero))) n a b c x y z = absurd (x refl)
+kind-call (pos (suc (suc (suc zero)))) n a b c x y z = absurd (y refl)
+kind-call (pos (suc (suc (suc (suc zero))))) n a b c x y z = absurd (z refl)
+kind-call (pos (suc (suc (suc (suc (suc k)))))) n a b c x y z = refl
+kind-call (negsuc k) n a b c x y z = refl
+
+-- ---- the tick, entry and return
+
+module _ {sound : Bool} {me : ℕ} {b m : List ℕ} (K : Known sound me b m) (s : sound ≡ true) {b′ : List ℕ} {o : Outcome} {r : ℕ} (runs : r ≡ runningOf b′) where
+  pub tick-done : DoesOnWords Anything ticked o b b′ → Step tick b m (replied o r) b′ m
+  unfolding judge
+  tick-done D = let A = K .0 .0 s in done-step tick b m b′ m A tt (D m A tt) (λ A′. runs ∙ running-law b′ m A′)
+
+  pub enter-done : DoesOnWords (Runs me) entered o b b′ → Step enter b m (replied o r) b′ m
+  unfolding judge
+  enter-done D = let A = K .0 .0 s in done-step enter b m b′ m A tt (D m A (K .1 A)) (λ A′. runs ∙ running-law b′ m A′)
+
+  pub leave-done : DoesOnWords Anything exited o b b′ → Step exit b m (replied o r) b′ m
+  unfolding judge
+  leave-done D = let A = K .0 .0 s in done-step exit b m b′ m A tt (D m A tt) (λ A′. runs ∙ running-law b′ m A′)
 
 -- ---- what is known
 

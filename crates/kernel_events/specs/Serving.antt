@@ -10,7 +10,7 @@ use Rattle.memory_picture.specs.Picture.{viewShown, Accepted}
 use Rattle.call_words.specs.declared.Outcome.{Outcome}
 use Rattle.kernel_events.specs.Steps.{Reply, reply, Step}
 
--- what a call or a tick answered, and who runs after it
+-- what an event answered, and who runs after it
 abbrev pub replied : Outcome → ℕ → Reply
 replied o n = reply (o .code) (o .w1) (o .w2) n (o .released)
 

@@ -1,4 +1,4 @@
-// Every event on every memory: `call` and `tick`. Nobody has to check first. `serve` is for `kernel_batches`, which knows whether the state is
+// Every event on every memory: `call`, `tick`, `enter` and `leave`. Nobody has to check first. `serve` is for `kernel_batches`, which knows whether the state is
 // sound and who runs, and promises as much as that knowledge (`Serves`).
 use call_dispatch::dispatch;
 use call_judging::is_above;
@@ -9,9 +9,10 @@ use call_words::named;
 use call_words::refuse;
 use check_state::accepts;
 use memory_columns::STATE_WORDS;
+use memory_running::is_open;
 use memory_running::running_task;
 ghost use mathlib.Core.Path.{_≡_};
-ghost use mathlib.Core.Bool.{cond};
+ghost use mathlib.Core.Bool.{cond, _&&_, _||_};
 ghost use Rattle.rules.specs.Events as Events;
 ghost use Rattle.rules.specs.Events.{eventOf};
 ghost use Rattle.kernel_events.specs.Steps.{reply, unsound, Step};
@@ -21,6 +22,10 @@ ghost use Rattle.kernel_events.specs.Serving.{replied, Serves};
 const HANDLER: u32 = 1;
 
 const TICK: i32 = 2;
+
+const ENTRY: i32 = 3;
+
+const RETURN: i32 = 4;
 
 // What comes back of an event: code, two words, the running task after it, and the number of tasks released.
 #[repr(C)]
@@ -32,7 +37,7 @@ pub struct Answer {
     pub released: u32,
 }
 
-// What a call or a tick answered, and who runs after it.
+// What an event answered, and who runs after it.
 fn answer_of(o: Outcome, running: u32) -> Answer
     ensures { λ r. ⌜ reply (r .code) (r .w1) (r .w2) (r .running) (r .released) ≡ replied o running ⌝ }
 {
@@ -45,11 +50,21 @@ fn answer_of(o: Outcome, running: u32) -> Answer
     }
 }
 
-// The caller: nobody from a handler.
-fn caller(handler: bool, me: u32) -> u32
-    ensures { λ r. ⌜ r ≡ cond handler 0 me ⌝ }
+// A handler calls, and one is open.
+fn handles(handler: bool, inside: bool) -> bool
+    ensures { λ r. ⌜ r ≡ handler && inside ⌝ }
 {
-    if handler { 0 } else { me }
+    if handler { inside } else { false }
+}
+
+// The task that calls: nobody from a handler, and nobody while one is open.
+fn caller(handler: bool, inside: bool, me: u32) -> u32
+    ensures { λ r. ⌜ r ≡ cond (handler || inside) 0 me ⌝ }
+{
+    if handler {
+        return 0;
+    }
+    if inside { 0 } else { me }
 }
 
 // H_STATE.
@@ -81,7 +96,9 @@ fn serve_call(
     }
     let handler = named(context) == HANDLER;
     let n = named(number);
-    let o = dispatch(words, messages, handler, caller(handler, me), n, a, b, c);
+    let inside = is_open(words);
+    let me = caller(handler, inside, me);
+    let o = dispatch(words, messages, handles(handler, inside), me, n, a, b, c);
     let runs = running_task(words);
     answer_of(o, runs)
 }
@@ -98,7 +115,41 @@ fn serve_tick(words: &mut [u32; STATE_WORDS], messages: &[u32; 256], sound: bool
     answer_of(o, runs)
 }
 
-// An event of five words: kind (0 task, 1 handler, 2 tick), call, a, b, c.
+// The entry of a handler, where the same is known.
+fn serve_enter(
+    words: &mut [u32; STATE_WORDS],
+    messages: &[u32; 256],
+    sound: bool,
+    me: u32,
+) -> Answer
+    ensures { λ r. ⌜ Serves Events.enter sound me (now (words .entry)) (now (messages .entry)) (reply (r .code) (r .w1) (r .w2) (r .running) (r .released)) (now (words .exit)) (now (messages .entry)) ⌝ }
+{
+    if !sound {
+        return damaged();
+    }
+    let o = call_handlers::enter(words, me);
+    let runs = running_task(words);
+    answer_of(o, runs)
+}
+
+// The return of one.
+fn serve_leave(
+    words: &mut [u32; STATE_WORDS],
+    messages: &[u32; 256],
+    sound: bool,
+    me: u32,
+) -> Answer
+    ensures { λ r. ⌜ Serves Events.exit sound me (now (words .entry)) (now (messages .entry)) (reply (r .code) (r .w1) (r .w2) (r .running) (r .released)) (now (words .exit)) (now (messages .entry)) ⌝ }
+{
+    if !sound {
+        return damaged();
+    }
+    let o = call_handlers::leave(words);
+    let next = running_task(words);
+    answer_of(o, next)
+}
+
+// An event of five words: kind (0 task, 1 handler, 2 tick, 3 entry, 4 return), call, a, b, c.
 pub fn serve(
     words: &mut [u32; STATE_WORDS],
     messages: &mut [u32; 256],
@@ -112,10 +163,12 @@ pub fn serve(
 ) -> Answer
     ensures { λ r. ⌜ Serves (eventOf kind number a b c) sound me (now (words .entry)) (now (messages .entry)) (reply (r .code) (r .w1) (r .w2) (r .running) (r .released)) (now (words .exit)) (now (messages .exit)) ⌝ }
 {
-    if kind == TICK {
-        return serve_tick(words, messages, sound, me);
+    match kind {
+        TICK => serve_tick(words, messages, sound, me),
+        ENTRY => serve_enter(words, messages, sound, me),
+        RETURN => serve_leave(words, messages, sound, me),
+        _ => serve_call(words, messages, sound, me, kind, number, a, b, c),
     }
-    serve_call(words, messages, sound, me, kind, number, a, b, c)
 }
 
 // A call from a context (0 task, 1 handler) by its number.
@@ -142,4 +195,22 @@ pub fn tick(words: &mut [u32; STATE_WORDS], messages: &[u32; 256]) -> Answer
     let sound = accepts(words, messages);
     let now = running_task(words);
     serve_tick(words, messages, sound, now)
+}
+
+// The entry of a handler.
+pub fn enter(words: &mut [u32; STATE_WORDS], messages: &[u32; 256]) -> Answer
+    ensures { λ r. ⌜ Step Events.enter (now (words .entry)) (now (messages .entry)) (reply (r .code) (r .w1) (r .w2) (r .running) (r .released)) (now (words .exit)) (now (messages .entry)) ⌝ }
+{
+    let sound = accepts(words, messages);
+    let now = running_task(words);
+    serve_enter(words, messages, sound, now)
+}
+
+// The return of a handler.
+pub fn leave(words: &mut [u32; STATE_WORDS], messages: &[u32; 256]) -> Answer
+    ensures { λ r. ⌜ Step Events.exit (now (words .entry)) (now (messages .entry)) (reply (r .code) (r .w1) (r .w2) (r .running) (r .released)) (now (words .exit)) (now (messages .entry)) ⌝ }
+{
+    let sound = accepts(words, messages);
+    let now = running_task(words);
+    serve_leave(words, messages, sound, now)
 }

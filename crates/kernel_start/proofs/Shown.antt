@@ -16,7 +16,7 @@ use lib.Seq.{ext-getD}
 use borrow.Author.Tests.{lt-ltb}
 use Rattle.rules.specs.Ids.{of, In}
 use Rattle.rules.specs.Setup.{Setup, Entry}
-use Rattle.rules.specs.State.{semaphore, flag, mailbox, pool, nobody, Store}
+use Rattle.rules.specs.State.{semaphore, flag, mailbox, pool, nobody, Store, no-handler}
 use Rattle.rules.specs.Places.{Place, readyAt, waiters, mail, Exists, tabulate}
 use Rattle.rules.specs.Kernel.{idleTask, idle}
 use Rattle.rules.proofs.Ids.{of-replicate}
@@ -30,7 +30,7 @@ use Rattle.setup.specs.Layout.{PlanShows, PlanFits}
 use Rattle.memory_columns.specs.Layout as Layout
 use Rattle.memory_columns.specs.Layout.{Column, stateWords, maxTasks, maxMessages, maxBlocks, mailNode, fits, clear, words, entry, Only}
 use Rattle.memory_columns.proofs.Frame.{Sized, words-length, only-both}
-use Rattle.memory_picture.specs.Picture.{codeOf, stateShown, taskShown, messageShown, poolShown, tasksShown, messagesShown, storeShown, bodyShown, anchor, lineShown, viewShown, UsedByTasks, ready-queue, wait-queue, UsedByMail, mailbox-queue, Whole, Accepted}
+use Rattle.memory_picture.specs.Picture.{codeOf, stateShown, taskShown, messageShown, poolShown, tasksShown, messagesShown, storeShown, handlersShown, bodyShown, anchor, lineShown, viewShown, UsedByTasks, ready-queue, wait-queue, UsedByMail, mailbox-queue, Whole, Accepted}
 use Rattle.memory_picture.specs.Form.{maskOf}
 use Rattle.memory_picture.proofs.FormPile.{table-is}
 use Rattle.memory_picture.proofs.FormWords.{back-pool}
@@ -176,11 +176,16 @@ module _ (s : List ℕ) (u : Setup) (G : GoodSetup u) (p : Plan) (S : PlanShows 
       clock : entry Layout.system memory Layout.clockLow + 2 ^ 32 * entry Layout.system memory Layout.clockHigh ≡ 0
       clock = rw (at-system Layout.clockLow, at-system Layout.clockHigh)
 
+  handlers-shown : handlersShown memory ≡ no-handler
+  unfolding handlersShown
+  handlers-shown = rw (at-zero Layout.handling refl refl refl Layout.depth)
+
   body-shown : bodyShown memory marks ≡ idle u
   unfolding bodyShown idle counts
   body-shown = λ x. record {
     tasks = table-is (map idleTask (u .tasks)) _ (taskShown memory) nobody (at-system Layout.tasks ∙ S .tasks ∙ sym (length-map (u .tasks) idleTask)) task-shown x;
     store = store-shown x;
+    handlers = handlers-shown x;
   }
 
   -- ---- the links: no task and no message has one, and each anchor in use points to itself

@@ -29,6 +29,10 @@ maxPools = 8
 abbrev pub maxBlocks : ℕ
 maxBlocks = 32
 
+-- of open handlers
+abbrev pub maxDepth : ℕ
+maxDepth = 15
+
 -- ---- columns
 
 -- where it begins, and how many words it has
@@ -106,6 +110,10 @@ mailPrev = column 898 273
 abbrev pub system : Column
 system = column 1171 9
 
+-- the handlers that are open; by the entries below
+abbrev pub handling : Column
+handling = column 1180 2
+
 -- ---- the entries of the system's column
 
 abbrev pub priorities : ℕ
@@ -136,6 +144,16 @@ clockLow = 7
 
 abbrev pub clockHigh : ℕ
 clockHigh = 8
+
+-- ---- the entries of the handlers' column
+
+-- how many are open
+abbrev pub depth : ℕ
+depth = 0
+
+-- the task that the outermost one interrupted, 0 if nobody ran; of no meaning while none is open
+abbrev pub interrupted : ℕ
+interrupted = 1
 
 -- ---- anchors: the nodes of the queues, behind those of tasks or of messages
 
@@ -172,10 +190,10 @@ objectColumns = semaphore ∷ flag ∷ free ∷ size ∷ []
 
 -- all of them, in order
 abbrev pub columns : List Column
-columns = taskColumns ++ (next ∷ prev ∷ (objectColumns ++ (mailNext ∷ mailPrev ∷ system ∷ [])))
+columns = taskColumns ++ (next ∷ prev ∷ (objectColumns ++ (mailNext ∷ mailPrev ∷ system ∷ handling ∷ [])))
 
 abbrev pub stateWords : ℕ
-stateWords = 1180
+stateWords = 1182
 
 -- the two directions of a ring stand side by side, as the crate `rings` wants them: the links back behind the links forth
 abbrev pub back : Column → Column

@@ -6,7 +6,7 @@ ghost use Rattle.memory_rings.specs.Columns.{col, store};
 ghost use Rattle.memory_columns.specs.Layout as Layout;
 ghost use Rattle.memory_columns.specs.Layout.{stateWords, entry, put, atMost};
 
-// Entries of a column of tasks, of objects, of pools and of the system, and nodes of the rings of tasks and of messages. Entry 0 is unused.
+// Entries of a column of tasks, of objects, of pools, of the system and of the handlers, and nodes of the rings of tasks and of messages. Entry 0 is unused.
 const TASK_ENTRIES: usize = 33;
 
 const OBJECT_ENTRIES: usize = 17;
@@ -14,6 +14,8 @@ const OBJECT_ENTRIES: usize = 17;
 const POOL_ENTRIES: usize = 9;
 
 const SYSTEM_ENTRIES: usize = 9;
+
+const HANDLING_ENTRIES: usize = 2;
 
 const TASK_NODES: usize = 105;
 
@@ -60,8 +62,10 @@ pub const MAIL_LINKS_END: usize = MAIL_LINKS + 2 * MAIL_NODES;
 
 const AT_SYSTEM: usize = MAIL_LINKS_END;
 
+const AT_HANDLING: usize = AT_SYSTEM + SYSTEM_ENTRIES;
+
 // How many words the kernel's state has, and how many marks of messages beside it.
-pub const STATE_WORDS: usize = AT_SYSTEM + SYSTEM_ENTRIES;
+pub const STATE_WORDS: usize = AT_HANDLING + HANDLING_ENTRIES;
 
 pub const MESSAGE_WORDS: usize = 256;
 
@@ -77,6 +81,8 @@ pub const MAX_MESSAGES: u32 = 256;
 pub const MAX_POOLS: u32 = 8;
 
 pub const MAX_BLOCKS: u32 = 32;
+
+pub const MAX_DEPTH: u32 = 15;
 
 // The states of a task, as tsk_sts tells them; RUN is not kept.
 pub const DORMANT: u32 = 0;
@@ -142,6 +148,11 @@ pub const MESSAGES: u32 = 6;
 pub const CLOCK_LOW: u32 = 7;
 
 pub const CLOCK_HIGH: u32 = 8;
+
+// The entries of the handlers' column: how many are open, and the task that the outermost one interrupted.
+pub const DEPTH: u32 = 0;
+
+pub const INTERRUPTED: u32 = 1;
 
 // The codes that a cell keeps, by their numbers: 0, E_TMOUT, E_RLWAI.
 pub const CELL_OK: u32 = 0;
@@ -375,6 +386,19 @@ pub fn set_system(words: &mut [u32; STATE_WORDS], i: u32, v: u32)
     ensures { λ _. ⌜ now (words .exit) ≡ put Layout.system i v (now (words .entry)) ⌝ }
 {
     write(words, AT_SYSTEM, SYSTEM_ENTRIES, i, v);
+}
+
+// The handlers that are open.
+pub fn handling(words: &[u32; STATE_WORDS], i: u32) -> u32
+    ensures { λ r. ⌜ r ≡ entry Layout.handling (now (words .entry)) i ⌝ }
+{
+    read(words, AT_HANDLING, HANDLING_ENTRIES, i)
+}
+
+pub fn set_handling(words: &mut [u32; STATE_WORDS], i: u32, v: u32)
+    ensures { λ _. ⌜ now (words .exit) ≡ put Layout.handling i v (now (words .entry)) ⌝ }
+{
+    write(words, AT_HANDLING, HANDLING_ENTRIES, i, v);
 }
 
 // A count that a damaged memory cannot make long.

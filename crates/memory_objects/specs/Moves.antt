@@ -1,11 +1,11 @@
--- What each act on blocks and time does to the words, for any words.
+-- What each act on blocks, time and handlers does to the words, for any words.
 use mathlib.Core.Bool.{Bool, true, false, cond, _&&_, _||_}
 use mathlib.Core.List.{List}
 use Prim.Native.Nat.{ℕ, zero, suc, pred, _-_, _%_, _^_}
 use lib.Bits.{bitAnd, bitOr}
 use lib.Dec.{eqb, leb}
 use Rattle.memory_columns.specs.Layout as Layout
-use Rattle.memory_columns.specs.Layout.{maxTasks, maxBlocks, status, kind, ticks, free, system, entry, put, atMost}
+use Rattle.memory_columns.specs.Layout.{maxTasks, maxBlocks, status, kind, ticks, free, system, handling, entry, put, atMost}
 
 -- ---- blocks: bit k - 1 of the mask is block k's mark
 
@@ -40,3 +40,9 @@ clocked b =
 
 unfoldable pub elapsed : List ℕ → List ℕ
 elapsed b = clocked (agedFrom (atMost (entry system b Layout.tasks) maxTasks) 1 b)
+
+-- ---- handlers
+
+-- so many are open, and the outermost one interrupted task i
+unfoldable pub nested : ℕ → ℕ → List ℕ → List ℕ
+nested d i b = put handling Layout.interrupted i (put handling Layout.depth d b)

@@ -23,7 +23,7 @@ use Rattle.memory_picture.specs.Picture.{noWait, waitShown, stateShown, 
 use Rattle.memory_queues.proofs.Relinks.{put-at}
 use Rattle.memory_picture.proofs.Lines.{rest, follows-stay}
 use Rattle.memory_picture.proofs.Done.{LowClock, Done}
-use Rattle.memory_picture.proofs.Touched.{kept-shown, store-kept, touchable, Touched, untouched, touched-put}
+use Rattle.memory_picture.proofs.Touched.{kept-shown, store-kept, handlers-kept, touchable, Touched, untouched, touched-put}
 use Rattle.memory_picture.proofs.OneTask.{sizes}
 
 -- ---- one task
@@ -251,7 +251,7 @@ module _ (b msgs : List ℕ) (A : Accepted b msgs) (F : LowClock b) where
 
     body : bodyShown d msgs ≡ after elapse (bodyShown b msgs)
     unfolding bodyShown storeShown after
-    body = λ z. record { tasks = tasks z; store = stores z }
+    body = λ z. record { tasks = tasks z; store = stores z; handlers = handlers-kept only refl z }
       where
         stores : storeShown d msgs ≡ after elapse (bodyShown b msgs) .store
         stores = store-kept b d msgs msgs only refl counts ∙ ap (λ (t : ℕ). with-clock t (storeShown b msgs)) clock

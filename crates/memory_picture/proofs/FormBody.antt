@@ -1,22 +1,22 @@
 -- The form of a sound body shows that body, whatever the lines: each entry is read off its column, and decoded. Assumes nothing.
 use mathlib.Core.List.{List, [], reverse}
 use mathlib.Core.Option.{none}
-use mathlib.Core.Path.{_≡_, refl}
+use mathlib.Core.Path.{_≡_, refl, _∙_}
 use Prim.Native.Nat.{ℕ, zero, suc, _+_, _*_, _%_, _^_, _<_}
 use native.Mathlib.Omega.{arith}
 use lib.Dec.{lit<}
 use lib.ListN.{length, getD}
 use Rattle.rules.specs.Ids.{of, In}
-use Rattle.rules.specs.State.{Body, task, nobody}
+use Rattle.rules.specs.State.{depth, Body, task, nobody}
 use Rattle.rules.specs.Places.{Place}
 use Rattle.rules.specs.Sound.{SoundBody}
 use Rattle.memory_columns.specs.Layout as Layout
 use Rattle.memory_columns.specs.Layout.{columns, maxMessages, words, entry}
-use Rattle.memory_picture.specs.Picture.{taskShown, messageShown, poolShown, storeShown, bodyShown, tasksShown, messagesShown}
-use Rattle.memory_picture.specs.Perform.{codeKept}
-use Rattle.memory_picture.specs.Form.{statusNumber, wordsOf, maskOf, boxNumber, taskLink, mailLink, run, entries, pile, systemWords, parts}
+use Rattle.memory_picture.specs.Picture.{taskShown, messageShown, poolShown, storeShown, openShown, handlersShown, bodyShown, tasksShown, messagesShown}
+use Rattle.memory_picture.specs.Perform.{codeKept, interruptedKept}
+use Rattle.memory_picture.specs.Form.{statusNumber, wordsOf, maskOf, boxNumber, taskLink, mailLink, run, entries, pile, systemWords, handlingWords, parts}
 use Rattle.memory_picture.proofs.FormPile.{run-at, pile-words, pile-at, table-is}
-use Rattle.memory_picture.proofs.FormWords.{back-state, back-code, back-pool, back-message, back-clock}
+use Rattle.memory_picture.proofs.FormWords.{back-state, back-code, back-pool, back-message, back-clock, back-handlers}
 
 -- the marks of messages
 abbrev pub marks : Body → List ℕ
@@ -89,6 +89,9 @@ module _ (b : Body) (L : Place → List ℕ) where
   at-system : (k : ℕ) → k < Layout.system .width → entry Layout.system form k ≡ getD (systemWords b) k 0
   at-system k r = pile-at (entries (parts b L)) Layout.system refl k r
 
+  at-handling : (k : ℕ) → k < Layout.handling .width → entry Layout.handling form k ≡ getD (handlingWords b) k 0
+  at-handling k r = pile-at (entries (parts b L)) Layout.handling refl k r
+
   at-mark : (j : ℕ) → In j maxMessages → of (marks b) j 0 ≡ boxNumber (of (b .store .messages) j none)
   at-mark zero r = absurd (omega (arith, r .0))
   at-mark (suc j) r = run-at maxMessages _ j 0 (omega (arith, r .1))
@@ -148,9 +151,14 @@ module _ (b : Body) (L : Place → List ℕ) where
         clock-shown : entry Layout.system form Layout.clockLow + 2 ^ 32 * entry Layout.system form Layout.clockHigh ≡ b .store .clock
         clock-shown = rw (at-system Layout.clockLow (lit< tt), at-system Layout.clockHigh (lit< tt)) (back-clock (b .store .clock))
 
+    handlers-shown : handlersShown form ≡ b .handlers
+    unfolding handlersShown
+    handlers-shown = (λ z. openShown (at-handling Layout.depth (lit< tt) z) (at-handling Layout.interrupted (lit< tt) z)) ∙ back-handlers (b .handlers)
+
     pub body-shown : bodyShown form (marks b) ≡ b
     unfolding bodyShown
     body-shown = λ z. record {
       tasks = table-is (b .tasks) (entry Layout.system form Layout.tasks) (taskShown form) nobody (at-system Layout.tasks (lit< tt)) task-shown z;
       store = store-shown z;
+      handlers = handlers-shown z;
     }

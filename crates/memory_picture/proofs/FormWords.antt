@@ -12,11 +12,11 @@ use lib.ListN.{length}
 use lib.Pow.{pow-mono}
 use borrow.Author.Tests.{eq-eqb, ne-eqb}
 use Rattle.rules.specs.Ids.{once}
-use Rattle.rules.specs.State.{Kind, semaphore, flag, mailbox, pool, Wait, asleep, timed, on, State, dormant, ready, suspended, waiting, waiting-suspended, Cell, Task, Store, Body, nobody, objects, waitOf}
+use Rattle.rules.specs.State.{Kind, semaphore, flag, mailbox, pool, Wait, asleep, timed, on, State, dormant, ready, suspended, waiting, waiting-suspended, Cell, Task, Store, Handlers, no-handler, in-handler, depth, Body, nobody, objects, waitOf}
 use Rattle.rules.specs.Sound.{Sizes, LiesWell, CellNumbers, WishNumbers, WaitNumbers, SoundTask}
 use Rattle.memory_columns.specs.Layout.{maxObjects, maxBlocks}
-use Rattle.memory_picture.specs.Picture.{codeOf, waitShown, stateShown, messageShown, bitsOf, poolShown, kindNumber}
-use Rattle.memory_picture.specs.Perform.{codeKept}
+use Rattle.memory_picture.specs.Picture.{codeOf, waitShown, stateShown, messageShown, bitsOf, poolShown, openShown, kindNumber}
+use Rattle.memory_picture.specs.Perform.{codeKept, interruptedKept}
 use Rattle.memory_picture.specs.Form.{statusNumber, WaitWords, noWords, waitWords, wordsOf, maskOf, boxNumber}
 
 -- ---- back
@@ -76,6 +76,10 @@ back-message n (some m) h = rw (ne-eqb m 0 (λ e. omega arith))
 
 pub back-clock : (n : ℕ) → n % 2 ^ 32 + 2 ^ 32 * (n / 2 ^ 32) ≡ n
 back-clock n = omega arith
+
+pub back-handlers : (h : Handlers) → openShown (depth h) (interruptedKept h) ≡ h
+back-handlers no-handler = refl
+back-handlers (in-handler n i) = refl
 
 -- ---- small
 

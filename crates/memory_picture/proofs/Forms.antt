@@ -1,6 +1,7 @@
 -- Each sound view has an accepted form, of 32-bit words; the fresh view of every accepted setup among them. Assumes nothing.
+use mathlib.Core.Bool.{true, false≢true}
 use mathlib.Core.List.{List, [], _∷_, reverse}
-use mathlib.Core.Logic.{inl, inr}
+use mathlib.Core.Logic.{_⊎_, inl, inr}
 use mathlib.Core.Option.{none}
 use mathlib.Core.Path.{_≡_, refl, sym, ap, _∙_, subst}
 use Prim.Native.Nat.{ℕ, zero, suc, _^_, _<_}
@@ -9,10 +10,10 @@ use native.Mathlib.Omega.{arith}
 use lib.Dec.{lit<, lit≤}
 use lib.ListN.{length, getD}
 use Rattle.rules.specs.Ids.{of, In}
-use Rattle.rules.specs.State.{Store, task, nobody, objects}
+use Rattle.rules.specs.State.{Task, Store, Handlers, no-handler, in-handler, depth, task, nobody, objects, isFreed}
 use Rattle.rules.specs.Places.{Place, readyAt, waiters, mail, at, each, Lines, lineAt, Exists, tabulate}
 use Rattle.rules.specs.View.{View}
-use Rattle.rules.specs.Sound.{Shape, Sound}
+use Rattle.rules.specs.Sound.{Shape, HandlersFit, Sound}
 use Rattle.rules.proofs.Ids.{inside}
 use Rattle.rules.proofs.Lines.{tabulate-same}
 use Rattle.memory_columns.specs.Layout as Layout
@@ -20,7 +21,8 @@ use Rattle.memory_columns.specs.Layout.{maxMessages}
 use Rattle.memory_columns.proofs.Tiling.{columns-tile}
 use Rattle.memory_rings.specs.Rings.{lineOf, Linked}
 use Rattle.memory_picture.specs.Picture.{storeShown, anchor, lineShown, viewShown, Whole, Accepted}
-use Rattle.memory_picture.specs.Form.{Fits32, maskOf, boxNumber, systemWords, entries, parts, formOf, marksOf}
+use Rattle.memory_picture.specs.Perform.{interruptedKept}
+use Rattle.memory_picture.specs.Form.{Fits32, maskOf, boxNumber, systemWords, handlingWords, entries, parts, formOf, marksOf}
 use Rattle.memory_picture.proofs.FormPile.{length-run, run-all, length-pile, pile-all, entries-all, table-is}
 use Rattle.memory_picture.proofs.FormWords.{mask-small, message-small, Small, task-small, nobody-small}
 use Rattle.memory_picture.proofs.FormBody.{marks, form, tasks-count, messages-count, low-clock, next-words, prev-words, mail-next-words, mail-prev-words, store-shown, body-shown}
@@ -108,6 +110,21 @@ module _ (v : View) (S : Sound v) where
       omega (arith, z .priorities .1) also omega (arith, z .tasks .1) also omega (arith, z .semaphores) also omega (arith, z .flags) also omega (arith, z .mailboxes)
       also omega (arith, z .pools) also omega (arith, z .messages) also omega arith also omega (arith, c) also tt
 
+  -- the interrupted task is one of the tasks, or none
+  task-number : (i : ℕ) → (i ≡ 0) ⊎ (isFreed (task (v .body) i .state) ≡ true) → i < 2 ^ 32
+  task-number i (inl e) = rw e (lit< tt)
+  task-number i (inr e) = elim (inside (v .body .tasks) i nobody) [
+    | inl r ↦ omega (arith, r .1, S .body .sizes .tasks .1)
+    | inr k ↦ absurd (false≢true (subst (λ (t : Task). isFreed (t .state) ≡ true) k e))
+  ]
+
+  handling-small : Fits32 (handlingWords (v .body))
+  handling-small = go (v .body .handlers) (S .body .handlers)
+    where
+      go : (h : Handlers) → HandlersFit (v .body .tasks) h → Fits32 (depth h ∷ interruptedKept h ∷ [])
+      go no-handler f = lit< tt also lit< tt also tt
+      go (in-handler n i) f = omega (arith, f .0) also task-number i (f .1) also tt
+
   pub form-fits : Fits32 (formOf v)
   unfolding formOf
   form-fits = pile-all (entries (parts (v .body) lines)) (λ x. x < 2 ^ 32) Layout.columns (entries-all (λ x. x < 2 ^ 32) (lit< tt) (parts (v .body) lines)
@@ -120,7 +137,7 @@ module _ (v : View) (S : Sound v) where
       also (λ i r. entries-small maskOf (v .body .store .pools) [] (mask-small [] (lit≤ tt)) (λ p e. mask-small (of (v .body .store .pools) p []) (S .body .store .pools p e .1)) i)
       also (λ i r. entries-small length (v .body .store .pools) [] (lit< tt) (λ p e. omega (arith, S .body .store .pools p e .1)) i)
       also mail-link-small v S lines (line-small v S) also mail-link-small v S (λ q. reverse (lines q)) (back-small v S)
-      also (λ k r. word-small (systemWords (v .body)) system-small k) also tt))
+      also (λ k r. word-small (systemWords (v .body)) system-small k) also (λ k r. word-small (handlingWords (v .body)) handling-small k) also tt))
 
   pub marks-fit : Fits32 (marksOf v)
   unfolding marksOf

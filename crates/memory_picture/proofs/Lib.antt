@@ -8,6 +8,7 @@ pub mod TaskActs
 pub mod StoreActs
 pub mod PoolBits
 pub mod Ages
+pub mod HandlerActs
 pub mod Perform
 pub mod FormPile
 pub mod FormWords

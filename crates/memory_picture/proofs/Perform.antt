@@ -1,7 +1,7 @@
 -- Each act of the rules, done on a memory, keeps the links whole and takes the view that the memory shows to the view after the act.
 use mathlib.Core.List.{List}
 use Prim.Native.Nat.{ℕ}
-use Rattle.rules.specs.Acts.{Act, start, retire, rotate, regrade, wait, release, suspend, resume, wakeups, count, pattern, post, receive, mark, elapse}
+use Rattle.rules.specs.Acts.{Act, start, retire, rotate, regrade, wait, release, suspend, resume, wakeups, count, pattern, post, receive, mark, elapse, nest}
 use Rattle.rules.specs.View.{act}
 use Rattle.memory_picture.specs.Picture.{bodyShown, viewShown, Accepted, Shows}
 use Rattle.memory_picture.specs.Perform.{performed, performedMarks, Fit}
@@ -9,6 +9,7 @@ use Rattle.memory_picture.proofs.Done.{Done, shows-done}
 use Rattle.memory_picture.proofs.TaskActs.{start-done, retire-done, rotate-done, regrade-done, wait-act-done, release-done, suspend-done, resume-done, wakeups-done}
 use Rattle.memory_picture.proofs.StoreActs.{count-done, pattern-done, post-done, receive-done, mark-done}
 use Rattle.memory_picture.proofs.Ages.{elapse-done}
+use Rattle.memory_picture.proofs.HandlerActs.{nest-done}
 
 act-done : (a : Act) (b msgs : List ℕ) → Accepted b msgs → Fit (bodyShown b msgs) a → Done a b msgs (performed a b) (performedMarks a msgs)
 unfolding performed performedMarks bodyShown
@@ -27,6 +28,7 @@ act-done (post j m) b msgs A f = post-done b msgs A j (f .0) m (f .1) (f .2)
 act-done (receive j) b msgs A f = receive-done b msgs A j f
 act-done (mark p k t) b msgs A f = mark-done b msgs A p (f .0) k t (f .1)
 act-done elapse b msgs A f = elapse-done b msgs A (A .whole .low)
+act-done (nest h) b msgs A f = nest-done b msgs A h
 
 pub perform-law : (a : Act) (b msgs : List ℕ) → Accepted b msgs → Fit (bodyShown b msgs) a → Shows (performed a b) (performedMarks a msgs) (act a (viewShown b msgs))
 perform-law a b msgs A f = shows-done a b msgs (performed a b) (performedMarks a msgs) (A .whole) (act-done a b msgs A f)

@@ -20,7 +20,7 @@ use Rattle.memory_columns.specs.Layout.{Column, taskColumns, objectColumns, sam
 use Rattle.memory_columns.proofs.Tiling.{either-right}
 use Rattle.memory_columns.proofs.Frame.{Sized, put-size, put-apart, words-put, entry-other, only-none, only-on, only-first, task-column, object-column, clear-apart, put-among, allClear, all-clear}
 use Rattle.memory_queues.specs.Moves.{queued, unqueued}
-use Rattle.memory_picture.specs.Picture.{codeOf, waitShown, stateShown, taskShown, messageShown, poolShown, messagesShown, clockShown, storeShown, anchor}
+use Rattle.memory_picture.specs.Picture.{codeOf, waitShown, stateShown, taskShown, messageShown, poolShown, messagesShown, clockShown, storeShown, openShown, handlersShown, anchor}
 use Rattle.memory_queues.proofs.Relinks.{queued-law, unqueued-law}
 use Rattle.memory_picture.proofs.Lines.{Step, rest, out, to, nextAfter, prevAfter}
 
@@ -110,6 +110,12 @@ unfolding storeShown
 store-stays b c msgs marks F h k =
     store-kept b c msgs marks F h (λ i r. ap (λ (m : List ℕ). getD m i 0) (F .kept Layout.system k))
     ∙ (λ z. with-clock (getD (F .kept Layout.system k z) Layout.clockLow 0 + 2 ^ 32 * getD (F .kept Layout.system k z) Layout.clockHigh 0) (with-messages (map (λ j. messageShown (of marks j 0)) (ids (messagesShown b))) (storeShown b msgs)))
+
+-- ---- the handlers
+
+pub handlers-kept : {l : List Column} {b c : List ℕ} → Only l b c → clear l Layout.handling ≡ true → handlersShown c ≡ handlersShown b
+unfolding handlersShown
+handlers-kept F h = ap (λ (m : List ℕ). openShown (getD m Layout.depth 0) (getD m Layout.interrupted 0)) (F .kept Layout.handling h)
 
 -- ---- one task is touched
 

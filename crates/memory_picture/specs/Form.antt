@@ -7,14 +7,14 @@ use Prim.Native.Nat.{ℕ, suc, _+_, _-_, _*_, _/_, _%_, _^_, _<_}
 use lib.Dec.{eqb, leb}
 use lib.ListN.{length, getD}
 use Rattle.rules.specs.Ids.{of, from, once}
-use Rattle.rules.specs.State.{semaphore, flag, mailbox, pool, Wait, asleep, timed, on, State, dormant, ready, suspended, waiting, waiting-suspended, Body, task}
+use Rattle.rules.specs.State.{semaphore, flag, mailbox, pool, Wait, asleep, timed, on, State, dormant, ready, suspended, waiting, waiting-suspended, depth, Body, task}
 use Rattle.rules.specs.Places.{Place, readyAt, waiters, mail, lineAt}
 use Rattle.rules.specs.View.{View}
 use Rattle.memory_rings.specs.Rings.{All, headOf}
 use Rattle.memory_columns.specs.Layout as Layout
 use Rattle.memory_columns.specs.Layout.{Column, maxPriorities, maxObjects, maxMessages, readyNode, waitNode, mailNode, same}
 use Rattle.memory_picture.specs.Picture.{kindNumber, anchor}
-use Rattle.memory_picture.specs.Perform.{codeKept}
+use Rattle.memory_picture.specs.Perform.{codeKept, interruptedKept}
 
 -- every entry is a 32-bit word
 abbrev pub Fits32 : List ℕ → Type 0
@@ -137,6 +137,9 @@ systemWords b =
     b .store .priorities ∷ length (b .tasks) ∷ length (b .store .semaphores) ∷ length (b .store .flags) ∷ b .store .mailboxes ∷ length (b .store .pools)
     ∷ length (b .store .messages) ∷ b .store .clock % 2 ^ 32 ∷ b .store .clock / 2 ^ 32 ∷ []
 
+abbrev pub handlingWords : Body → List ℕ
+handlingWords b = depth (b .handlers) ∷ interruptedKept (b .handlers) ∷ []
+
 -- the link of a node among the rings of tasks, and of messages; back is the same of the lines turned round
 unfoldable pub taskLink : Body → (Place → List ℕ) → ℕ → ℕ
 taskLink b L = link (length (b .tasks)) (λ i. taskHome (task b i .state) (task b i .priority)) taskPlace L
@@ -166,6 +169,7 @@ parts b L =
     ∷ part Layout.mailNext (mailLink b L)
     ∷ part Layout.mailPrev (mailLink b (λ q. reverse (L q)))
     ∷ part Layout.system (λ k. getD (systemWords b) k 0)
+    ∷ part Layout.handling (λ k. getD (handlingWords b) k 0)
     ∷ []
 
 -- the memory of a view, and the marks of its messages

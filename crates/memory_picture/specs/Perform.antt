@@ -6,15 +6,15 @@ use mathlib.Core.Path.{_≡_}
 use Prim.Native.Nat.{ℕ}
 use lib.ListN.{length}
 use Rattle.rules.specs.Ids.{of, put, In}
-use Rattle.rules.specs.Codes.{Code, OK, WAITS, H-STATE, H-CALL, H-PAR, E-NOEXS, E-TPRI, E-ILTIME, E-CTX, E-SELF, E-DMT, H-NODMT, H-SUS, E-NOSUS, E-NOWAI, E-QOVR, H-POLL, H-MSG, H-ILBLK, E-TMOUT, E-RLWAI}
-use Rattle.rules.specs.State.{Wait, asleep, timed, on, Body, task, isReady}
-use Rattle.rules.specs.Acts.{Act, start, retire, rotate, regrade, wait, release, suspend, resume, wakeups, count, pattern, post, receive, mark, elapse}
+use Rattle.rules.specs.Codes.{Code, OK, WAITS, H-STATE, H-CALL, H-PAR, E-NOEXS, E-TPRI, E-ILTIME, E-CTX, E-SELF, E-DMT, H-NODMT, H-SUS, E-NOSUS, E-NOWAI, E-QOVR, H-POLL, H-MSG, H-NEST, H-ILBLK, E-TMOUT, E-RLWAI}
+use Rattle.rules.specs.State.{Wait, asleep, timed, on, Handlers, no-handler, in-handler, depth, Body, task, isReady}
+use Rattle.rules.specs.Acts.{Act, start, retire, rotate, regrade, wait, release, suspend, resume, wakeups, count, pattern, post, receive, mark, elapse, nest}
 use Rattle.rules.specs.Objects.{laid}
 use Rattle.rules.specs.Sound.{WaitNumbers}
 use Rattle.memory_columns.specs.Layout as Layout
 use Rattle.memory_queues.specs.Moves.{mailAnchor, mailed, unmailed}
 use Rattle.memory_tasks.specs.Moves.{rotated, started, retired, regraded, halted, resumed, released, slept, waited}
-use Rattle.memory_objects.specs.Moves.{marked, elapsed}
+use Rattle.memory_objects.specs.Moves.{marked, elapsed, nested}
 use Rattle.memory_picture.specs.Picture.{codeOf, kindNumber}
 
 -- the number by which a cell keeps a code; no cell keeps any other
@@ -39,6 +39,7 @@ codeKept E-NOWAI = 3
 codeKept E-QOVR = 3
 codeKept H-POLL = 3
 codeKept H-MSG = 3
+codeKept H-NEST = 3
 codeKept H-ILBLK = 3
 
 -- task i put into a wait
@@ -46,6 +47,11 @@ unfoldable pub put-to-wait : ℕ → Wait → List ℕ → List ℕ
 put-to-wait i asleep b = slept i 0 0 b
 put-to-wait i (timed t) b = slept i 1 t b
 put-to-wait i (on k o p m) b = waited i (kindNumber k) o p m b
+
+-- the interrupted task as the memory keeps it: 0 while no handler is open
+abbrev pub interruptedKept : Handlers → ℕ
+interruptedKept no-handler = 0
+interruptedKept (in-handler n i) = i
 
 -- the words after an act
 unfoldable pub performed : Act → List ℕ → List ℕ
@@ -64,6 +70,7 @@ performed (post j m) b = mailed (mailAnchor m) j b
 performed (receive j) b = unmailed j b
 performed (mark p k t) b = marked p k t b
 performed elapse b = elapsed b
+performed (nest h) b = nested (depth h) (interruptedKept h) b
 
 -- the marks of the messages after an act
 unfoldable pub performedMarks : Act → List ℕ → List ℕ
@@ -82,6 +89,7 @@ performedMarks (post j b) m = put m j b
 performedMarks (receive j) m = put m j 0
 performedMarks (mark p k t) m = m
 performedMarks elapse m = m
+performedMarks (nest h) m = m
 
 -- what an act names is there
 abbrev pub Fit : Body → Act → Type 0
@@ -102,3 +110,4 @@ Fit b (post j m) = In j (length (b .store .messages)) × In m (b .store .mailbox
 Fit b (receive j) = In j (length (b .store .messages))
 Fit b (mark p k t) = In p (length (b .store .pools)) × In k (length (of (b .store .pools) p []))
 Fit b elapse = Unit {0}
+Fit b (nest h) = Unit {0}

@@ -9,7 +9,7 @@ use lib.Dec.{eqb}
 use lib.ListN.{length}
 use Rattle.rules.specs.Ids.{of, ids}
 use Rattle.rules.specs.Codes.{Code, OK, H-STATE, E-TMOUT, E-RLWAI}
-use Rattle.rules.specs.State.{Kind, semaphore, flag, mailbox, pool, Wait, asleep, timed, on, State, dormant, ready, suspended, waiting, waiting-suspended, Task, Store, Body}
+use Rattle.rules.specs.State.{Kind, semaphore, flag, mailbox, pool, Wait, asleep, timed, on, State, dormant, ready, suspended, waiting, waiting-suspended, Task, Store, Handlers, no-handler, in-handler, Body}
 use Rattle.rules.specs.Places.{Place, readyAt, waiters, mail, Exists, tabulate}
 use Rattle.rules.specs.View.{View}
 use Rattle.rules.specs.Sound.{Sound}
@@ -81,8 +81,16 @@ storeShown b msgs = record {
   clock = clockShown b;
 }
 
+-- how many handlers are open, and the interrupted task, which is no part of the picture while none is
+abbrev pub openShown : ℕ → ℕ → Handlers
+openShown zero i = no-handler
+openShown (suc n) i = in-handler n i
+
+unfoldable pub handlersShown : List ℕ → Handlers
+handlersShown b = openShown (entry Layout.handling b Layout.depth) (entry Layout.handling b Layout.interrupted)
+
 unfoldable pub bodyShown : List ℕ → List ℕ → Body
-bodyShown b msgs = record { tasks = map (taskShown b) (ids (tasksShown b)); store = storeShown b msgs }
+bodyShown b msgs = record { tasks = map (taskShown b) (ids (tasksShown b)); store = storeShown b msgs; handlers = handlersShown b }
 
 -- ---- queues
 

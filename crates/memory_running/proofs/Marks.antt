@@ -1,7 +1,7 @@
--- The loop over priorities, the search in the word of one-bit marks, and the best task, step by step. Assumes nothing.
+-- The loop over priorities, the search in the word of one-bit marks, the best task and the running task, step by step. Assumes nothing.
 use Prim.Native.Nat.{ℕ, zero, suc, _+_, _-_, _*_, _/_, _%_, _^_, _≤_, _<_}
-use mathlib.Core.Path.{_≡_, refl, _∙_}
-use mathlib.Core.Bool.{cond}
+use mathlib.Core.Path.{_≡_, refl, sym, _∙_}
+use mathlib.Core.Bool.{Bool, true, false, cond, not, true≢false}
 use mathlib.Core.List.{List}
 use native.Mathlib.Numerals.{add-one, sub-one}
 use native.Mathlib.Omega.{arith}
@@ -9,12 +9,15 @@ use borrow.Author.Tests.{ne-eqb}
 use lib.Bits.{bitOr}
 use lib.Count.{under, trailingZeros}
 use lib.Dec.{eqb}
+use Rattle.rules.specs.State.{Handlers, no-handler, in-handler, isOpen}
+use Rattle.rules.specs.View.{reported}
 use Rattle.memory_rings.specs.Links.{firstOf}
 use Rattle.memory_columns.specs.Layout as Layout
 use Rattle.memory_columns.specs.Layout.{maxPriorities, words, entry, atMost}
 use Rattle.memory_queues.specs.Moves.{readyAnchor}
 use Rattle.memory_objects.proofs.Steps.{one-bit}
-use Rattle.memory_running.specs.Running.{headAt, marksOf, lowestMark, bestOf}
+use Rattle.memory_picture.specs.Picture.{openShown, handlersShown}
+use Rattle.memory_running.specs.Running.{headAt, marksOf, lowestMark, bestOf, runningOf}
 
 -- the lowest set bit stands above as many bits as are 0 before it; n of the k bits are searched, the first of them being place p
 pub lowest-at : (n k p w : ℕ) → n ≤ k → trailingZeros k w < n → trailingZeros k w + p ≡ lowestMark n p w
@@ -72,3 +75,30 @@ module _ (b : List ℕ) {s n m p : ℕ} (es : s ≡ entry Layout.system b Layout
   pub best-first : {a r : ℕ} → (p ≡ 0 → ⊥) → a ≡ readyAnchor p → r ≡ firstOf (words Layout.next b) a → r ≡ bestOf b
   unfolding bestOf
   best-first h ea er = er ∙ rw (ea, ← found, ne-eqb p 0 h)
+
+-- ---- the running task
+
+module _ (b : List ℕ) where
+  pub open-read : {d : ℕ} → d ≡ entry Layout.handling b Layout.depth → not (eqb d 0) ≡ isOpen (handlersShown b)
+  unfolding handlersShown
+  open-read {d} e = rw (← e) (go d)
+    where
+      go : (d : ℕ) → not (eqb d 0) ≡ isOpen (openShown d (entry Layout.handling b Layout.interrupted))
+      go zero = refl
+      go (suc n) = rw (ne-eqb (suc n) 0 (λ z. omega arith))
+
+  pub running-best : {t : Bool} {r : ℕ} → t ≡ isOpen (handlersShown b) → t ≡ false → r ≡ bestOf b → r ≡ runningOf b
+  unfolding runningOf
+  running-best {r = r} e z f = go (handlersShown b) (sym e ∙ z)
+    where
+      go : (x : Handlers) → isOpen x ≡ false → r ≡ reported x (bestOf b)
+      go no-handler k = f
+      go (in-handler n i) k = absurd (true≢false k)
+
+  pub running-interrupted : {t : Bool} {r : ℕ} → t ≡ isOpen (handlersShown b) → t ≡ true → r ≡ entry Layout.handling b Layout.interrupted → r ≡ runningOf b
+  unfolding runningOf handlersShown
+  running-interrupted {r = r} e z f = go (entry Layout.handling b Layout.depth) (sym e ∙ z)
+    where
+      go : (d : ℕ) → isOpen (openShown d (entry Layout.handling b Layout.interrupted)) ≡ true → r ≡ reported (openShown d (entry Layout.handling b Layout.interrupted)) (bestOf b)
+      go zero k = absurd (true≢false (sym k))
+      go (suc n) k = f

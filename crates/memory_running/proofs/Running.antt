@@ -6,13 +6,13 @@ use native.Mathlib.Omega.{arith}
 use borrow.Author.Tests.{le-leb}
 use Rattle.rules.specs.Ids.{ids, first}
 use Rattle.rules.specs.Places.{readyAt, tabulate}
-use Rattle.rules.specs.View.{best, running}
+use Rattle.rules.specs.View.{best, reported, running}
 use Rattle.memory_rings.specs.Links.{firstOf}
 use Rattle.memory_rings.proofs.Laws.{first-law}
 use Rattle.memory_columns.specs.Layout as Layout
 use Rattle.memory_columns.specs.Layout.{maxPriorities, words, entry}
 use Rattle.memory_queues.specs.Moves.{readyAnchor}
-use Rattle.memory_picture.specs.Picture.{tasksShown, storeShown, bodyShown, anchor, lineShown, viewShown, ready-queue, Accepted}
+use Rattle.memory_picture.specs.Picture.{tasksShown, storeShown, handlersShown, bodyShown, anchor, lineShown, viewShown, ready-queue, Accepted}
 use Rattle.memory_running.specs.Running.{headAt, bestOf, runningOf}
 use Rattle.memory_running.proofs.Lowest.{HeadOf, head-of, lowest-first}
 
@@ -31,5 +31,5 @@ best-law b msgs A = rw (le-leb (entry Layout.system b Layout.priorities) maxPrio
         at = rw (le-leb p maxPriorities (omega (arith, few)))
 
 pub running-law : (b msgs : List ℕ) → Accepted b msgs → runningOf b ≡ running (viewShown b msgs)
-unfolding runningOf running
-running-law b msgs A = best-law b msgs A
+unfolding runningOf running viewShown bodyShown
+running-law b msgs A = ap (reported (handlersShown b)) (best-law b msgs A)

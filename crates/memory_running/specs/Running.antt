@@ -5,10 +5,12 @@ use mathlib.Core.List.{List}
 use Prim.Native.Nat.{ℕ, zero, suc, pred, _/_, _%_, _^_}
 use lib.Bits.{bitOr}
 use lib.Dec.{eqb}
+use Rattle.rules.specs.View.{reported}
 use Rattle.memory_rings.specs.Links.{firstOf}
 use Rattle.memory_columns.specs.Layout as Layout
 use Rattle.memory_columns.specs.Layout.{maxPriorities, words, entry, atMost}
 use Rattle.memory_queues.specs.Moves.{readyAnchor}
+use Rattle.memory_picture.specs.Picture.{handlersShown}
 
 -- the first of the ready queue of a priority, 0 if it is empty
 abbrev pub headAt : List ℕ → ℕ → ℕ
@@ -30,6 +32,6 @@ bestOf b =
     let p : ℕ = lowestMark (atMost (entry Layout.system b Layout.priorities) maxPriorities) 1 (marksOf maxPriorities 1 0 b) in
     cond (eqb p 0) 0 (headAt b p)
 
--- the running task is the best
+-- the running task is the best; while a handler is open, the interrupted one
 unfoldable pub runningOf : List ℕ → ℕ
-runningOf b = bestOf b
+runningOf b = reported (handlersShown b) (bestOf b)

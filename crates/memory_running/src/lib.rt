@@ -1,14 +1,20 @@
-// The best task, the head of the nonempty ready queue with the smallest priority number; and the running task, which is the best.
+// The best task, the head of the nonempty ready queue with the smallest priority number; and the running task, which is
+// the best while no handler is open.
+use memory_columns::DEPTH;
+use memory_columns::INTERRUPTED;
 use memory_columns::MAX_PRIORITIES;
 use memory_columns::PRIORITIES;
 use memory_columns::STATE_WORDS;
 use memory_columns::at_most;
+use memory_columns::handling;
 use memory_columns::system;
 use memory_queues::first;
 use memory_queues::ready_anchor;
 ghost use mathlib.Core.Path.{_≡_};
 ghost use Prim.Native.Nat.{_≤_};
+ghost use Rattle.rules.specs.State.{isOpen};
 ghost use Rattle.memory_columns.specs.Layout.{maxPriorities};
+ghost use Rattle.memory_picture.specs.Picture.{handlersShown};
 ghost use Rattle.memory_running.specs.Running.{marksOf, lowestMark, bestOf, runningOf};
 
 // A word with one bit for each nonempty ready queue: bit p - 1 is priority p's. All are looked at, so that the loop has one length.
@@ -50,9 +56,20 @@ pub fn best_task(words: &[u32; STATE_WORDS]) -> u32
     }
 }
 
-// The running task of such a memory.
+// Whether a handler is open.
+pub fn is_open(words: &[u32; STATE_WORDS]) -> bool
+    ensures { λ r. ⌜ r ≡ isOpen (handlersShown (now (words .entry))) ⌝ }
+{
+    handling(words, DEPTH) != 0
+}
+
+// The running task of such a memory: while a handler is open, the one that the outermost handler interrupted.
 pub fn running_task(words: &[u32; STATE_WORDS]) -> u32
     ensures { λ r. ⌜ r ≡ runningOf (now (words .entry)) ⌝ }
 {
-    best_task(words)
+    if is_open(words) {
+        handling(words, INTERRUPTED)
+    } else {
+        best_task(words)
+    }
 }

@@ -78,6 +78,22 @@ pub extern "C" fn okrozumba_tick(words: &mut [u32; STATE_WORDS], messages: &[u32
     kernel_events::tick(words, messages)
 }
 
+// The entry of a handler.
+#[no_mangle]
+pub extern "C" fn okrozumba_enter(words: &mut [u32; STATE_WORDS], messages: &[u32; 256]) -> Answer
+    ensures { λ r. ⌜ Step Events.enter (now (words .entry)) (now (messages .entry)) (reply (r .code) (r .w1) (r .w2) (r .running) (r .released)) (now (words .exit)) (now (messages .entry)) ⌝ }
+{
+    kernel_events::enter(words, messages)
+}
+
+// The return of a handler.
+#[no_mangle]
+pub extern "C" fn okrozumba_leave(words: &mut [u32; STATE_WORDS], messages: &[u32; 256]) -> Answer
+    ensures { λ r. ⌜ Step Events.exit (now (words .entry)) (now (messages .entry)) (reply (r .code) (r .w1) (r .w2) (r .running) (r .released)) (now (words .exit)) (now (messages .entry)) ⌝ }
+{
+    kernel_events::leave(words, messages)
+}
+
 // ---- reading
 
 // The cell of a task: H_STATE if the state is damaged, then E_NOEXS for a bad id, each with word 0.

@@ -232,6 +232,7 @@ module _ (u : Setup) (g : GoodSetup u) where
       clock = lit< tt;
     };
     tasks = λ i r. each-of (SoundTask (idle u .store)) _ i nobody (each-map _ _ idleTask (u .tasks) idle-task (g .starts)) r;
+    handlers = tt;
   }
 
   idle-unserved : AllUnserved (idle u)

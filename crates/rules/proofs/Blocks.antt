@@ -16,15 +16,16 @@ use Rattle.rules.specs.Ids.{of, put, ids, In, once, times}
 use Rattle.rules.specs.Codes.{Code, OK, E-TMOUT, E-RLWAI, H-POLL, number}
 use Rattle.rules.specs.State.{Kind, semaphore, flag, mailbox, pool, Wait, asleep, timed, on, State, dormant, ready, suspended, waiting, waiting-suspended, Task, Body, task, nobody, objects, waitOf, wish, isDormant, isWaiting, isFreed, sleeps}
 use Rattle.rules.specs.Places.{waiters, belongs, sameKind, waitsOn, awaits}
-use Rattle.rules.specs.Events.{Event, tick, call, nat, outside}
-use Rattle.rules.specs.Acts.{Act, start, retire, rotate, regrade, wait, release, suspend, resume, wakeups, count, pattern, post, receive, mark, elapse, change, started, retired, freed, releasedTask, halted, resumed, older, with-state, with-priority, with-wakeups, with-cell, after, afters}
+use Rattle.rules.specs.Events.{Event, tick, enter, exit, call, nat, outside}
+use Rattle.rules.specs.Acts.{Act, start, retire, rotate, regrade, wait, release, suspend, resume, wakeups, count, pattern, post, receive, mark, elapse, nest, change, started, retired, freed, releasedTask, halted, resumed, older, with-state, with-priority, with-wakeups, with-cell, after, afters}
 use Rattle.rules.specs.View.{View, line}
 use Rattle.rules.specs.Verdicts.{Verdict, refuse}
 use Rattle.rules.specs.Tasks.{stateOf, starting, sta-tsk, ext-tsk, ter-tsk, chg-pri, rot-rdq, rel-wai, sus-tsk, rsm-tsk, take-wakeup, slp-tsk, wai-tsk, waking, wup-tsk, can-wup, get-tid, tsk-sts}
 use Rattle.rules.specs.Objects.{waits-on, to-first, obj-sts, met, left, serve-flag, sig-sem, take-sem, set-flg, clr-flg, take-flg, snd-msg, take-msg, blocksOf, lowest, take-blk, rel-blk}
 use Rattle.rules.specs.Time.{get-tim, ending, endings, timeout, ticked}
+use Rattle.rules.specs.Handling.{entered, exited}
 use Rattle.rules.specs.Rows.{staTsk, extTsk, terTsk, chgPri, rotRdq, relWai, susTsk, rsmTsk, slpTsk, waiTsk, wupTsk, canWup, sigSem, waiSem, preqSem, setFlg, clrFlg, waiFlg, polFlg, sndMsg, rcvMsg, prcvMsg, getBlk, pgetBlk, relBlk, getTid, tskSts, semSts, flgSts, mbxSts, mplSts, getTim}
-use Rattle.rules.specs.Table.{caller, table, judge}
+use Rattle.rules.specs.Table.{caller, handles, table, judge}
 use Rattle.rules.specs.Sound.{Sound}
 use Rattle.rules.specs.Answers.{Answer, answer}
 use Rattle.rules.specs.Kernel.{next, served}
@@ -121,6 +122,7 @@ Still-act b (post j m) = Unit {0}
 Still-act b (receive j) = Unit {0}
 Still-act b (mark p k t) = ⊥
 Still-act b elapse = Unit {0}
+Still-act b (nest h) = Unit {0}
 
 -- one task is changed
 changed : (f : Task → Task) (j : ℕ) (b : Body) → ((t : Task) → t ≡ task b j → Empty-handed t (f t)) → (i : ℕ) → Empty-handed (task b i) (task (change f j b) i)
@@ -144,6 +146,7 @@ act-empty (post j m) b d = λ i. empty-same (task b i)
 act-empty (receive j) b d = λ i. empty-same (task b i)
 act-empty (mark p k t) b d = absurd d
 act-empty elapse b d = λ i. map-each Empty-handed empty-same (λ t. with-state (older (t .state)) t) (λ t. pools-empty t (with-state (older (t .state)) t) (older-pools t)) (b .tasks) i nobody
+act-empty (nest h) b d = λ i. empty-same (task b i)
 
 act-pools : (a : Act) (b : Body) → Still-act b a → after a b .store .pools ≡ b .store .pools
 unfolding after
@@ -162,6 +165,7 @@ act-pools (post j m) b d = refl
 act-pools (receive j) b d = refl
 act-pools (mark p k t) b d = absurd d
 act-pools elapse b d = refl
+act-pools (nest h) b d = refl
 
 -- ---- a list of acts: releases of tasks that wait on no pool, a pattern set, a tick gone by
 
@@ -449,11 +453,21 @@ module _ (v : View) (s : Sound v) (x a y z : ℤ) (p k : ℕ) (rp : In p (length
 
 -- ---- an event
 
+enter-still : (v : View) → StillVerdict (v .body) (entered v)
+unfolding entered
+enter-still v = search calm depth 9
+
+exit-still : (v : View) → StillVerdict (v .body) (exited v)
+unfolding exited
+exit-still v = search calm depth 9
+
 -- the account of every block at every event on a sound state
 pub event-balance : (v : View) → Sound v → (e : Event) (p k : ℕ) → In p (length (v .body .store .pools)) → In k (length (of (v .body .store .pools) p []))
     → Balance (v .body) (next v e .body) (taken e (number (served v e .answer .code)) (served v e .answer .w1) p k) (returned e (number (served v e .answer .code)) p k) p k
-unfolding next served answer judge ticked ok number
+unfolding next served answer judge ticked entered exited ok number
 event-balance v s tick p k rp rk = rw (body-acts (ticked v .acts) v) (still-balance (v .body) _ (tick-still (v .body)) p k)
+event-balance v s enter p k rp rk = rw (body-acts (entered v .acts) v) (elim (enter-still v) [ on-acts g ↦ still-balance (v .body) _ g p k ])
+event-balance v s exit p k rp rk = rw (body-acts (exited v .acts) v) (elim (exit-still v) [ on-acts g ↦ still-balance (v .body) _ g p k ])
 event-balance v s (call x n a y z) p k rp rk =
     rw (body-acts (judge v (call x n a y z) .acts) v)
-    (elim (by-call (Books v s x a y z p k rp rk) (no-way v s x a y z p k rp rk) v a y z (λ h. rows v s x a y z p k rp rk h (caller v h)) x n) [ books h ↦ h ])
+    (elim (by-call (Books v s x a y z p k rp rk) (no-way v s x a y z p k rp rk) v a y z (λ h. rows v s x a y z p k rp rk (handles v h) (caller v h)) x n) [ books h ↦ h ])

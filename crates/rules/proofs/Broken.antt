@@ -11,7 +11,7 @@ use borrow.Author.Tests.{not-false}
 use Rattle.rules.specs.Codes.{Code, H-CALL, E-NOEXS, E-CTX, E-SELF, E-DMT, E-NOWAI, E-RLWAI, number, negative, refuses}
 use Rattle.rules.specs.State.{Body, task, nobody, isWaiting}
 use Rattle.rules.specs.Events.{Event, call, Words, AllWords, nat, outside}
-use Rattle.rules.specs.Acts.{release, releasedTask, after, afters}
+use Rattle.rules.specs.Acts.{wait, release, releasedTask, after, afters}
 use Rattle.rules.specs.View.{View}
 use Rattle.rules.specs.Verdicts.{Verdict, refuse, check}
 use Rattle.rules.specs.Tasks.{rel-wai}
@@ -25,15 +25,17 @@ use Rattle.rules.proofs.Ids.{of-put-same, length-put}
 use Rattle.rules.proofs.Sizes.{sizes-afters}
 use Rattle.rules.proofs.Waits.{in-by}
 use Rattle.rules.proofs.Cells.{body-acts, Kept, nothing, one, list-kept}
-use Rattle.rules.proofs.Clean.{Clean, refused, given, waited, judge-clean}
+use Rattle.rules.proofs.Clean.{refused, given, waited, CleanEvent, clean-verdict, nests, judge-clean}
 use Rattle.rules.proofs.Events.{event-served, event-next, cell-reads, sound-event}
 
 -- ---- only release and sta_tsk change a cell
 
-clean-kept : (b : Body) (r : Verdict) → Clean b r → (i : ℕ) → Kept (task b i) (task (afters (r .acts) b) i)
-clean-kept b r (refused c n) = list-kept b [] nothing
-clean-kept b r (given x y l g) = list-kept b l g
-clean-kept b r (waited i w) = list-kept b _ (one _ tt)
+clean-kept : (b : Body) (r : Verdict) → CleanEvent b r → (i : ℕ) → Kept (task b i) (task (afters (r .acts) b) i)
+unfolding after afters
+clean-kept b r (clean-verdict (refused c n)) = list-kept b [] nothing
+clean-kept b r (clean-verdict (given x y l g)) = list-kept b l g
+clean-kept b r (clean-verdict (waited i w)) = list-kept b _ (one (wait i w) tt)
+clean-kept b r (nests h) = λ i. inl refl
 
 -- a task whose cell an event changed was released or started by it, as the states before and after tell
 pub cell-kept : (v : View) (e : Event) (i : ℕ) → Kept (task (v .body) i) (task (next v e .body) i)

@@ -16,23 +16,25 @@ use lib.ListN.{length}
 use borrow.Author.Tests.{eqb-true, eqb-false, eq-eqb, ne-eqb, leb-false, not-false}
 use Rattle.rules.specs.Ids.{of, ids, In, once, times}
 use Rattle.rules.specs.Codes.{Code, OK, E-TMOUT}
-use Rattle.rules.specs.State.{Kind, semaphore, flag, mailbox, pool, Wait, on, State, dormant, ready, suspended, waiting, waiting-suspended, Task, Body, task, nobody, objects, waitOf, isDormant, isWaiting, sleeps, wish}
+use Rattle.rules.specs.State.{Kind, semaphore, flag, mailbox, pool, Wait, on, State, dormant, ready, suspended, waiting, waiting-suspended, Task, no-handler, depth, Body, task, nobody, objects, waitOf, isDormant, isWaiting, sleeps, wish}
 use Rattle.rules.specs.Places.{waiters, mail, belongs, awaits, lies}
 use Rattle.rules.specs.Setup.{Entry}
-use Rattle.rules.specs.Events.{Event, tick, call, Word, Words, nat, bits, outside, above}
+use Rattle.rules.specs.Events.{Event, tick, enter, exit, call, Word, Words, nat, bits, outside, above}
 use Rattle.rules.specs.Acts.{Act, start, wait, release, wakeups, elapse, after, freed, releasedTask, with-state, with-cell}
 use Rattle.rules.specs.View.{View, line, act, acts}
 use Rattle.rules.specs.Verdicts.{Verdict, waits}
 use Rattle.rules.specs.Tasks.{stateOf, starting, sta-tsk, ext-tsk, ter-tsk, chg-pri, rot-rdq, rel-wai, sus-tsk, rsm-tsk, take-wakeup, slp-tsk, wai-for, wai-tsk, waking, wup-tsk, can-wup, get-tid, tsk-sts}
 use Rattle.rules.specs.Objects.{to-first, obj-sts, countOf, sig-sem, take-sem, patternOf, met, left, serve-flag, set-flg, clr-flg, take-flg, snd-msg, take-msg, blocksOf, lowest, free, take-blk, rel-blk}
 use Rattle.rules.specs.Time.{get-tim, ending, endings, timeout, ticked}
+use Rattle.rules.specs.Handling.{entered, exited}
 use Rattle.rules.specs.Rows.{staTsk, extTsk, terTsk, chgPri, rotRdq, relWai, susTsk, rsmTsk, slpTsk, waiTsk, wupTsk, canWup, sigSem, waiSem, preqSem, setFlg, clrFlg, waiFlg, polFlg, sndMsg, rcvMsg, prcvMsg, getBlk, pgetBlk, relBlk, getTid, tskSts, semSts, flgSts, mbxSts, mplSts, getTim}
-use Rattle.rules.specs.Table.{table, caller, judge}
+use Rattle.rules.specs.Table.{table, caller, handles, judge}
 use Rattle.rules.specs.Sound.{WishNumbers, WaitNumbers, anyLies, would-serve, Unserved, AllUnserved, SoundBody, Sound}
 use Rattle.rules.specs.Kernel.{starts, next}
 use Rattle.rules.proofs.Ids.{of-put-other, put-either, inside, tested, times-keep, times-ids}
 use Rattle.rules.proofs.Keeps.{NoneAt, Asks, Pre, asks-waits}
 use Rattle.rules.proofs.Queues.{sound-act, body-act, empty-belongs, none-waits, belongs-stands}
+use Rattle.rules.proofs.Handling.{calls-alone, inner-fits, outer-fits}
 use Rattle.rules.proofs.Waits.{in-by, waits-asks}
 use Rattle.rules.proofs.Judge.{_⊗_, AllRows, OnActs, on-acts, acts-check, acts-choose, acts-first, acts-count, acts-call}
 
@@ -305,13 +307,13 @@ module _ (v : View) (h : Sound v) where
   unfolding sta-tsk
   sta-fine a = starting-fine (nat a)
 
-  ext-fine : (me : ℕ) → Fine b (ext-tsk me)
+  ext-fine : (me : ℕ) → b .handlers ≡ no-handler → Fine b (ext-tsk me)
   unfolding ext-tsk
-  ext-fine me = on-acts (tt, tt)
+  ext-fine me z = on-acts (z, tt)
 
-  ter-fine : (a : ℤ) → Fine b (ter-tsk a)
+  ter-fine : (a : ℤ) → b .handlers ≡ no-handler → Fine b (ter-tsk a)
   unfolding ter-tsk
-  ter-fine a = on-acts (tt, tt)
+  ter-fine a z = on-acts (z, tt)
 
   chg-fine : (a p : ℤ) → In (nat p) (b .store .priorities) → isDormant (stateOf v a) ≡ false → Fine b (chg-pri a p)
   unfolding chg-pri
@@ -338,19 +340,19 @@ module _ (v : View) (h : Sound v) where
   unfolding take-wakeup
   wakeup-fine me r f = acts-count f (λ k e. on-acts ((omega (arith, wakeups-few b s me), λ t. absurd (stored-awake b s me k e .0 t), λ t. absurd (stored-awake b s me k e .1 t)), tt))
 
-  slp-fine : (me : ℕ) → Fine b (slp-tsk v me)
+  slp-fine : (me : ℕ) → b .handlers ≡ no-handler → Fine b (slp-tsk v me)
   unfolding slp-tsk
-  slp-fine me = wakeup-fine me _ (λ e. on-acts (λ r. (tt, tt, λ t. e), tt))
+  slp-fine me z = wakeup-fine me _ (λ e. on-acts ((z, λ r. (tt, tt, λ t. e)), tt))
 
-  for-fine : (me : ℕ) (a : ℤ) → Word a → task b me .wakeups ≡ 0 → Fine b (wai-for me a)
+  for-fine : (me : ℕ) (a : ℤ) → b .handlers ≡ no-handler → Word a → task b me .wakeups ≡ 0 → Fine b (wai-for me a)
   unfolding wai-for
-  for-fine me (pos zero) w e = on-acts tt
-  for-fine me (pos (suc t)) w e = on-acts (λ r. ((omega arith, omega arith), tt, λ t. e), tt)
-  for-fine me (negsuc t) w e = on-acts (λ r. (tt, tt, λ t. e), tt)
+  for-fine me (pos zero) z w e = on-acts tt
+  for-fine me (pos (suc t)) z w e = on-acts ((z, λ r. ((omega arith, omega arith), tt, λ t. e)), tt)
+  for-fine me (negsuc t) z w e = on-acts ((z, λ r. (tt, tt, λ t. e)), tt)
 
-  wai-fine : (me : ℕ) (a : ℤ) → Word a → Fine b (wai-tsk v me a)
+  wai-fine : (me : ℕ) (a : ℤ) → b .handlers ≡ no-handler → Word a → Fine b (wai-tsk v me a)
   unfolding wai-tsk
-  wai-fine me a w = wakeup-fine me _ (for-fine me a w)
+  wai-fine me a z w = wakeup-fine me _ (for-fine me a z w)
 
   waking-fine : (i : ℕ) → isDormant (task b i .state) ≡ false → Fine b (waking b i)
   unfolding waking
@@ -379,8 +381,9 @@ module _ (v : View) (h : Sound v) (a : ℤ) where
   first-fine k w r i z f = acts-first (λ e. f (none-waits v h k (nat a) i e)) (λ x m e. on-acts (inl (refl, z), tt))
 
   -- a caller whom the object would not serve may wait on it
-  waits-fine : (me : ℕ) (k : Kind) (p m : ℕ) → There k → WishNumbers k p m → would-serve (v .body .store) k (nat a) p m ≡ false → Fine (v .body) (waits me (on k (nat a) p m))
-  waits-fine me k p m i w n = on-acts (λ r. ((i, w), n, λ t. absurd (false≢true t)), tt)
+  waits-fine : (me : ℕ) (k : Kind) (p m : ℕ) → v .body .handlers ≡ no-handler → There k → WishNumbers k p m → would-serve (v .body .store) k (nat a) p m ≡ false
+      → Fine (v .body) (waits me (on k (nat a) p m))
+  waits-fine me k p m z i w n = on-acts ((z, λ r. ((i, w), n, λ t. absurd (false≢true t))), tt)
 
   sig-fine : There semaphore → Fine (v .body) (sig-sem v a)
   unfolding sig-sem
@@ -448,38 +451,41 @@ module _ (v : View) (h : Sound v) (x : Bool) (a p c : ℤ) (wa : Word a) (wp : W
   abbrev me : ℕ
   me = caller v x
 
+  alone : eqb me 0 ≡ false → v .body .handlers ≡ no-handler
+  alone = calls-alone v x
+
   here : (k : Kind) → outside a (objects (v .body .store) k) ≡ false → In (nat a) (objects (v .body .store) k)
   here k e = in-by a (objects (v .body .store) k) e
 
   wish-well : eqb (bits p) 0 ≡ false → above c 3 ≡ false → WishNumbers flag (bits p) (nat c)
   wish-well z m = (eqb-false (bits p) 0 z, bits-small p wp, mode-small c m)
 
-  all-rows : AllRows (λ n r. Fine (v .body) r) v x me 1 (table v me a p c)
+  all-rows : AllRows (λ n r. Fine (v .body) r) v (handles v x) me 1 (table v me a p c)
   unfolding table staTsk extTsk terTsk chgPri rotRdq relWai susTsk rsmTsk slpTsk waiTsk wupTsk canWup sigSem waiSem preqSem setFlg clrFlg waiFlg polFlg sndMsg rcvMsg prcvMsg getBlk pgetBlk relBlk getTid tskSts semSts flgSts mbxSts mplSts getTim get-tid tsk-sts obj-sts get-tim
   all-rows =
       (λ t. sta-fine v h a)
-      ⊗ (λ t. ext-fine v h me)
-      ⊗ (λ t. ter-fine v h a)
+      ⊗ (λ t. ext-fine v h me (alone (t .context)))
+      ⊗ (λ t. ter-fine v h a (alone (t .context)))
       ⊗ (λ t. chg-fine v h a p (in-by p _ (t .words .1 .0)) (t .dormant))
       ⊗ (λ t. rot-fine v h a)
       ⊗ (λ t. rel-fine v h a)
       ⊗ (λ t. sus-fine v h a)
       ⊗ (λ t. rsm-fine v h a)
-      ⊗ (λ t. slp-fine v h me)
-      ⊗ (λ t. wai-fine v h me a wa)
+      ⊗ (λ t. slp-fine v h me (alone (t .context)))
+      ⊗ (λ t. wai-fine v h me a (alone (t .context)) wa)
       ⊗ (λ t. wup-fine v h a (t .dormant))
       ⊗ (λ t. can-fine v h a)
       ⊗ (λ t. sig-fine v h a (here semaphore (t .words .0)))
-      ⊗ (λ t. sem-fine v h a _ (here semaphore (t .words .0)) (λ z. waits-fine v h a me semaphore 0 0 (here semaphore (t .words .0)) (refl, refl) (ap not (eq-eqb _ 0 z))))
+      ⊗ (λ t. sem-fine v h a _ (here semaphore (t .words .0)) (λ z. waits-fine v h a me semaphore 0 0 (alone (t .context)) (here semaphore (t .words .0)) (refl, refl) (ap not (eq-eqb _ 0 z))))
       ⊗ (λ t. sem-fine v h a _ (here semaphore (t .words .0)) (λ z. on-acts tt))
       ⊗ (λ t. set-fine v h a p wp (here flag (t .words .0)))
       ⊗ (λ t. clr-fine v h a p (here flag (t .words .0)))
-      ⊗ (λ t. flg-fine v h a p c _ (here flag (t .words .0)) (λ u. waits-fine v h a me flag (bits p) (nat c) (here flag (t .words .0)) (wish-well (t .words .1 .0) (t .words .1 .1 .0)) u))
+      ⊗ (λ t. flg-fine v h a p c _ (here flag (t .words .0)) (λ u. waits-fine v h a me flag (bits p) (nat c) (alone (t .context)) (here flag (t .words .0)) (wish-well (t .words .1 .0) (t .words .1 .1 .0)) u))
       ⊗ (λ t. flg-fine v h a p c _ (here flag (t .words .0)) (λ u. on-acts tt))
       ⊗ (λ t. snd-fine v h a p wp (here mailbox (t .words .0)))
-      ⊗ (λ t. msg-fine v h a _ (here mailbox (t .words .0)) (λ n. waits-fine v h a me mailbox 0 0 (here mailbox (t .words .0)) (refl, refl) n))
+      ⊗ (λ t. msg-fine v h a _ (here mailbox (t .words .0)) (λ n. waits-fine v h a me mailbox 0 0 (alone (t .context)) (here mailbox (t .words .0)) (refl, refl) n))
       ⊗ (λ t. msg-fine v h a _ (here mailbox (t .words .0)) (λ n. on-acts tt))
-      ⊗ (λ t. blk-fine v h a _ (λ z. waits-fine v h a me pool 0 0 (here pool (t .words .0)) (refl, refl) (ap not (eq-eqb _ 0 z))))
+      ⊗ (λ t. blk-fine v h a _ (λ z. waits-fine v h a me pool 0 0 (alone (t .context)) (here pool (t .words .0)) (refl, refl) (ap not (eq-eqb _ 0 z))))
       ⊗ (λ t. blk-fine v h a _ (λ z. on-acts tt))
       ⊗ (λ t. ret-fine v h a p wp (here pool (t .words .0)))
       ⊗ (λ t. on-acts tt)
@@ -491,12 +497,25 @@ module _ (v : View) (h : Sound v) (x : Bool) (a p c : ℤ) (wa : Word a) (wp : W
       ⊗ (λ t. on-acts tt)
       ⊗ tt
 
+-- ---- handlers
+
+module _ (v : View) (h : Sound v) where
+  enter-fine : Fine (v .body) (entered v)
+  unfolding entered
+  enter-fine = acts-check _ tt (λ e. on-acts (inner-fits v h (v .body .handlers) (omega (arith, leb-false _ (depth (v .body .handlers)) e)) (h .body .handlers), tt))
+
+  exit-fine : Fine (v .body) (exited v)
+  unfolding exited
+  exit-fine = acts-check _ tt (λ e. on-acts (outer-fits (v .body .tasks) (v .body .handlers) (h .body .handlers), tt))
+
 -- ---- an event
 
 -- each act of an event finds what it needs
 pub steps-of-judge : (v : View) (e : Event) → Sound v → Words e → Steps (v .body) (judge v e .acts)
 unfolding judge ticked
 steps-of-judge v tick h w = tick-steps (v .body) (endings (v .body)) (ends-come (v .body))
+steps-of-judge v enter h w = elim (enter-fine v h) [ on-acts k ↦ k ]
+steps-of-judge v exit h w = elim (exit-fine v h) [ on-acts k ↦ k ]
 steps-of-judge v (call x n a p c) h w = acts-call (Steps (v .body)) tt v a p c (λ y. all-rows v h y a p c (w .2) (w .3)) x n
 
 -- every event keeps a sound state sound

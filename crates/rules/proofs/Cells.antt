@@ -1,5 +1,5 @@
 -- Only release and sta_tsk change a cell: a task whose cell an event changed was released or started, as the states before and after
--- tell. Assumes nothing.
+-- tell. And only entry and return change the handlers. Assumes nothing.
 use mathlib.Core.Bool.{Bool, true, false, cond, false≢true}
 use mathlib.Core.List.{List, [], _∷_, _++_, map}
 use mathlib.Core.Logic.{_⊎_, inl, inr, _≢_}
@@ -10,7 +10,7 @@ use lib.ListN.{getD, set}
 use Rattle.rules.specs.Ids.{of, put}
 use Rattle.rules.specs.Codes.{Code, OK, E-TMOUT, E-RLWAI}
 use Rattle.rules.specs.State.{State, dormant, ready, suspended, waiting, waiting-suspended, Task, Body, task, nobody, waitOf, wish, isDormant, isWaiting, isFreed}
-use Rattle.rules.specs.Acts.{Act, start, retire, rotate, regrade, wait, release, suspend, resume, wakeups, count, pattern, post, receive, mark, elapse, change, started, retired, freed, releasedTask, halted, resumed, older, with-state, with-priority, with-wakeups, after, afters}
+use Rattle.rules.specs.Acts.{Act, start, retire, rotate, regrade, wait, release, suspend, resume, wakeups, count, pattern, post, receive, mark, elapse, nest, change, started, retired, freed, releasedTask, halted, resumed, older, with-state, with-priority, with-wakeups, after, afters}
 use Rattle.rules.specs.View.{View, act, acts}
 use Rattle.rules.specs.Objects.{met, left, serve-flag}
 use Rattle.rules.specs.Time.{timeout}
@@ -148,7 +148,7 @@ start-fresh suspended e = absurd (false≢true e)
 start-fresh (waiting w) e = absurd (false≢true e)
 start-fresh (waiting-suspended w) e = absurd (false≢true e)
 
--- only a dormant task is started
+-- only a dormant task is started, and the handlers are left
 abbrev pub Careful : Body → Act → Type 0
 Careful b (start i) = isDormant (task b i .state) ≡ true
 Careful b (retire i) = Unit {0}
@@ -165,6 +165,7 @@ Careful b (post j m) = Unit {0}
 Careful b (receive j) = Unit {0}
 Careful b (mark p k t) = Unit {0}
 Careful b elapse = Unit {0}
+Careful b (nest h) = ⊥
 
 -- an act that changes a task but not its cell
 module _ (b : Body) (f : Task → Task) (j : ℕ) where
@@ -188,6 +189,7 @@ act-kept (post j m) b d i = inl refl
 act-kept (receive j) b d i = inl refl
 act-kept (mark p k t) b d i = inl refl
 act-kept elapse b d i = map-each Kept kept-same _ (λ t. mild-kept (older-mild t)) (b .tasks) i nobody
+act-kept (nest h) b d i = absurd d
 
 -- ---- every verdict
 
@@ -196,6 +198,42 @@ pub data Careful-list (b : Body) : List Act → Type 0 where
   nothing : Careful-list b []
   one : (a : Act) → Careful b a → Careful-list b (a ∷ [])
   several : (l : List Act) → AllGentle l → Careful-list b l
+
+-- the handlers stay
+handlers-after : (a : Act) (b : Body) → Careful b a → after a b .handlers ≡ b .handlers
+unfolding after
+handlers-after (start j) b d = refl
+handlers-after (retire j) b d = refl
+handlers-after (rotate j) b d = refl
+handlers-after (regrade j p) b d = refl
+handlers-after (wait j w) b d = refl
+handlers-after (release j c w) b d = refl
+handlers-after (suspend j) b d = refl
+handlers-after (resume j) b d = refl
+handlers-after (wakeups j n) b d = refl
+handlers-after (count s n) b d = refl
+handlers-after (pattern f n) b d = refl
+handlers-after (post j m) b d = refl
+handlers-after (receive j) b d = refl
+handlers-after (mark p k t) b d = refl
+handlers-after elapse b d = refl
+handlers-after (nest h) b d = absurd d
+
+gentle-careful : {a : Act} → Gentle a → (b : Body) → Careful b a
+gentle-careful (releases i c w n) b = tt
+gentle-careful (sets f n) b = tt
+gentle-careful elapses b = tt
+
+handlers-gentle : (l : List Act) → AllGentle l → (b : Body) → afters l b .handlers ≡ b .handlers
+unfolding afters
+handlers-gentle [] g b = refl
+handlers-gentle (a ∷ l) g b = handlers-gentle l (g .1) (after a b) ∙ handlers-after a b (gentle-careful (g .0) b)
+
+pub handlers-kept : (b : Body) (l : List Act) → Careful-list b l → afters l b .handlers ≡ b .handlers
+unfolding afters
+handlers-kept b l nothing = refl
+handlers-kept b l (one a g) = handlers-after a b g
+handlers-kept b l (several m g) = handlers-gentle m g b
 
 pub list-kept : (b : Body) (l : List Act) → Careful-list b l → (i : ℕ) → Kept (task b i) (task (afters l b) i)
 unfolding afters

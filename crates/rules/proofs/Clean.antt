@@ -1,4 +1,4 @@
--- The shape of every verdict: a bare refusal, an accepted call, or a wait. One walk over the table serves what is proved of refusals
+-- The shape of every verdict: a bare refusal, an accepted call, a wait, or handlers that change. One walk over the table serves what is proved of refusals
 -- and of cells. Assumes nothing.
 use mathlib.Core.Bool.{Bool, true, false, false≢true}
 use mathlib.Core.List.{List, [], _∷_}
@@ -8,25 +8,31 @@ use Prim.Native.Nat.{ℕ, zero, suc}
 use native.Mathlib.Omega.{arith}
 use lib.IntN.{ℤ, pos, negsuc}
 use borrow.Author.Tests.{not-false}
-use Rattle.rules.specs.Codes.{Code, OK, WAITS, H-STATE, E-RLWAI}
-use Rattle.rules.specs.State.{Wait, Body}
-use Rattle.rules.specs.Events.{Event, tick, call}
-use Rattle.rules.specs.Acts.{Act}
+use Rattle.rules.specs.Codes.{Code, OK, WAITS, H-STATE, E-CTX, H-NEST, E-RLWAI}
+use Rattle.rules.specs.State.{Wait, Handlers, Body}
+use Rattle.rules.specs.Events.{Event, tick, enter, exit, call}
+use Rattle.rules.specs.Acts.{Act, nest}
 use Rattle.rules.specs.View.{View}
-use Rattle.rules.specs.Verdicts.{Verdict, refuse, gives, waits, check, choose, onFirst, onCount}
+use Rattle.rules.specs.Verdicts.{Verdict, refuse, gives, done, waits, check, choose, onFirst, onCount}
 use Rattle.rules.specs.Tasks.{starting, sta-tsk, ext-tsk, ter-tsk, chg-pri, rot-rdq, rel-wai, sus-tsk, rsm-tsk, take-wakeup, slp-tsk, wai-for, wai-tsk, waking, wup-tsk, can-wup, get-tid, tsk-sts}
 use Rattle.rules.specs.Objects.{to-first, obj-sts, sig-sem, take-sem, set-flg, clr-flg, take-flg, snd-msg, take-msg, take-blk, rel-blk}
 use Rattle.rules.specs.Time.{get-tim, ticked, endings}
+use Rattle.rules.specs.Handling.{entered, exited}
 use Rattle.rules.specs.Rows.{Row, staTsk, extTsk, terTsk, chgPri, rotRdq, relWai, susTsk, rsmTsk, slpTsk, waiTsk, wupTsk, canWup, sigSem, waiSem, preqSem, setFlg, clrFlg, waiFlg, polFlg, sndMsg, rcvMsg, prcvMsg, getBlk, pgetBlk, relBlk, getTid, tskSts, semSts, flgSts, mbxSts, mplSts, getTim}
-use Rattle.rules.specs.Table.{caller, table, judge}
+use Rattle.rules.specs.Table.{caller, handles, table, judge}
 use Rattle.rules.proofs.Judge.{_⊗_, bad, AllRows, by-call}
 use Rattle.rules.proofs.Cells.{Careful-list, nothing, one, several, flag-gentle, tick-gentle}
 
--- a bare refusal, an accepted call with its words and careful acts, or a wait
+-- of a call or a tick: a bare refusal, an accepted call with its words and careful acts, or a wait
 pub data Clean (b : Body) : Verdict → Type 0 where
   refused : (c : Code) → bad c ≡ true → Clean b (refuse c)
   given : (x y : ℕ) (l : List Act) → Careful-list b l → Clean b (gives x y l)
   waited : (i : ℕ) (w : Wait) → Clean b (waits i w)
+
+-- of any event: such a verdict, or the handlers change and nothing else
+pub data CleanEvent (b : Body) : Verdict → Type 0 where
+  clean-verdict : {r : Verdict} → Clean b r → CleanEvent b r
+  nests : (h : Handlers) → CleanEvent b (done (nest h ∷ []))
 
 module _ {b : Body} where
   clean-check : (t : Bool) (c : Code) (r : Verdict) → bad c ≡ true → (t ≡ false → Clean b r) → Clean b (check t c r)
@@ -103,19 +109,34 @@ rules v me a b c =
     ⊗ (search clean depth 9)
     ⊗ tt
 
-pub judge-clean : (v : View) (e : Event) → Clean (v .body) (judge v e)
+pub tick-clean : (v : View) → Clean (v .body) (judge v tick)
 unfolding judge ticked
-judge-clean v tick = given 0 0 _ (several _ (tick-gentle (endings (v .body))))
-judge-clean v (call x n a b c) =
+tick-clean v = given 0 0 _ (several _ (tick-gentle (endings (v .body))))
+
+pub call-clean : (v : View) (x n a b c : ℤ) → Clean (v .body) (judge v (call x n a b c))
+call-clean v x n a b c =
     by-call (λ n r. Clean (v .body) r) (λ n c e. refused c e) v a b c
-    (λ h. all-rows (v .body) v h (caller v h) 1 (table v (caller v h) a b c) (rules v (caller v h) a b c)) x n
+    (λ h. all-rows (v .body) v (handles v h) (caller v h) 1 (table v (caller v h) a b c) (rules v (caller v h) a b c)) x n
+
+nests-check : (b : Body) (t : Bool) (c : Code) (h : Handlers) → bad c ≡ true → CleanEvent b (check t c (done (nest h ∷ [])))
+unfolding check
+nests-check b true c h n = clean-verdict (refused c n)
+nests-check b false c h n = nests h
+
+pub judge-clean : (v : View) (e : Event) → CleanEvent (v .body) (judge v e)
+unfolding judge entered exited bad
+judge-clean v tick = clean-verdict (tick-clean v)
+judge-clean v enter = nests-check (v .body) _ H-NEST _ refl
+judge-clean v exit = nests-check (v .body) _ E-CTX _ refl
+judge-clean v (call x n a b c) = clean-verdict (call-clean v x n a b c)
 
 -- no verdict is H_STATE, and none is E_RLWAI
 module _ (d : Code) (not-bad : bad d ≡ false) (not-ok : d ≢ OK) (not-waits : d ≢ WAITS) where
-  clean-not : (b : Body) (r : Verdict) → Clean b r → r .code ≢ d
-  clean-not b r (refused c n) h = false≢true (sym not-bad ∙ ap bad (sym h) ∙ n)
-  clean-not b r (given x y l g) h = not-ok (sym h)
-  clean-not b r (waited i w) h = not-waits (sym h)
+  clean-not : (b : Body) (r : Verdict) → CleanEvent b r → r .code ≢ d
+  clean-not b r (clean-verdict (refused c n)) h = false≢true (sym not-bad ∙ ap bad (sym h) ∙ n)
+  clean-not b r (clean-verdict (given x y l g)) h = not-ok (sym h)
+  clean-not b r (clean-verdict (waited i w)) h = not-waits (sym h)
+  clean-not b r (nests x) h = not-ok (sym h)
 
   judge-not : (v : View) (e : Event) → judge v e .code ≢ d
   judge-not v e h = clean-not (v .body) (judge v e) (judge-clean v e) h

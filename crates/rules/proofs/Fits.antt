@@ -9,7 +9,7 @@ use Rattle.rules.specs.Ids.{of, In}
 use Rattle.rules.specs.Codes.{Code}
 use Rattle.rules.specs.State.{Kind, Wait, State, dormant, ready, suspended, waiting, waiting-suspended, Task, Body, task, nobody, isReady, isWaiting}
 use Rattle.rules.specs.Places.{Place, readyAt, waiters, mail, Sort, tasks, messages, aTask, aMessage, item, same, population, many, belongs, awaits, lies}
-use Rattle.rules.specs.Acts.{Act, start, retire, rotate, regrade, wait, release, suspend, resume, wakeups, count, pattern, post, receive, mark, elapse, after, Move, stay, leave, last, move, change, started, retired, releasedTask, halted, resumed, older, with-state, with-priority, with-wakeups, releasedMove, haltedMove, resumedMove, regradedMove}
+use Rattle.rules.specs.Acts.{Act, start, retire, rotate, regrade, wait, release, suspend, resume, wakeups, count, pattern, post, receive, mark, elapse, nest, after, Move, stay, leave, last, move, change, started, retired, releasedTask, halted, resumed, older, with-state, with-priority, with-wakeups, releasedMove, haltedMove, resumedMove, regradedMove}
 use Rattle.rules.proofs.Sizes.{sizes-after}
 use Rattle.rules.proofs.States.{older-same}
 use Rattle.rules.proofs.Ids.{of-put-other, of-put-test, put-gone, of-map, tested}
@@ -155,6 +155,7 @@ fits (post j m) b = post-fits j m b
 fits (receive j) b = receive-fits j b
 fits (mark p k t) b = untouched b _ refl refl
 fits elapse b = elapse-fits b
+fits (nest h) b = untouched b _ refl refl
 
 -- ---- no task and no message comes into being, and whoever belongs to a queue is there
 

@@ -131,6 +131,15 @@ map-from : {A : Type 0} (f g : ℕ → A) (k n : ℕ) → ((i : ℕ) → k ≤ i
 map-from f g k zero h = refl
 map-from f g k (suc n) h = λ z. h k (omega arith) (omega arith) z ∷ map-from f g (suc k) n (λ i a b. h i (omega arith) (omega arith)) z
 
+-- a list is the table of its own entries
+list-from : {A : Type 0} (l : List A) (d : A) (f : ℕ → A) (k : ℕ) → ((i : ℕ) → i < length l → f (k + i) ≡ getD l i d) → map f (from k (length l)) ≡ l
+list-from [] d f k h = refl
+list-from (x ∷ l) d f k h = λ z. (ap f (sym (add-zero k)) ∙ h 0 (omega arith)) z ∷ list-from l d f (suc k) (λ i b. ap f (omega arith) ∙ h (suc i) (omega arith)) z
+
+pub ids-of : {A : Type 0} (l : List A) (d : A) → map (λ i. of l i d) (ids (length l)) ≡ l
+unfolding ids
+ids-of l d = list-from l d (λ i. of l i d) 1 (λ i b. let e : 1 + i ≡ suc i = omega arith in ap (λ (n : ℕ). of l n d) e)
+
 -- two functions that agree on the ids make the same table
 pub map-ids : {A : Type 0} (f g : ℕ → A) (n : ℕ) → ((i : ℕ) → In i n → f i ≡ g i) → map f (ids n) ≡ map g (ids n)
 unfolding ids

@@ -1,4 +1,4 @@
--- What holds of every verdict: it is enough that it holds of each call's rule, once the common refusals have passed, and of the tick.
+-- What holds of every verdict: it is enough that it holds of each call's rule, once the common refusals have passed, and of the tick, entry and return.
 use mathlib.Core.Bool.{Bool, true, false, not, _&&_, false≢true}
 use mathlib.Core.List.{List, [], _∷_}
 use mathlib.Core.Option.{Option, none, some}
@@ -16,7 +16,7 @@ use Rattle.rules.specs.View.{View}
 use Rattle.rules.specs.Verdicts.{Verdict, refuse, check, choose, onFirst, onCount}
 use Rattle.rules.specs.Tasks.{wai-for}
 use Rattle.rules.specs.Rows.{Refusal, Row, staTsk, extTsk, terTsk, chgPri, rotRdq, relWai, susTsk, rsmTsk, slpTsk, waiTsk, wupTsk, canWup, sigSem, waiSem, preqSem, setFlg, clrFlg, waiFlg, polFlg, sndMsg, rcvMsg, prcvMsg, getBlk, pgetBlk, relBlk, getTid, tskSts, semSts, flgSts, mbxSts, mplSts, getTim}
-use Rattle.rules.specs.Table.{refusals, misplaced, names-self, names-dormant, judged, table, handler, caller, looked-up, entry, numbered, called, judge}
+use Rattle.rules.specs.Table.{refusals, misplaced, names-self, names-dormant, judged, table, handler, caller, handles, looked-up, entry, numbered, called, judge}
 use Rattle.rules.specs.Blocks.{is, ok}
 use Rattle.rules.proofs.Waits.{both-true}
 
@@ -123,13 +123,13 @@ module _ (P : ℤ → Verdict → Type 0) (no-way : (n : ℤ) (c : Code) → bad
     by-number h me rows zero = no-way _ H-CALL refl
     by-number h me rows (suc n) = let e : suc n ≡ 1 + n = omega arith in rw e (by-entry v h me 1 n (table v me a b c) (table-bad v me a b c) rows)
 
-    by-called : ((h : Bool) → AllRows P v h (caller v h) 1 (table v (caller v h) a b c)) → (x : Option Bool) (n : ℤ) → P n (called v x n a b c)
+    by-called : ((h : Bool) → AllRows P v (handles v h) (caller v h) 1 (table v (caller v h) a b c)) → (x : Option Bool) (n : ℤ) → P n (called v x n a b c)
     unfolding called bad
     by-called rows none n = no-way n H-CALL refl
     by-called rows (some h) (negsuc n) = no-way _ H-CALL refl
-    by-called rows (some h) (pos n) = by-number h (caller v h) (rows h) n
+    by-called rows (some h) (pos n) = by-number (handles v h) (caller v h) (rows h) n
 
-    pub by-call : ((h : Bool) → AllRows P v h (caller v h) 1 (table v (caller v h) a b c)) → (x n : ℤ) → P n (judge v (call x n a b c))
+    pub by-call : ((h : Bool) → AllRows P v (handles v h) (caller v h) 1 (table v (caller v h) a b c)) → (x n : ℤ) → P n (judge v (call x n a b c))
     unfolding judge
     by-call rows x n = by-called rows (handler x) n
 
@@ -165,6 +165,6 @@ module _ {L : List Act → Type 0} where
   acts-wait me (pos (suc t)) z h = on-acts (h _)
   acts-wait me (negsuc t) z h = on-acts (h _)
 
-module _ (L : List Act → Type 0) (z : L []) (v : View) (a b c : ℤ) (rows : (h : Bool) → AllRows (λ n r. OnActs L r) v h (caller v h) 1 (table v (caller v h) a b c)) where
+module _ (L : List Act → Type 0) (z : L []) (v : View) (a b c : ℤ) (rows : (h : Bool) → AllRows (λ n r. OnActs L r) v (handles v h) (caller v h) 1 (table v (caller v h) a b c)) where
   pub acts-call : (x n : ℤ) → L (judge v (call x n a b c) .acts)
   acts-call x n = elim (by-call (λ n r. OnActs L r) (λ n c e. on-acts z) v a b c rows x n) [ on-acts h ↦ h ]

@@ -4,7 +4,7 @@ use mathlib.Core.Bool.{Bool, true, false, cond, not, false≢true}
 use mathlib.Core.List.{List, [], _∷_, map}
 use mathlib.Core.Logic.{_⊎_, inl, inr, _≢_}
 use mathlib.Core.Option.{Option, none, some}
-use mathlib.Core.Path.{_≡_, refl, sym, ap, _∙_}
+use mathlib.Core.Path.{_≡_, refl, sym, ap, _∙_, subst}
 use Prim.Native.Nat.{ℕ, zero, suc, pred, _≤_, _<_, _^_}
 use native.Mathlib.Nat.{mod-lt}
 use native.Mathlib.Omega.{arith}
@@ -13,15 +13,16 @@ use lib.ListN.{length, length-map, set}
 use borrow.Author.Tests.{eqb-true, eqb-false, eq-eqb, not-false}
 use Rattle.rules.specs.Ids.{of, put, In}
 use Rattle.rules.specs.Codes.{Code}
-use Rattle.rules.specs.State.{Kind, semaphore, flag, mailbox, pool, Wait, asleep, timed, on, State, dormant, ready, suspended, waiting, waiting-suspended, Cell, Task, Store, Body, task, nobody, objects, waitOf, isDormant, isWaiting, sleeps}
+use Rattle.rules.specs.State.{Kind, semaphore, flag, mailbox, pool, Wait, asleep, timed, on, State, dormant, ready, suspended, waiting, waiting-suspended, Cell, Task, Store, Handlers, no-handler, in-handler, Body, task, nobody, objects, waitOf, isDormant, isWaiting, isFreed, sleeps}
 use Rattle.rules.specs.Places.{sameKind, waitsOn, awaits, lies}
-use Rattle.rules.specs.Acts.{Act, start, retire, rotate, regrade, wait, release, suspend, resume, wakeups, count, pattern, post, receive, mark, elapse, with-state, with-priority, with-wakeups, with-cell, with-semaphores, with-flags, with-messages, with-pools, with-clock, with-tasks, with-store, change, started, retired, freed, releasedTask, halted, resumed, older, after}
+use Rattle.rules.specs.Acts.{Act, start, retire, rotate, regrade, wait, release, suspend, resume, wakeups, count, pattern, post, receive, mark, elapse, nest, with-state, with-priority, with-wakeups, with-cell, with-semaphores, with-flags, with-messages, with-pools, with-clock, with-tasks, with-store, change, started, retired, freed, releasedTask, halted, resumed, older, after}
 use Rattle.rules.specs.Objects.{met, free}
 use Rattle.rules.specs.Time.{ending}
-use Rattle.rules.specs.Sound.{Sizes, LiesWell, StoreNumbers, CellNumbers, WaitNumbers, anyLies, would-serve, Unserved, AllUnserved, SoundTask, SoundBody}
+use Rattle.rules.specs.Sound.{Sizes, LiesWell, StoreNumbers, CellNumbers, WaitNumbers, anyLies, would-serve, Unserved, AllUnserved, SoundTask, HandlersFit, SoundBody}
 use Rattle.rules.proofs.Sizes.{SameSizes, sizes-tasks, sizes-clock, sizes-after}
-use Rattle.rules.proofs.States.{freed-tells, halted-same, resumed-same, older-same}
+use Rattle.rules.proofs.States.{waiting-tells, freed-tells, halted-same, resumed-same, older-same}
 use Rattle.rules.proofs.Waits.{neither}
+use Rattle.rules.proofs.Cells.{change-each, map-each}
 use Rattle.rules.proofs.Ids.{length-put, of-put-other, of-put-same, put-all, of-map}
 
 -- ---- what an act needs
@@ -36,10 +37,11 @@ Asks b i k o p m = waitOf (task b i .state) ≡ some (on k o p m)
 
 abbrev pub Pre : Body → Act → Type 0
 Pre b (start i) = Unit {0}
-Pre b (retire i) = Unit {0}
+Pre b (retire i) = b .handlers ≡ no-handler
 Pre b (rotate i) = Unit {0}
 Pre b (regrade i p) = In p (b .store .priorities) × (isDormant (task b i .state) ≡ false)
-Pre b (wait i w) = In i (length (b .tasks)) → WaitNumbers (b .store) (some w) × Unserved (b .store) (some w) × (sleeps (some w) ≡ true → task b i .wakeups ≡ 0)
+Pre b (wait i w) =
+    (b .handlers ≡ no-handler) × (In i (length (b .tasks)) → WaitNumbers (b .store) (some w) × Unserved (b .store) (some w) × (sleeps (some w) ≡ true → task b i .wakeups ≡ 0))
 Pre b (release i c w) = CellNumbers (record { code = c; word = w })
 Pre b (suspend i) = Unit {0}
 Pre b (resume i) = Unit {0}
@@ -50,6 +52,7 @@ Pre b (post j m) = In m (b .store .mailboxes) × NoneAt b mailbox m
 Pre b (receive j) = Unit {0}
 Pre b (mark p k t) = (t ≡ false) ⊎ NoneAt b pool p
 Pre b elapse = (i : ℕ) → ending (waitOf (task b i .state)) ≡ false
+Pre b (nest h) = HandlersFit (b .tasks) h
 
 -- ---- one task is changed
 
@@ -155,11 +158,38 @@ sizes-same k z = record {
   pools = rw (k .objects pool) (z .pools);
 }
 
-sound-change : (f : Task → Task) (i : ℕ) (b : Body) → SoundBody b → (In i (length (b .tasks)) → SoundTask (b .store) (task b i) → SoundTask (b .store) (f (task b i))) → SoundBody (change f i b)
-sound-change f i b h g = record {
+-- ---- the interrupted task stays ready or suspended
+
+-- whoever is ready or suspended stays so
+abbrev Held : Task → Task → Type 0
+Held t u = isFreed (t .state) ≡ true → isFreed (u .state) ≡ true
+
+-- the change leaves task i so, or no handler is open
+abbrev Holds : (Task → Task) → ℕ → Body → Type 0
+Holds f i b = Held (task b i) (f (task b i)) ⊎ (b .handlers ≡ no-handler)
+
+released-held : (c : Code) (w : ℕ) (t : Task) → Held t (releasedTask c w t)
+released-held c w t e = go (isWaiting (t .state)) refl
+  where
+    go : (x : Bool) → isWaiting (t .state) ≡ x → isFreed (cond x (with-cell (record { code = c; word = w }) (with-state (freed (t .state)) t)) t .state) ≡ true
+    go true d = absurd (false≢true (sym (waiting-tells (t .state) d .1) ∙ e))
+    go false d = e
+
+fit-by : (l m : List Task) (h : Handlers) → ((i : ℕ) → Held (of l i nobody) (of m i nobody)) → HandlersFit l h → HandlersFit m h
+fit-by l m no-handler f g = tt
+fit-by l m (in-handler n i) f g = (g .0, elim (g .1) [ inl e ↦ inl e | inr e ↦ inr (f i e) ])
+
+fit-change : (f : Task → Task) (i : ℕ) (b : Body) → Holds f i b → HandlersFit (b .tasks) (b .handlers) → HandlersFit (change f i b .tasks) (b .handlers)
+fit-change f i b (inl k) g = fit-by (b .tasks) _ (b .handlers) (change-each Held (λ t e. e) f i b (λ t e. subst (λ (u : Task). Held u (f u)) (sym e) k)) g
+fit-change f i b (inr e) g = rw e tt
+
+sound-change : (f : Task → Task) (i : ℕ) (b : Body) → SoundBody b → Holds f i b → (In i (length (b .tasks)) → SoundTask (b .store) (task b i) → SoundTask (b .store) (f (task b i)))
+    → SoundBody (change f i b)
+sound-change f i b h k g = record {
   sizes = sizes-same (sizes-tasks b _ (length-put (b .tasks) i _)) (h .sizes);
   store = h .store;
   tasks = put-all (SoundTask (b .store)) (b .tasks) i (f (task b i)) nobody (h .tasks) (λ r. g r (h .tasks i r));
+  handlers = fit-change f i b k (h .handlers);
 }
 
 -- ---- the store is changed
@@ -211,6 +241,7 @@ sound-store b w h k n = record {
   sizes = sizes-same k (h .sizes);
   store = n;
   tasks = λ i r. task-kept (b .store) w (task b i) (k .priorities) (k .objects) (h .tasks i r);
+  handlers = h .handlers;
 }
 
 module _ {ℓ} {A : Type ℓ} where
@@ -392,21 +423,26 @@ older-sound b h e = record {
   sizes = sizes-same (sizes-tasks b _ (length-map (b .tasks) olderTask)) (h .sizes);
   store = h .store;
   tasks = λ i r. rw (of-map olderTask (b .tasks) i nobody refl) (older-well (b .store) (task b i) (e i) (h .tasks i (rw (length-map (b .tasks) olderTask) at r)));
+  handlers = fit-by (b .tasks) _ (b .handlers) (λ i. map-each Held (λ t e. e) olderTask (λ t. rw (older-same (t .state) .freed) (λ e. e)) (b .tasks) i nobody) (h .handlers);
 }
 
 -- ---- every act
 
 pub sound-after : (a : Act) (b : Body) → SoundBody b → Pre b a → SoundBody (after a b)
 unfolding after
-sound-after (start i) b h p = sound-change started i b h (λ r g. started-well g)
-sound-after (retire i) b h p = sound-change retired i b h (λ r g. retired-well g)
+sound-after (start i) b h p = sound-change started i b h (inl (λ e. refl)) (λ r g. started-well g)
+sound-after (retire i) b h p = sound-change retired i b h (inr p) (λ r g. retired-well g)
 sound-after (rotate i) b h p = h
-sound-after (regrade i n) b h p = sound-change (with-priority n) i b h (λ r g. priority-well g n (p .0) (p .1))
-sound-after (wait i w) b h p = sound-change (with-state (waiting w)) i b h (λ r g. state-well g (waiting w) (p r .0) (p r .2) (λ e. absurd (false≢true e)))
-sound-after (release i c w) b h p = sound-change (releasedTask c w) i b h (λ r g. released-well c w (task b i) p g)
-sound-after (suspend i) b h p = sound-change (λ t. with-state (halted (t .state)) t) i b h (λ r g. same-well g _ (halted-same (task b i .state) .0) (halted-same (task b i .state) .1))
-sound-after (resume i) b h p = sound-change (λ t. with-state (resumed (t .state)) t) i b h (λ r g. same-well g _ (resumed-same (task b i .state) .0) (resumed-same (task b i .state) .1))
-sound-after (wakeups i n) b h p = sound-change (with-wakeups n) i b h (λ r g. wakeups-well g n (p .0) (p .1) (p .2))
+sound-after (regrade i n) b h p = sound-change (with-priority n) i b h (inl (λ e. e)) (λ r g. priority-well g n (p .0) (p .1))
+sound-after (wait i w) b h p = sound-change (with-state (waiting w)) i b h (inr (p .0)) (λ r g. state-well g (waiting w) (p .1 r .0) (p .1 r .2) (λ e. absurd (false≢true e)))
+sound-after (release i c w) b h p = sound-change (releasedTask c w) i b h (inl (released-held c w (task b i))) (λ r g. released-well c w (task b i) p g)
+sound-after (suspend i) b h p =
+    sound-change (λ t. with-state (halted (t .state)) t) i b h (inl (rw (halted-same (task b i .state) .2) (λ e. e)))
+    (λ r g. same-well g _ (halted-same (task b i .state) .0) (halted-same (task b i .state) .1))
+sound-after (resume i) b h p =
+    sound-change (λ t. with-state (resumed (t .state)) t) i b h (inl (rw (resumed-same (task b i .state) .2) (λ e. e)))
+    (λ r g. same-well g _ (resumed-same (task b i .state) .0) (resumed-same (task b i .state) .1))
+sound-after (wakeups i n) b h p = sound-change (with-wakeups n) i b h (inl (λ e. e)) (λ r g. wakeups-well g n (p .0) (p .1) (p .2))
 sound-after (count s n) b h p = sound-store b _ h (sizes-after (count s n) b) (semaphores-numbers (b .store) (h .store) s n (p .0))
 sound-after (pattern f n) b h p = sound-store b _ h (sizes-after (pattern f n) b) (flags-numbers (b .store) (h .store) f n (p .0))
 sound-after (post j m) b h p = sound-store b _ h (sizes-after (post j m) b) (messages-numbers (b .store) (h .store) j (some m) (p .0))
@@ -414,6 +450,7 @@ sound-after (receive j) b h p = sound-store b _ h (sizes-after (receive j) b) (m
 sound-after (mark q k t) b h p = sound-store b _ h (sizes-after (mark q k t) b) (pools-numbers (b .store) (h .store) q k t)
 sound-after elapse b h p =
     sound-store _ _ (older-sound b h p) (sizes-clock _ _) (clock-numbers (b .store) (h .store) _ (mod-lt (suc (b .store .clock)) (lit< tt)))
+sound-after (nest x) b h p = record { sizes = sizes-same (sizes-after (nest x) b) (h .sizes); store = h .store; tasks = h .tasks; handlers = p }
 
 -- ---- nobody comes to wait beside what would serve him
 
@@ -439,7 +476,7 @@ unserved-after (start i) b s h p = unserved-change started i b h (λ r u. tt)
 unserved-after (retire i) b s h p = unserved-change retired i b h (λ r u. tt)
 unserved-after (rotate i) b s h p = h
 unserved-after (regrade i n) b s h p = unserved-change (with-priority n) i b h (λ r u. u)
-unserved-after (wait i w) b s h p = unserved-change (with-state (waiting w)) i b h (λ r u. p r .1)
+unserved-after (wait i w) b s h p = unserved-change (with-state (waiting w)) i b h (λ r u. p .1 r .1)
 unserved-after (release i c w) b s h p = unserved-change (releasedTask c w) i b h (λ r u. unserved-released (b .store) c w (task b i) u)
 unserved-after (suspend i) b s h p = unserved-change (λ t. with-state (halted (t .state)) t) i b h (λ r u. rw (halted-same (task b i .state) .0) u)
 unserved-after (resume i) b s h p = unserved-change (λ t. with-state (resumed (t .state)) t) i b h (λ r u. rw (resumed-same (task b i .state) .0) u)
@@ -453,3 +490,4 @@ unserved-after elapse b s h p =
     unserved-store (with-tasks (map olderTask (b .tasks)) b) _ (older-sound b s p)
     (λ i r. rw (of-map olderTask (b .tasks) i nobody refl) (older-unserved (b .store) (task b i .state) (h i (rw (length-map (b .tasks) olderTask) at r))))
     (λ i k o y m w. clock-less b i _ k o y m)
+unserved-after (nest x) b s h p = h

@@ -11,6 +11,7 @@ pub mod Fits
 pub mod Lines
 pub mod Keeps
 pub mod Queues
+pub mod Handling
 pub mod Calls
 pub mod Accepted
 pub mod Spelled
@@ -20,6 +21,7 @@ pub mod Events
 pub mod Cells
 pub mod Clean
 pub mod Refused
+pub mod Interrupted
 pub mod Broken
 pub mod OnlyBroken
 pub mod Agree

@@ -11,7 +11,7 @@ use borrow.Author.Tests.{eq-eqb}
 use Rattle.rules.specs.Ids.{of, ids, In, keep}
 use Rattle.rules.specs.Codes.{H-NODMT}
 use Rattle.rules.specs.State.{Kind, semaphore, flag, mailbox, pool, Store, Body, task, objects, isDormant}
-use Rattle.rules.specs.Places.{Place, readyAt, waiters, mail, sameSort, sortAt, Item, aTask, item, same, belongs, at, each, lineAt, Exists, tabulate}
+use Rattle.rules.specs.Places.{Place, readyAt, waiters, mail, sameSort, sortAt, Item, aTask, item, same, belongs, at, each, Lines, lineAt, Exists, tabulate}
 use Rattle.rules.specs.Events.{nat}
 use Rattle.rules.specs.Acts.{Act, start, after, last, move}
 use Rattle.rules.specs.View.{View, line, alone, without, moved, act, acts}
@@ -19,7 +19,7 @@ use Rattle.rules.specs.Verdicts.{done, check}
 use Rattle.rules.specs.Tasks.{starting, sta-tsk}
 use Rattle.rules.specs.Sound.{Shape}
 use Rattle.rules.proofs.Sizes.{sizes-after}
-use Rattle.rules.proofs.Ids.{of-ids, length-ids, map-ids, keep-keep, keep-append, keep-same}
+use Rattle.rules.proofs.Ids.{of-ids, length-ids, ids-of, map-ids, keep-keep, keep-append, keep-same}
 
 -- ---- something for each kind
 
@@ -56,6 +56,18 @@ shape-tabulate u f = record {
   waiting = λ k. ap (λ (t : List (List ℕ)). length t) (at-each (λ k. map (λ n. f (waiters k n)) (ids (objects u k))) k) ∙ length-ids (λ o. f (waiters k o)) (objects u k);
   mail = length-ids (λ m. f (mail m)) (u .mailboxes);
 }
+
+-- a table that has a line for each place and for no other is the one made from its own lines
+pub tabulate-lines : (u : Store) (l : Lines) → Shape u l → tabulate u (lineAt l) ≡ l
+unfolding tabulate lineAt
+tabulate-lines u l h = λ z. record {
+  ready = (ap (λ (n : ℕ). map (λ p. of (l .ready) p []) (ids n)) (sym (h .ready)) ∙ ids-of (l .ready) []) z;
+  waiting = record { semaphores = waits semaphore z; flags = waits flag z; mailboxes = waits mailbox z; pools = waits pool z };
+  mail = (ap (λ (n : ℕ). map (λ m. of (l .mail) m []) (ids n)) (sym (h .mail)) ∙ ids-of (l .mail) []) z;
+}
+  where
+    waits : (k : Kind) → map (λ o. of (at (l .waiting) k) o []) (ids (objects u k)) ≡ at (l .waiting) k
+    waits k = ap (λ (n : ℕ). map (λ o. of (at (l .waiting) k) o []) (ids n)) (sym (h .waiting k)) ∙ ids-of (at (l .waiting) k) []
 
 -- ---- an act changes no place
 

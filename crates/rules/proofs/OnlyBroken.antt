@@ -16,15 +16,16 @@ use Rattle.rules.specs.Codes.{Code, OK, H-STATE, E-NOEXS, E-NOWAI, E-RLW
 use Rattle.rules.specs.State.{Wait, State, dormant, ready, suspended, waiting, waiting-suspended, Cell, Task, Body, task, nobody, isDormant, isReady, isWaiting}
 use Rattle.rules.specs.Places.{tabulate}
 use Rattle.rules.specs.Setup.{got, Entry, Setup, setup}
-use Rattle.rules.specs.Events.{Event, tick, call, Words, AllWords, nat, outside}
-use Rattle.rules.specs.Acts.{Act, start, retire, rotate, regrade, wait, release, suspend, resume, wakeups, count, pattern, post, receive, mark, elapse, change, started, retired, releasedTask, halted, resumed, older, with-state, with-priority, with-wakeups, after, afters}
-use Rattle.rules.specs.View.{View, running}
+use Rattle.rules.specs.Events.{Event, tick, enter, exit, call, Words, AllWords, nat, outside}
+use Rattle.rules.specs.Acts.{Act, start, retire, rotate, regrade, wait, release, suspend, resume, wakeups, count, pattern, post, receive, mark, elapse, nest, change, started, retired, releasedTask, halted, resumed, older, with-state, with-priority, with-wakeups, after, afters}
+use Rattle.rules.specs.View.{View}
 use Rattle.rules.specs.Verdicts.{Verdict, done}
 use Rattle.rules.specs.Tasks.{starting, sta-tsk, ext-tsk, ter-tsk, chg-pri, rot-rdq, rel-wai, sus-tsk, rsm-tsk, take-wakeup, slp-tsk, wai-tsk, waking, wup-tsk, can-wup, get-tid, tsk-sts}
 use Rattle.rules.specs.Objects.{to-first, obj-sts, sig-sem, take-sem, set-flg, clr-flg, take-flg, snd-msg, take-msg, take-blk, rel-blk}
 use Rattle.rules.specs.Time.{get-tim, endings, ticked}
+use Rattle.rules.specs.Handling.{entered, exited}
 use Rattle.rules.specs.Rows.{staTsk, extTsk, terTsk, chgPri, rotRdq, relWai, susTsk, rsmTsk, slpTsk, waiTsk, wupTsk, canWup, sigSem, waiSem, preqSem, setFlg, clrFlg, waiFlg, polFlg, sndMsg, rcvMsg, prcvMsg, getBlk, pgetBlk, relBlk, getTid, tskSts, semSts, flgSts, mbxSts, mplSts, getTim}
-use Rattle.rules.specs.Table.{caller, table, judge}
+use Rattle.rules.specs.Table.{caller, handles, table, judge}
 use Rattle.rules.specs.Sound.{CellNumbers, Sound}
 use Rattle.rules.specs.Check.{sound?}
 use Rattle.rules.specs.Answers.{answer, readCell}
@@ -33,7 +34,7 @@ use Rattle.rules.specs.Plain.{Plain, viewOf, plainAnswer}
 use Rattle.rules.specs.Runs.{states}
 use Rattle.rules.specs.Broken.{broken, isFresh, StaysBroken, BreaksOff, OnlyRelWai, NeverFresh, BrokenOff}
 use Rattle.rules.proofs.Ids.{of-put-other}
-use Rattle.rules.proofs.Queues.{running-ready}
+use Rattle.rules.proofs.Handling.{caller-ready}
 use Rattle.rules.proofs.Waits.{in-by}
 use Rattle.rules.proofs.States.{older-same}
 use Rattle.rules.proofs.Judge.{_⊗_, bad, AllRows, by-check, by-call, OnActs, on-acts, acts-check, acts-choose, acts-first, acts-count, acts-wait}
@@ -123,6 +124,7 @@ Sparing b (post j m) = Unit {0}
 Sparing b (receive j) = Unit {0}
 Sparing b (mark p k t) = Unit {0}
 Sparing b elapse = Unit {0}
+Sparing b (nest h) = Unit {0}
 
 module _ (b : Body) (f : Task → Task) (j : ℕ) where
   -- an act that changes a task but not its cell, and neither releases nor starts it
@@ -146,6 +148,7 @@ act-whole (post j m) b d i = whole-same (task b i)
 act-whole (receive j) b d i = whole-same (task b i)
 act-whole (mark p k t) b d i = whole-same (task b i)
 act-whole elapse b d i = spared-whole (gentle-spared elapses b i)
+act-whole (nest h) b d i = whole-same (task b i)
 
 -- ---- every call: the calls but rel_wai break nobody off
 
@@ -158,8 +161,7 @@ ready-awake (waiting-suspended w) e = refl
 
 -- the caller of a call that only a task may make
 caller-awake : (v : View) → Sound v → (h : Bool) → eqb (caller v h) 0 ≡ false → isDormant (task (v .body) (caller v h) .state) ≡ false
-caller-awake v s true z = absurd (false≢true (sym z))
-caller-awake v s false z = ready-awake (task (v .body) (running v) .state) (running-ready v s z)
+caller-awake v s h z = ready-awake (task (v .body) (caller v h) .state) (caller-ready v h z s)
 
 module _ (b : Body) where
   abbrev AllWhole : List Act → Type 0
@@ -190,7 +192,7 @@ module _ (v : View) (s : Sound v) (a y z : ℤ) where
   unfolding rel-wai
   rel-wai-spares = by-check (Spares (v .body) a) (λ n c e. inl (on-acts (whole-none (v .body)))) E-NOWAI (unfold bad in refl) (λ e. inr (refl, refl))
 
-  rows : (h : Bool) → AllRows (Spares (v .body) a) v h (caller v h) 1 (table v (caller v h) a y z)
+  rows : (h : Bool) → AllRows (Spares (v .body) a) v (handles v h) (caller v h) 1 (table v (caller v h) a y z)
   unfolding table staTsk extTsk terTsk chgPri rotRdq relWai susTsk rsmTsk slpTsk waiTsk wupTsk canWup sigSem waiSem preqSem setFlg clrFlg waiFlg polFlg sndMsg rcvMsg prcvMsg getBlk pgetBlk relBlk getTid tskSts semSts flgSts mbxSts mplSts getTim starting sta-tsk ext-tsk ter-tsk chg-pri rot-rdq sus-tsk rsm-tsk take-wakeup slp-tsk wai-tsk waking wup-tsk can-wup get-tid tsk-sts to-first obj-sts sig-sem take-sem set-flg clr-flg take-flg snd-msg take-msg take-blk rel-blk get-tim
   rows h =
       (λ t. inl (search sparing depth 9))
@@ -251,8 +253,14 @@ call-only b i x n a y z r (inr k) = rw (k .1) (λ h. go (release-names b a E-RLW
     go (inr e) = inr (unfold afters in rw e (refl, unfresh (task b i .state) .same))
 
 module _ (v : View) (s : Sound v) (i : ℕ) where
+  -- entry and return
+  handled : (e : Event) (r : Verdict) → OnActs (AllWhole (v .body)) r → OnlyRelWai i e (number (r .code)) (task (v .body) i) (task (afters (r .acts) (v .body)) i)
+  handled e r (on-acts w) = whole-only i e (number (r .code)) (task (v .body) i) (task (afters (r .acts) (v .body)) i) (w i)
+
   acts-only : (e : Event) → OnlyRelWai i e (number (judge v e .code)) (task (v .body) i) (task (afters (judge v e .acts) (v .body)) i)
-  unfolding judge ticked
+  unfolding judge ticked entered exited
+  acts-only enter = handled enter (entered v) (search sparing depth 9)
+  acts-only exit = handled exit (exited v) (search sparing depth 9)
   acts-only tick = whole-only i tick (number OK) (task (v .body) i) (task (afters (ticked v .acts) (v .body)) i) (whole-list (v .body) _ (tick-gentle (endings (v .body))) i)
   acts-only (call x n a y z) =
       call-only (v .body) i x n a y z (judge v (call x n a y z)) (by-call (Spares (v .body) a) (λ n c e. inl (on-acts (whole-none (v .body)))) v a y z (rows v s a y z) x n)
@@ -360,6 +368,8 @@ broken-reads a v (e ∷ l) s w (inl h) = stays-end a (event v e .next) l (go e (
   where
     go : (e : Event) → Words e → BreaksOff a e (number (event v e .answer .code)) → StaysBroken a (event v e .next) l
     go tick q k = absurd k
+    go enter q k = absurd k
+    go exit q k = absurd k
     go (call x n b y z) q k = named n b (k .0) (k .1) q (k .2)
       where
         named : (n b : ℤ) → n ≡ pos 6 → b ≡ a → Words (call x n b y z) → number (event v (call x n b y z) .answer .code) ≡ pos 0 → StaysBroken a (event v (call x n b y z) .next) l

@@ -1,8 +1,8 @@
 -- An act keeps a sound view sound: whoever belongs to a queue stands in it once, by counting, and nobody else does.
-use mathlib.Core.Bool.{Bool, true, false, cond, not, _&&_, false≢true}
+use mathlib.Core.Bool.{Bool, true, false, cond, not, _&&_}
 use mathlib.Core.List.{List, [], _∷_, _++_}
 use mathlib.Core.Path.{_≡_, refl, sym, ap, _∙_, subst}
-use mathlib.Core.Logic.{_≢_}
+use mathlib.Core.Logic.{_⊎_, inl, inr, _≢_}
 use Prim.Native.Nat.{ℕ, suc, _+_, _≤_, _<_}
 use native.Mathlib.Nat.{add-zero}
 use native.Mathlib.Omega.{arith}
@@ -12,7 +12,7 @@ use Rattle.rules.specs.Ids.{In, keep, once, times, first}
 use Rattle.rules.specs.State.{Kind, Body, task, isReady}
 use Rattle.rules.specs.Places.{Place, readyAt, waiters, sameSort, sortAt, Item, item, same, many, belongs, lineAt, Exists}
 use Rattle.rules.specs.Acts.{Act, after, Move, stay, leave, last, move}
-use Rattle.rules.specs.View.{View, line, nonempty, best, running, alone, without, moved, act}
+use Rattle.rules.specs.View.{View, line, nonempty, best, head, alone, without, moved, act}
 use Rattle.rules.specs.Sound.{Shape, Known, Queue, Sound}
 use Rattle.rules.proofs.Ids.{Each, times-append, times-keep, times-head}
 use Rattle.rules.proofs.Waits.{both-true}
@@ -159,17 +159,17 @@ nonempty-at [] x m e = absurd (no-first e)
 nonempty-at ([] ∷ l) x m e = let r = nonempty-at l x m e in (suc (r .0), omega (arith, r .1), r .2)
 nonempty-at ((y ∷ q) ∷ l) x m e = (0, omega arith, e)
 
--- the running task is READY or RUN
-pub running-ready : (v : View) → Sound v → eqb (running v) 0 ≡ false → isReady (task (v .body) (running v) .state) ≡ true
-unfolding running lineAt belongs
-running-ready v h = go (best v) refl
+-- the head of the best queue is READY or RUN, if there is one
+pub head-ready : (v : View) → Sound v → (head v ≡ 0) ⊎ (isReady (task (v .body) (head v) .state) ≡ true)
+unfolding lineAt belongs
+head-ready v h = go (best v) refl
   where
-    go : (l : List ℕ) → best v ≡ l → eqb (first l) 0 ≡ false → isReady (task (v .body) (first l) .state) ≡ true
-    go [] e z = absurd (false≢true (sym z))
-    go (x ∷ m) e z =
+    go : (l : List ℕ) → best v ≡ l → (first l ≡ 0) ⊎ (isReady (task (v .body) (first l) .state) ≡ true)
+    go [] e = inl refl
+    go (x ∷ m) e =
         let r = nonempty-at (v .lines .ready) x m e in
         let k : In (suc (r .0)) (v .body .store .priorities) = (omega arith, subst (λ (n : ℕ). suc (r .0) ≤ n) (h .shape .ready) (r .1)) in
-        both-true _ _ (first-belongs v h (readyAt (suc (r .0))) k x m (r .2)) .0
+        inr (both-true _ _ (first-belongs v h (readyAt (suc (r .0))) k x m (r .2)) .0)
 
 -- where nobody stands, nobody waits
 pub none-waits : (v : View) → Sound v → (k : Kind) (o : ℕ) → Exists (v .body .store) (waiters k o) → line v (waiters k o) ≡ [] → NoneAt (v .body) k o

@@ -17,7 +17,7 @@ use Rattle.rules.specs.Sound.{Sound}
 use Rattle.rules.specs.Check.{sound?}
 use Rattle.rules.specs.Kernel.{next, served, damaged, refusal, guarded, event}
 use Rattle.rules.specs.Plain.{Plain, viewOf, plainActs, plainNext, plainAnswer}
-use Rattle.rules.proofs.Clean.{Clean, refused, given, waited, judge-clean}
+use Rattle.rules.proofs.Clean.{refused, given, waited, CleanEvent, clean-verdict, nests, judge-clean}
 
 -- ---- what a clean verdict says
 
@@ -33,12 +33,13 @@ unfolding releasedCount
 none-released [] = refl
 none-released (t ∷ l) = rw (released-none (t .state), none-released l)
 
-refused-served : (v : View) (r : Verdict) → Clean (v .body) r → refuses (r .code) ≡ true
+refused-served : (v : View) (r : Verdict) → CleanEvent (v .body) r → refuses (r .code) ≡ true
     → (answer r v (acts (r .acts) v) ≡ refusal v (r .code) .answer) × (acts (r .acts) v ≡ v)
 unfolding answer refusal acts refuses
-refused-served v r (refused c n) e = (ap (λ (n : ℕ). record { code = c; w1 = 0; w2 = 0; runs = running v; released = n }) (none-released (v .body .tasks)), refl)
-refused-served v r (given x y l g) e = absurd (false≢true e)
-refused-served v r (waited i w) e = absurd (false≢true e)
+refused-served v r (clean-verdict (refused c n)) e = (ap (λ (n : ℕ). record { code = c; w1 = 0; w2 = 0; runs = running v; released = n }) (none-released (v .body .tasks)), refl)
+refused-served v r (clean-verdict (given x y l g)) e = absurd (false≢true e)
+refused-served v r (clean-verdict (waited i w)) e = absurd (false≢true e)
+refused-served v r (nests h) e = absurd (false≢true e)
 
 served-refused : (v : View) (e : Event) → refuses (served v e .answer .code) ≡ true → served v e ≡ refusal v (served v e .answer .code)
 unfolding served next answer refusal
@@ -57,14 +58,15 @@ refused-unchanged v e = go (sound? v)
     go (no n) h = inr (n, refl)
 
 -- The words are 0 with code 1.
-waits-clean : (b : Body) (r : Verdict) → Clean b r → number (r .code) ≡ pos 1 → (r .w1 ≡ 0) × (r .w2 ≡ 0)
+waits-clean : (b : Body) (r : Verdict) → CleanEvent b r → number (r .code) ≡ pos 1 → (r .w1 ≡ 0) × (r .w2 ≡ 0)
 unfolding number
-waits-clean b r (refused c n) e = (refl, refl)
-waits-clean b r (given x y l g) e = absurd (pos-ne e)
+waits-clean b r (clean-verdict (refused c n)) e = (refl, refl)
+waits-clean b r (clean-verdict (given x y l g)) e = absurd (pos-ne e)
   where
     pos-ne : pos 0 ≡ pos 1 → ⊥
     pos-ne e = let d : _≡_ {A = ℕ} 0 1 = ap natAbs e in omega arith
-waits-clean b r (waited i w) e = (refl, refl)
+waits-clean b r (clean-verdict (waited i w)) e = (refl, refl)
+waits-clean b r (nests h) e = (refl, refl)
 
 pub waits-no-words : (v : View) (e : Event) → number (event v e .answer .code) ≡ pos 1 → (event v e .answer .w1 ≡ 0) × (event v e .answer .w2 ≡ 0)
 unfolding event guarded served damaged answer
@@ -76,12 +78,13 @@ waits-no-words v e = go (sound? v)
 
 -- ---- the plain kernel
 
-refused-plain : (s : Plain) (r : Verdict) → Clean (s .body) r → refuses (r .code) ≡ true
+refused-plain : (s : Plain) (r : Verdict) → CleanEvent (s .body) r → refuses (r .code) ≡ true
     → (answer r (viewOf s) (viewOf (plainActs (r .acts) s)) ≡ refusal (viewOf s) (r .code) .answer) × (plainActs (r .acts) s ≡ s)
 unfolding answer refusal plainActs refuses
-refused-plain s r (refused c n) e = (ap (λ (n : ℕ). record { code = c; w1 = 0; w2 = 0; runs = running (viewOf s); released = n }) (none-released (viewOf s .body .tasks)), refl)
-refused-plain s r (given x y l g) e = absurd (false≢true e)
-refused-plain s r (waited i w) e = absurd (false≢true e)
+refused-plain s r (clean-verdict (refused c n)) e = (ap (λ (n : ℕ). record { code = c; w1 = 0; w2 = 0; runs = running (viewOf s); released = n }) (none-released (viewOf s .body .tasks)), refl)
+refused-plain s r (clean-verdict (given x y l g)) e = absurd (false≢true e)
+refused-plain s r (clean-verdict (waited i w)) e = absurd (false≢true e)
+refused-plain s r (nests h) e = absurd (false≢true e)
 
 -- A refused event changes nothing and takes no number: the state after it is the state before, arrival numbers and their count
 -- included. Its answer has w1 = w2 = 0, 0 released and the running task as before. Of any state, reached by a run or not.

@@ -13,17 +13,18 @@ use lib.ListN.{length, getD, set}
 use borrow.Author.Tests.{not-false}
 use Rattle.rules.specs.Ids.{of, put, ids, In, once, times}
 use Rattle.rules.specs.Codes.{Code, OK}
-use Rattle.rules.specs.State.{Kind, semaphore, flag, mailbox, pool, State, dormant, ready, suspended, waiting, waiting-suspended, Task, Body, task, nobody, objects, waitOf, wish, isDormant, isWaiting, isFreed, sleeps}
+use Rattle.rules.specs.State.{Kind, semaphore, flag, mailbox, pool, State, dormant, ready, suspended, waiting, waiting-suspended, Task, Handlers, Body, task, nobody, objects, waitOf, wish, isDormant, isWaiting, isFreed, sleeps}
 use Rattle.rules.specs.Places.{waiters, belongs, waitsOn, at, lineAt}
-use Rattle.rules.specs.Events.{Event, tick, call, nat, outside}
-use Rattle.rules.specs.Acts.{Act, start, retire, rotate, regrade, wait, release, suspend, resume, wakeups, count, pattern, post, receive, mark, elapse, with-state, freed, halted, resumed, older, after, afters}
+use Rattle.rules.specs.Events.{Event, tick, enter, exit, call, nat, outside}
+use Rattle.rules.specs.Acts.{Act, start, retire, rotate, regrade, wait, release, suspend, resume, wakeups, count, pattern, post, receive, mark, elapse, nest, with-state, freed, halted, resumed, older, after, afters}
 use Rattle.rules.specs.View.{View, line}
 use Rattle.rules.specs.Verdicts.{Verdict, waits}
 use Rattle.rules.specs.Tasks.{stateOf, starting, sta-tsk, ext-tsk, ter-tsk, chg-pri, rot-rdq, rel-wai, sus-tsk, rsm-tsk, take-wakeup, slp-tsk, wai-tsk, waking, wup-tsk, can-wup, get-tid, tsk-sts}
 use Rattle.rules.specs.Objects.{to-first, obj-sts, met, left, serve-flag, sig-sem, take-sem, set-flg, clr-flg, take-flg, snd-msg, take-msg, take-blk, rel-blk}
 use Rattle.rules.specs.Time.{get-tim, ending, endings, timeout, ticked}
+use Rattle.rules.specs.Handling.{entered, exited}
 use Rattle.rules.specs.Rows.{staTsk, extTsk, terTsk, chgPri, rotRdq, relWai, susTsk, rsmTsk, slpTsk, waiTsk, wupTsk, canWup, sigSem, waiSem, preqSem, setFlg, clrFlg, waiFlg, polFlg, sndMsg, rcvMsg, prcvMsg, getBlk, pgetBlk, relBlk, getTid, tskSts, semSts, flgSts, mbxSts, mplSts, getTim}
-use Rattle.rules.specs.Table.{caller, table, judge}
+use Rattle.rules.specs.Table.{caller, handles, table, judge}
 use Rattle.rules.specs.Answers.{isReleased, releasedCount}
 use Rattle.rules.specs.Sound.{Sound}
 use Rattle.rules.specs.Kernel.{next}
@@ -80,6 +81,7 @@ act-unreleased (post j m) b n d = none-released (b .tasks)
 act-unreleased (receive j) b n d = none-released (b .tasks)
 act-unreleased (mark p k t) b n d = none-released (b .tasks)
 act-unreleased elapse b n d = released-older (b .tasks) (b .tasks) ∙ none-released (b .tasks)
+act-unreleased (nest h) b n d = absurd d
 
 -- ---- a list of releases, each of a task that waits at the start, in b, and still when its turn comes, in c
 
@@ -208,6 +210,10 @@ module _ (b : Body) where
   unfolding afters
   count-one a n d = rw n (act-unreleased a b n d)
 
+  count-nest : (h : Handlers) → Counted (nest h ∷ [])
+  unfolding afters after
+  count-nest h = none-released (b .tasks)
+
   count-release : (i : ℕ) (c : Code) (w : ℕ) → isWaiting (task b i .state) ≡ true → Counted (release i c w ∷ [])
   count-release i c w h = counted b _ (frees b i c w [] h h (ends _))
 
@@ -268,9 +274,19 @@ module _ (v : View) (s : Sound v) (a y z : ℤ) where
 
 -- ---- an event
 
+enter-counts : (v : View) → Counts (v .body) (entered v)
+unfolding entered
+enter-counts v = acts-check _ (count-none (v .body)) (λ e. on-acts (count-nest (v .body) _))
+
+exit-counts : (v : View) → Counts (v .body) (exited v)
+unfolding exited
+exit-counts v = acts-check _ (count-none (v .body)) (λ e. on-acts (count-nest (v .body) _))
+
 -- the number released is the number of release acts
 pub released-by-acts : (v : View) (e : Event) → Sound v → releasedCount (v .body .tasks) (next v e .body .tasks) ≡ releases (judge v e .acts)
-unfolding next judge ticked
+unfolding next judge ticked entered exited
 released-by-acts v tick s = rw (body-acts (ticked v .acts) v) (counted (v .body) _ (tick-frees (v .body) (v .body) (endings (v .body)) (endings-come (v .body))))
+released-by-acts v enter s = rw (body-acts (entered v .acts) v) (elim (enter-counts v) [ on-acts k ↦ k ])
+released-by-acts v exit s = rw (body-acts (exited v .acts) v) (elim (exit-counts v) [ on-acts k ↦ k ])
 released-by-acts v (call x n a y z) s =
-    rw (body-acts (judge v (call x n a y z) .acts) v) (acts-call (Counted (v .body)) (count-none (v .body)) v a y z (λ h. rows v s a y z h (caller v h)) x n)
+    rw (body-acts (judge v (call x n a y z) .acts) v) (acts-call (Counted (v .body)) (count-none (v .body)) v a y z (λ h. rows v s a y z (handles v h) (caller v h)) x n)

@@ -11,7 +11,7 @@ use lib.Dec.{eqb}
 use lib.ListN.{length}
 use borrow.Author.Tests.{eqb-true, eq-eqb, ne-eqb, not-true}
 use Rattle.rules.specs.Ids.{of, from, ids, In, keep, once, times, first}
-use Rattle.rules.specs.State.{Kind, Wait, asleep, timed, on, Body, task, waitOf, isReady}
+use Rattle.rules.specs.State.{no-handler, Kind, Wait, asleep, timed, on, Body, task, waitOf, isReady}
 use Rattle.rules.specs.Places.{Place, readyAt, waiters, mail, Sort, tasks, messages, sameSort, sortAt, Item, aTask, item, same, population, many, belongs, waitsOn, lies, Exists, tabulate}
 use Rattle.rules.specs.Setup.{Setup}
 use Rattle.rules.specs.Events.{Event}
@@ -21,7 +21,7 @@ use Rattle.rules.specs.Table.{judge}
 use Rattle.rules.specs.Sound.{Sound}
 use Rattle.rules.specs.Kernel.{starts}
 use Rattle.rules.specs.Plain.{Plain, numberOf, queueOf, viewOf, renumbered, plainAct, plainActs, unstarted, plainFresh, plainNext}
-use Rattle.rules.specs.Order.{Rising, Ordered, OneLine, Ready, Before, WhoRuns}
+use Rattle.rules.specs.Order.{Rising, Ordered, OneLine, Ready, Before, HeadRuns, WhoRuns}
 use Rattle.rules.proofs.Ids.{Each, times-append, times-keep, has-keep, kept-passes, times-ids, times-head, times-tail}
 use Rattle.rules.proofs.Fits.{population-after, in-range}
 use Rattle.rules.proofs.Sorting.{all-has, times-byNumber}
@@ -227,7 +227,7 @@ times-queue s q i =
     go true e = times-ids i (many (s .body) q) (in-range (s .body) q i e)
     go false e = refl
 
-module _ (s : Plain) (g : Sound (viewOf s)) (o : Ordered s) where
+module _ (s : Plain) (g : Sound (viewOf s)) (o : Ordered s) (z : s .body .handlers ≡ no-handler) where
   -- the ready queue of a priority
   abbrev queue : ℕ → List ℕ
   queue p = queueOf s (readyAt p)
@@ -265,7 +265,7 @@ module _ (s : Plain) (g : Sound (viewOf s)) (o : Ordered s) where
 
   runs-found : running (viewOf s) ≡ first found
   unfolding running viewOf tabulate ids
-  runs-found = refl
+  runs-found = rw z
 
   -- a queue in which a READY or RUN task stands is not empty
   not-empty : (j : ℕ) → Ready s j → queue (rank j) ≡ [] → ⊥
@@ -312,7 +312,7 @@ module _ (s : Plain) (g : Sound (viewOf s)) (o : Ordered s) where
             absurd (f (h .head) (head-ready .0) (inr (omega (arith, head-ready .1), behind r k (omega arith) e)))
 
 pub who-runs : (s : Plain) → Sound (viewOf s) → Ordered s → WhoRuns s
-who-runs s g o = go (nonempty-from (queue s g o) 1 (s .body .store .priorities))
+who-runs s g o out = go (nonempty-from (queue s g o out) 1 (s .body .store .priorities))
   where
     unready : (i : ℕ) → (Ready s i → ⊥) → isReady (task (s .body) i .state) ≡ false
     unready i h = side (isReady (task (s .body) i .state)) h
@@ -321,15 +321,15 @@ who-runs s g o = go (nonempty-from (queue s g o) 1 (s .body .store .priorities))
         side true k = absurd (k refl)
         side false k = refl
 
-    go : Nowhere (queue s g o) 1 (s .body .store .priorities) (found s g o) ⊎ Somewhere (queue s g o) 1 (s .body .store .priorities) (found s g o) → WhoRuns s
+    go : Nowhere (queue s g o out) 1 (s .body .store .priorities) (found s g o out) ⊎ Somewhere (queue s g o out) 1 (s .body .store .priorities) (found s g o out) → HeadRuns s
     go (inl h) = record {
-      somebody = λ r. (λ e. absurd (e .0 (sym (e .1) ∙ none-runs s g o h)), λ e. absurd (none-ready s g o h r (e .0)));
-      nobody = (λ e j. unready j (none-ready s g o h j), λ e. none-runs s g o h);
+      somebody = λ r. (λ e. absurd (e .0 (sym (e .1) ∙ none-runs s g o out h)), λ e. absurd (none-ready s g o out h r (e .0)));
+      nobody = (λ e j. unready j (none-ready s g o out h j), λ e. none-runs s g o out h);
     }
     go (inr h) = record {
       somebody = λ r. (
-        λ e. let k : h .head ≡ r = sym (head-runs s g o h) ∙ e .1 in (rw (← k) (head-ready s g o h .0), λ j a b. head-least s g o h j a (rw k b)),
-        λ e. (λ z. omega (arith, ready-id s g o r (e .0) .0), head-runs s g o h ∙ least-head s g o h r (e .0) (e .1)),
+        λ e. let k : h .head ≡ r = sym (head-runs s g o out h) ∙ e .1 in (rw (← k) (head-ready s g o out h .0), λ j a b. head-least s g o out h j a (rw k b)),
+        λ e. (λ z. omega (arith, ready-id s g o out r (e .0) .0), head-runs s g o out h ∙ least-head s g o out h r (e .0) (e .1)),
       );
-      nobody = (λ e j. absurd (omega (arith, ready-id s g o (h .head) (head-ready s g o h .0) .0, e, head-runs s g o h)), λ e. absurd (false≢true (sym (e (h .head)) ∙ head-ready s g o h .0)));
+      nobody = (λ e j. absurd (omega (arith, ready-id s g o out (h .head) (head-ready s g o out h .0) .0, e, head-runs s g o out h)), λ e. absurd (false≢true (sym (e (h .head)) ∙ head-ready s g o out h .0)));
     }

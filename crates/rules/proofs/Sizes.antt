@@ -5,7 +5,7 @@ use Prim.Native.Nat.{ℕ}
 use lib.ListN.{length, length-map}
 use Rattle.rules.specs.Ids.{of}
 use Rattle.rules.specs.State.{Kind, semaphore, flag, mailbox, pool, Task, Store, Body, objects}
-use Rattle.rules.specs.Acts.{Act, start, retire, rotate, regrade, wait, release, suspend, resume, wakeups, count, pattern, post, receive, mark, elapse, with-clock, with-tasks, with-store, after, afters}
+use Rattle.rules.specs.Acts.{Act, start, retire, rotate, regrade, wait, release, suspend, resume, wakeups, count, pattern, post, receive, mark, elapse, nest, with-clock, with-tasks, with-store, after, afters}
 use Rattle.rules.proofs.Ids.{length-put, of-put-test}
 
 pub record SameSizes (b c : Body) : Type 0 where
@@ -61,6 +61,7 @@ sizes-after (receive j) b = sizes-store b _ refl refl refl refl (length-put (b .
 sizes-after (mark q k t) b =
     sizes-store b _ refl refl refl refl refl (length-put (b .store .pools) q _) (λ p. of-put-test length (b .store .pools) q p _ [] (length-put (of (b .store .pools) q []) k t))
 sizes-after elapse b = sizes-then (sizes-tasks b _ (length-map (b .tasks) _)) (sizes-clock _ _)
+sizes-after (nest h) b = record { priorities = refl; tasks = refl; objects = λ k. refl; messages = refl; blocks = λ p. refl }
 
 pub sizes-afters : (l : List Act) (b : Body) → SameSizes b (afters l b)
 unfolding afters

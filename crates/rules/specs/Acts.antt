@@ -5,7 +5,7 @@ use mathlib.Core.Option.{Option, none, some}
 use Prim.Native.Nat.{ℕ, suc, pred, _%_, _^_}
 use Rattle.rules.specs.Ids.{of, put}
 use Rattle.rules.specs.Codes.{Code, OK}
-use Rattle.rules.specs.State.{Wait, asleep, timed, on, State, dormant, ready, suspended, waiting, waiting-suspended, Cell, Task, Store, Body, task, isWaiting}
+use Rattle.rules.specs.State.{Wait, asleep, timed, on, State, dormant, ready, suspended, waiting, waiting-suspended, Cell, Task, Store, Handlers, Body, task, isWaiting}
 use Rattle.rules.specs.Places.{Item, aTask, aMessage}
 
 pub data Act : Type 0 where
@@ -27,6 +27,8 @@ pub data Act : Type 0 where
   mark : ℕ → ℕ → Bool → Act
   -- a tick goes by
   elapse : Act
+  -- a handler begins or ends: those that are open then
+  nest : Handlers → Act
 
 -- ---- a record with one field changed
 
@@ -58,10 +60,13 @@ abbrev pub with-clock : ℕ → Store → Store
 with-clock x u = record { priorities = u .priorities; semaphores = u .semaphores; flags = u .flags; mailboxes = u .mailboxes; messages = u .messages; pools = u .pools; clock = x }
 
 abbrev pub with-tasks : List Task → Body → Body
-with-tasks l b = record { tasks = l; store = b .store }
+with-tasks l b = record { tasks = l; store = b .store; handlers = b .handlers }
 
 abbrev pub with-store : Store → Body → Body
-with-store u b = record { tasks = b .tasks; store = u }
+with-store u b = record { tasks = b .tasks; store = u; handlers = b .handlers }
+
+abbrev pub with-handlers : Handlers → Body → Body
+with-handlers h b = record { tasks = b .tasks; store = b .store; handlers = h }
 
 -- task i changed by f
 abbrev pub change : (Task → Task) → ℕ → Body → Body
@@ -138,7 +143,8 @@ after (pattern f n) b = with-store (with-flags (put (b .store .flags) f n) (b .s
 after (post j m) b = with-store (with-messages (put (b .store .messages) j (some m)) (b .store)) b
 after (receive j) b = with-store (with-messages (put (b .store .messages) j none) (b .store)) b
 after (mark p k t) b = with-store (with-pools (put (b .store .pools) p (put (of (b .store .pools) p []) k t)) (b .store)) b
-after elapse b = record { tasks = map (λ t. with-state (older (t .state)) t) (b .tasks); store = with-clock (clockAfter (b .store .clock)) (b .store) }
+after elapse b = record { tasks = map (λ t. with-state (older (t .state)) t) (b .tasks); store = with-clock (clockAfter (b .store .clock)) (b .store); handlers = b .handlers }
+after (nest h) b = with-handlers h b
 
 unfoldable pub afters : List Act → Body → Body
 afters [] b = b
@@ -197,3 +203,4 @@ move b (post j m) = last (aMessage j)
 move b (receive j) = leave (aMessage j)
 move b (mark p k t) = stay
 move b elapse = stay
+move b (nest h) = stay

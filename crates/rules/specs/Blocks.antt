@@ -11,7 +11,7 @@ use Rattle.rules.specs.Ids.{of, In, once}
 use Rattle.rules.specs.Codes.{Code, number}
 use Rattle.rules.specs.State.{pool, Task, Body, isFreed}
 use Rattle.rules.specs.Places.{awaits}
-use Rattle.rules.specs.Events.{Event, tick, call, nat}
+use Rattle.rules.specs.Events.{Event, tick, enter, exit, call, nat}
 
 -- block k of pool p is free; out means not free
 abbrev pub isFree : Body → ℕ → ℕ → Bool
@@ -38,6 +38,8 @@ ok c = is (number c) 0
 -- Code 0 of get_blk or pget_blk, the block in w1.
 abbrev pub taken : Event → ℤ → ℕ → ℕ → ℕ → Bool
 taken tick code w1 p k = false
+taken enter code w1 p k = false
+taken exit code w1 p k = false
 taken (call x n a b c) code w1 p k = (is n 23 || is n 24) && (is code 0 && (eqb (nat a) p && eqb w1 k))
 
 -- A pool waiter's cell of code 0 at release, the block its word: a task that waits on the pool before the event, is READY, RUN or
@@ -53,6 +55,8 @@ handedCount p k (t ∷ ts) (u ∷ us) = once (handed p k t u) + handedCount p k 
 -- A return is code 0 of rel_blk naming it.
 abbrev pub returned : Event → ℤ → ℕ → ℕ → Bool
 returned tick code p k = false
+returned enter code p k = false
+returned exit code p k = false
 returned (call x n a b c) code p k = is n 25 && (is code 0 && (eqb (nat a) p && eqb (nat b) k))
 
 -- at one event

@@ -7,7 +7,7 @@ use Prim.Native.Nat.{ℕ}
 use lib.IntN.{ℤ, pos}
 use Rattle.rules.specs.Codes.{E-RLWAI, number}
 use Rattle.rules.specs.State.{State, Cell, Task, task, isDormant}
-use Rattle.rules.specs.Events.{Event, tick, call, nat}
+use Rattle.rules.specs.Events.{Event, tick, enter, exit, call, nat}
 use Rattle.rules.specs.View.{View}
 use Rattle.rules.specs.Answers.{isReleased}
 use Rattle.rules.specs.Kernel.{event, cell}
@@ -41,6 +41,8 @@ StaysBroken a v (e ∷ l) =
 -- the event is an accepted rel_wai that names task a: call 6, its first word a, and the number of the code that it is answered with is 0
 abbrev pub BreaksOff : ℤ → Event → ℤ → Type 0
 BreaksOff a tick code = ⊥
+BreaksOff a enter code = ⊥
+BreaksOff a exit code = ⊥
 BreaksOff a (call x n w b c) code = (n ≡ pos 6) × (w ≡ a) × (code ≡ pos 0)
 
 -- Of task i before and after an event, which is answered with that code: if its cell is E_RLWAI after the event, then the event is an

@@ -11,9 +11,9 @@ use native.Mathlib.Omega.{arith}
 use lib.ListN.{length}
 use Rattle.rules.specs.Ids.{of, In, times}
 use Rattle.rules.specs.Codes.{OK, E-TMOUT, E-RLWAI, Code-discrete}
-use Rattle.rules.specs.State.{Kind, semaphore, flag, mailbox, pool, Wait, asleep, timed, on, Cell, Task, Store, Body, task, objects, waitOf, isDormant, sleeps}
+use Rattle.rules.specs.State.{Kind, semaphore, flag, mailbox, pool, Wait, asleep, timed, on, Cell, Task, Store, Handlers, no-handler, in-handler, Body, task, objects, waitOf, isDormant, sleeps}
 use Rattle.rules.specs.Places.{Place, readyAt, waiters, mail, many, at, Lines, Exists}
-use Rattle.rules.specs.Sound.{Sizes, LiesWell, StoreNumbers, CellNumbers, WishNumbers, WaitNumbers, Unserved, SoundTask, SoundBody, Shape, Known, Queue, Sound}
+use Rattle.rules.specs.Sound.{Sizes, LiesWell, StoreNumbers, CellNumbers, WishNumbers, WaitNumbers, Unserved, SoundTask, HandlersFit, SoundBody, Shape, Known, Queue, Sound}
 use Rattle.rules.specs.View.{View, line}
 
 module _ {A B : Type 0} where
@@ -129,11 +129,16 @@ task? u t =
     (both? (if? (sleeps (waitOf (t .state))) (ℕ-discrete (t .wakeups) 0))
     (both? (if? (isDormant (t .state)) (ℕ-discrete (t .wakeups) 0)) (if? (isDormant (t .state)) (ℕ-discrete (t .priority) (t .start))))))))
 
+unfoldable pub handlers? : (l : List Task) (h : Handlers) → Dec (HandlersFit l h)
+unfolding both? either? decLe ℕ-discrete
+handlers? l no-handler = yes tt
+handlers? l (in-handler n i) = both? (decLe (suc n) 15) (either? (ℕ-discrete i 0) (Bool-discrete _ true))
+
 unfoldable pub body? : (b : Body) → Dec (SoundBody b)
-unfolding convert both? every? sizes? store? task?
+unfolding convert both? every? sizes? store? task? handlers?
 body? b =
-    convert (λ t. record { sizes = t .0; store = t .1 .0; tasks = t .1 .1 }) (λ r. (r .sizes, (r .store, r .tasks)))
-    (both? (sizes? b) (both? (store? (b .store)) (every? (length (b .tasks)) (λ i. task? (b .store) (task b i)))))
+    convert (λ t. record { sizes = t .0; store = t .1 .0; tasks = t .1 .1 .0; handlers = t .1 .1 .1 }) (λ r. (r .sizes, (r .store, (r .tasks, r .handlers))))
+    (both? (sizes? b) (both? (store? (b .store)) (both? (every? (length (b .tasks)) (λ i. task? (b .store) (task b i))) (handlers? (b .tasks) (b .handlers)))))
 
 unfoldable pub shape? : (u : Store) (l : Lines) → Dec (Shape u l)
 unfolding convert both? kinds? ℕ-discrete

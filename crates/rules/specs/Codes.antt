@@ -4,7 +4,7 @@ use Prim.Native.Nat.{ℕ}
 use lib.IntN.{ℤ, pos, negsuc, negℤ}
 
 pub data Code : Type 0 where
-  OK WAITS H-STATE H-CALL H-PAR E-NOEXS E-TPRI E-ILTIME E-CTX E-SELF E-DMT H-NODMT H-SUS E-NOSUS E-NOWAI E-QOVR H-POLL H-MSG H-ILBLK E-TMOUT E-RLWAI : Code
+  OK WAITS H-STATE H-CALL H-PAR E-NOEXS E-TPRI E-ILTIME E-CTX E-SELF E-DMT H-NODMT H-SUS E-NOSUS E-NOWAI E-QOVR H-POLL H-MSG H-NEST H-ILBLK E-TMOUT E-RLWAI : Code
   deriving Discrete as Code-discrete
 
 abbrev pub minus : ℕ → ℤ
@@ -30,6 +30,7 @@ number E-NOWAI = minus 2110
 number E-QOVR = minus 2889
 number H-POLL = minus 5
 number H-MSG = minus 6
+number H-NEST = minus 7
 number H-ILBLK = minus 10
 number E-TMOUT = minus 3413
 number E-RLWAI = minus 3414

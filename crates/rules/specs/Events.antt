@@ -5,17 +5,21 @@ use Prim.Native.Nat.{ℕ, zero, suc, _-_, _<_, _^_}
 use lib.Dec.{leb}
 use lib.IntN.{ℤ, pos, negsuc}
 
--- A tick, or a call: context (0 task, 1 handler), call number, and words a, b, c.
+-- A tick, the entry of a handler, the return of one, or a call: context (0 task, 1 handler), call number, and words a, b, c.
 pub data Event : Type 0 where
   tick : Event
+  enter exit : Event
   call : ℤ → ℤ → ℤ → ℤ → ℤ → Event
 
--- The five-word form of recorded runs: kind (0 task, 1 handler, 2 tick), call, a, b, c. Any other kind is a call from no context.
+-- The five-word form of recorded runs: kind (0 task, 1 handler, 2 tick, 3 entry, 4 return), call, a, b, c. Any other kind
+-- is a call from no context.
 abbrev pub eventOf : ℤ → ℤ → ℤ → ℤ → ℤ → Event
 eventOf (pos zero) n a b c = call (pos 0) n a b c
 eventOf (pos (suc zero)) n a b c = call (pos 1) n a b c
 eventOf (pos (suc (suc zero))) n a b c = tick
-eventOf (pos (suc (suc (suc k)))) n a b c = call (pos (suc (suc (suc k)))) n a b c
+eventOf (pos (suc (suc (suc zero)))) n a b c = enter
+eventOf (pos (suc (suc (suc (suc zero))))) n a b c = exit
+eventOf (pos (suc (suc (suc (suc (suc k)))))) n a b c = call (pos (suc (suc (suc (suc (suc k)))))) n a b c
 eventOf (negsuc k) n a b c = call (negsuc k) n a b c
 
 -- a list of words, five an event; words that make no whole event are left out
@@ -36,6 +40,8 @@ Word (negsuc n) = n < 2 ^ 31
 
 abbrev pub Words : Event → Type 0
 Words tick = Unit {0}
+Words enter = Unit {0}
+Words exit = Unit {0}
 Words (call x n a b c) = Word x × Word n × Word a × Word b × Word c
 
 abbrev pub AllWords : List Event → Type 0

@@ -6,7 +6,7 @@ use Prim.Native.Nat.{ℕ, suc}
 use lib.IntN.{ℤ}
 use lib.ListN.{replicate}
 use Rattle.rules.specs.Codes.{Code, OK, H-STATE}
-use Rattle.rules.specs.State.{dormant, Cell, Task, Body}
+use Rattle.rules.specs.State.{dormant, Cell, Task, no-handler, Body}
 use Rattle.rules.specs.Places.{tabulate}
 use Rattle.rules.specs.Setup.{Entry, Setup}
 use Rattle.rules.specs.Events.{Event}
@@ -22,7 +22,7 @@ use Rattle.rules.specs.Check.{sound?}
 abbrev pub idleTask : Entry → Task
 idleTask e = record { state = dormant; priority = e .priority; start = e .priority; wakeups = 0; cell = record { code = OK; word = 0 } }
 
--- every task dormant, every block free, every mailbox empty, clock 0, wake-up counts 0, answer cells 0 and 0
+-- every task dormant, every block free, every mailbox empty, clock 0, wake-up counts 0, answer cells 0 and 0, no handler open
 unfoldable pub idle : Setup → Body
 idle u = record {
   tasks = map idleTask (u .tasks);
@@ -35,6 +35,7 @@ idle u = record {
     pools = map (λ n. replicate n true) (u .pools);
     clock = 0;
   };
+  handlers = no-handler;
 }
 
 -- Started tasks enter the ready queues in id order, the others are dormant.
@@ -66,7 +67,7 @@ damaged v = record { answer = record { code = H-STATE; w1 = 0; w2 = 0; runs = 0;
 unfoldable pub refusal : View → Code → Outcome
 refusal v c = record { answer = record { code = c; w1 = 0; w2 = 0; runs = running v; released = 0 }; next = v }
 
--- H_STATE comes before every other refusal, of calls and of ticks.
+-- H_STATE comes before every other refusal, of calls, ticks, entries and returns.
 unfoldable pub guarded : (v : View) → Event → Dec (Sound v) → Outcome
 guarded v e (yes s) = served v e
 guarded v e (no h) = damaged v

@@ -13,12 +13,14 @@ pub mod Verdicts
 pub mod Tasks
 pub mod Objects
 pub mod Time
+pub mod Handling
 pub mod Rows
 pub mod Table
 pub mod Answers
 pub mod Sound
 pub mod Check
 pub mod Kernel
+pub mod Interrupted
 pub mod Plain
 pub mod Runs
 pub mod Order

@@ -5,7 +5,7 @@ use mathlib.Core.Logic.{_⊎_, _≢_, _↔_}
 use mathlib.Core.Path.{_≡_}
 use Prim.Native.Nat.{ℕ, _≤_, _<_}
 use Rattle.rules.specs.Ids.{times}
-use Rattle.rules.specs.State.{task, isReady}
+use Rattle.rules.specs.State.{no-handler, task, isReady}
 use Rattle.rules.specs.Places.{Place, aTask, item, Exists}
 use Rattle.rules.specs.View.{View, line, running}
 use Rattle.rules.specs.Plain.{Plain, numberOf, queueOf, viewOf}
@@ -37,6 +37,10 @@ Before s i j =
 
 -- Task r runs exactly if it is READY or RUN and no other such task has a smaller pair of priority and arrival number; nobody runs
 -- exactly if there is no such task.
-pub record WhoRuns (s : Plain) : Type 0 where
+pub record HeadRuns (s : Plain) : Type 0 where
   pub somebody : (r : ℕ) → ((r ≢ 0) × (running (viewOf s) ≡ r)) ↔ (Ready s r × ((j : ℕ) → Ready s j → Before s j r → ⊥))
   pub nobody : (running (viewOf s) ≡ 0) ↔ ((j : ℕ) → isReady (task (s .body) j .state) ≡ false)
+
+-- so while no handler is open
+abbrev pub WhoRuns : Plain → Type 0
+WhoRuns s = s .body .handlers ≡ no-handler → HeadRuns s

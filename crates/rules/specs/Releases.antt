@@ -3,7 +3,7 @@ use mathlib.Core.Bool.{Bool, true, false}
 use mathlib.Core.List.{List, [], _∷_}
 use Prim.Native.Nat.{ℕ, _+_}
 use Rattle.rules.specs.Ids.{once}
-use Rattle.rules.specs.Acts.{Act, start, retire, rotate, regrade, wait, release, suspend, resume, wakeups, count, pattern, post, receive, mark, elapse}
+use Rattle.rules.specs.Acts.{Act, start, retire, rotate, regrade, wait, release, suspend, resume, wakeups, count, pattern, post, receive, mark, elapse, nest}
 
 abbrev pub isRelease : Act → Bool
 isRelease (start i) = false
@@ -21,6 +21,7 @@ isRelease (post j m) = false
 isRelease (receive j) = false
 isRelease (mark p k t) = false
 isRelease elapse = false
+isRelease (nest h) = false
 
 abbrev pub releases : List Act → ℕ
 releases [] = 0

@@ -9,7 +9,7 @@ use lib.Dec.{eqb}
 use lib.ListN.{length}
 use Rattle.rules.specs.Ids.{of, In, once, times}
 use Rattle.rules.specs.Codes.{OK, E-TMOUT, E-RLWAI}
-use Rattle.rules.specs.State.{Kind, semaphore, flag, mailbox, pool, Wait, asleep, timed, on, Cell, Task, Store, Body, task, objects, waitOf, isDormant, sleeps}
+use Rattle.rules.specs.State.{Kind, semaphore, flag, mailbox, pool, Wait, asleep, timed, on, Cell, Task, Store, Handlers, no-handler, in-handler, depth, Body, task, nobody, objects, waitOf, isDormant, isFreed, sleeps}
 use Rattle.rules.specs.Places.{Place, many, lies, belongs, at, Lines, Exists}
 use Rattle.rules.specs.Objects.{met, free}
 use Rattle.rules.specs.View.{View, line}
@@ -70,10 +70,17 @@ pub record SoundTask (u : Store) (t : Task) : Type 0 where
   -- a dormant task has its starting priority.
   pub rest : isDormant (t .state) ≡ true → t .priority ≡ t .start
 
+-- ---- The depth is 0..15; above 0 the interrupted task is 0 or one that is ready, running or suspended.
+
+abbrev pub HandlersFit : List Task → Handlers → Type 0
+HandlersFit l no-handler = Unit {0}
+HandlersFit l (in-handler n i) = (depth (in-handler n i) ≤ 15) × ((i ≡ 0) ⊎ (isFreed (of l i nobody .state) ≡ true))
+
 pub record SoundBody (b : Body) : Type 0 where
   pub sizes : Sizes b
   pub store : StoreNumbers (b .store)
   pub tasks : (i : ℕ) → In i (length (b .tasks)) → SoundTask (b .store) (task b i)
+  pub handlers : HandlersFit (b .tasks) (b .handlers)
 
 -- ---- the queues
 

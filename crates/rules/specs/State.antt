@@ -2,7 +2,7 @@
 use mathlib.Core.Bool.{Bool, true, false}
 use mathlib.Core.List.{List}
 use mathlib.Core.Option.{Option, none, some}
-use Prim.Native.Nat.{ℕ}
+use Prim.Native.Nat.{ℕ, suc}
 use lib.ListN.{length}
 use Rattle.rules.specs.Ids.{of}
 use Rattle.rules.specs.Codes.{Code, OK}
@@ -18,7 +18,7 @@ pub data Wait : Type 0 where
   timed : ℕ → Wait
   on : Kind → ℕ → ℕ → ℕ → Wait
 
--- RUN is not kept: it is the running rule's task, one of the ready ones
+-- RUN is not kept: it is the running rule's task, if it is one of the ready ones
 pub data State : Type 0 where
   dormant ready suspended : State
   waiting waiting-suspended : Wait → State
@@ -47,9 +47,24 @@ pub record Store : Type 0 where
   pub pools : List (List Bool)
   pub clock : ℕ
 
+-- The handlers: none is open; or so many beside the outermost one, and the task that it interrupted (0 if nobody ran).
+pub data Handlers : Type 0 where
+  no-handler : Handlers
+  in-handler : ℕ → ℕ → Handlers
+
+-- how many are open
+abbrev pub depth : Handlers → ℕ
+depth no-handler = 0
+depth (in-handler n i) = suc n
+
+abbrev pub isOpen : Handlers → Bool
+isOpen no-handler = false
+isOpen (in-handler n i) = true
+
 pub record Body : Type 0 where
   pub tasks : List Task
   pub store : Store
+  pub handlers : Handlers
 
 -- what is read at an id that no task has
 abbrev pub nobody : Task

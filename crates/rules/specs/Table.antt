@@ -1,17 +1,18 @@
 -- The table of the calls, the order of the refusals, and the judgement of an event.
-use mathlib.Core.Bool.{Bool, true, false, not, cond, _&&_}
+use mathlib.Core.Bool.{Bool, true, false, not, cond, _&&_, _||_}
 use mathlib.Core.List.{List, [], _∷_}
 use mathlib.Core.Option.{Option, none, some}
 use Prim.Native.Nat.{ℕ, zero, suc}
 use lib.Dec.{eqb}
 use lib.IntN.{ℤ, pos, negsuc}
 use Rattle.rules.specs.Codes.{H-CALL, E-CTX, E-SELF, E-DMT}
-use Rattle.rules.specs.State.{Body, task, isDormant}
-use Rattle.rules.specs.Events.{Event, tick, call}
+use Rattle.rules.specs.State.{Body, task, isDormant, isOpen}
+use Rattle.rules.specs.Events.{Event, tick, enter, exit, call}
 use Rattle.rules.specs.View.{View, running}
 use Rattle.rules.specs.Verdicts.{Verdict, refuse, check}
 use Rattle.rules.specs.Rows.{Refusal, Context, T, both, Target, unnamed, anyone, alive, another, Row, staTsk, extTsk, terTsk, chgPri, rotRdq, relWai, susTsk, rsmTsk, slpTsk, waiTsk, wupTsk, canWup, sigSem, waiSem, preqSem, setFlg, clrFlg, waiFlg, polFlg, sndMsg, rcvMsg, prcvMsg, getBlk, pgetBlk, relBlk, getTid, tskSts, semSts, flgSts, mbxSts, mplSts, getTim}
 use Rattle.rules.specs.Time.{ticked}
+use Rattle.rules.specs.Handling.{entered, exited}
 
 -- ---- the order of the refusals
 
@@ -20,7 +21,8 @@ unfoldable pub refusals : List Refusal → Verdict → Verdict
 refusals [] r = r
 refusals (x ∷ l) r = check (x .applies) (x .code) (refusals l r)
 
--- E_CTX: task-only call from a handler; task context while nothing runs. `me` is the caller, 0 from a handler and while nothing runs.
+-- E_CTX: task-only call from a handler; task context while nothing runs or a handler is open; a handler's call while none is open.
+-- `handler` says that an open handler calls; `me` is the task that calls, 0 if none does.
 abbrev pub misplaced : Context → Bool → ℕ → Bool
 misplaced T handler me = eqb me 0
 misplaced both handler me = not handler && eqb me 0
@@ -114,16 +116,22 @@ handler (pos (suc zero)) = some true
 handler (pos (suc (suc n))) = none
 handler (negsuc n) = none
 
--- In task context the caller is the running task.
+-- In task context the caller is the running task; while a handler is open no task calls.
 abbrev pub caller : View → Bool → ℕ
-caller v h = cond h 0 (running v)
+caller v h = cond (h || isOpen (v .body .handlers)) 0 (running v)
+
+-- a handler calls, and one is open
+abbrev pub handles : View → Bool → Bool
+handles v h = h && isOpen (v .body .handlers)
 
 -- H_CALL: a negative call number, or context not 0 or 1.
 unfoldable pub called : View → Option Bool → ℤ → ℤ → ℤ → ℤ → Verdict
 called v none n a b c = refuse H-CALL
 called v (some h) (negsuc n) a b c = refuse H-CALL
-called v (some h) (pos n) a b c = numbered v h (caller v h) n a b c
+called v (some h) (pos n) a b c = numbered v (handles v h) (caller v h) n a b c
 
 unfoldable pub judge : View → Event → Verdict
 judge v tick = ticked v
+judge v enter = entered v
+judge v exit = exited v
 judge v (call x n a b c) = called v (handler x) n a b c

@@ -37,7 +37,8 @@ ter-tsk a = done (retire (nat a) ∷ [])
 unfoldable pub chg-pri : ℤ → ℤ → Verdict
 chg-pri a b = done (regrade (nat a) (nat b) ∷ [])
 
--- 5 rot_rdq(a): the head of that queue goes last; 0 means the running task's queue; an empty queue is code 0.
+-- 5 rot_rdq(a): the head of that queue goes last; 0 means the best nonempty ready queue, whoever is reported as running; an empty queue
+-- is code 0.
 unfoldable pub rot-rdq : View → ℤ → Verdict
 rot-rdq v a = onFirst (cond (eqb (nat a) 0) (best v) (line v (readyAt (nat a)))) (done []) (λ x. done (rotate x ∷ []))
 

@@ -3,7 +3,7 @@ use mathlib.Core.Bool.{not, cond}
 use mathlib.Core.List.{List, [], _∷_, _++_}
 use Prim.Native.Nat.{ℕ}
 use Rattle.rules.specs.Ids.{keep, first}
-use Rattle.rules.specs.State.{Body}
+use Rattle.rules.specs.State.{Handlers, no-handler, in-handler, Body}
 use Rattle.rules.specs.Places.{Place, sameSort, sortAt, Item, item, same, belongs, Lines, lineAt, tabulate}
 use Rattle.rules.specs.Acts.{Act, after, Move, stay, leave, last, move}
 
@@ -25,9 +25,19 @@ nonempty ((x ∷ q) ∷ l) = x ∷ q
 abbrev pub best : View → List ℕ
 best v = nonempty (v .lines .ready)
 
--- The running task is the head of the nonempty ready queue with the smallest priority number (0 if there is none).
+-- the head of that queue (0 if there is none)
+abbrev pub head : View → ℕ
+head v = first (best v)
+
+-- while a handler is open, the task at the outermost entry
+abbrev pub reported : Handlers → ℕ → ℕ
+reported no-handler h = h
+reported (in-handler n i) h = i
+
+-- The running task is the head of the nonempty ready queue with the smallest priority number (0 if there is none). While any handler is
+-- open, it is the one at the outermost entry, even if it has been suspended meanwhile.
 unfoldable pub running : View → ℕ
-running v = first (best v)
+running v = reported (v .body .handlers) (head v)
 
 -- ---- an act on queues
 

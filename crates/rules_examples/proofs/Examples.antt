@@ -6,8 +6,8 @@ use lib.IntN.{ℤ, pos}
 use Rattle.rules.specs.Codes.{minus}
 use Rattle.rules.specs.Events.{Event}
 use Rattle.rules.specs.Runs.{play, plainPlay}
-use Rattle.rules_examples.specs.BenchSheet.{slp-tsk, wai-tsk, get-tid, X, X±, ran, plainRan, expected, Holds}
-use Rattle.rules_examples.specs.Examples.{taskExamples, objectExamples, leaves, runBytes, runWords, runAnswers, damages, repairs, touched, unchanged, readings, read}
+use Rattle.rules_examples.specs.BenchSheet.{slp-tsk, wai-tsk, get-tid, taskCall, handlerCall, ran, plainRan, expected, Holds}
+use Rattle.rules_examples.specs.Examples.{taskExamples, objectExamples, handlerExamples, leaves, runBytes, runWords, runAnswers, damages, repairs, openRepairs, touched, unchanged, readings, read}
 
 pub task-examples-hold : Holds taskExamples
 unfolding ran plainRan expected
@@ -17,12 +17,16 @@ pub object-examples-hold : Holds objectExamples
 unfolding ran plainRan expected
 object-examples-hold = (refl, refl)
 
+pub handler-examples-hold : Holds handlerExamples
+unfolding ran plainRan expected
+handler-examples-hold = (refl, refl)
+
 pub recorded-run-holds : (play runBytes runWords ≡ runAnswers) × (plainPlay runBytes runWords ≡ runAnswers)
 unfolding play plainPlay
 recorded-run-holds = (refl, refl)
 
 -- wai_tsk(-1) waits for ever, as slp_tsk does: no number of ticks would show it, the state does
-pub waits-for-ever : leaves (X± wai-tsk (minus 1) (pos 0) (pos 0)) ≡ leaves (X slp-tsk 0 0 0)
+pub waits-for-ever : leaves (taskCall wai-tsk (minus 1) (pos 0) (pos 0)) ≡ leaves (taskCall slp-tsk (pos 0) (pos 0) (pos 0))
 unfolding leaves
 waits-for-ever = refl
 
@@ -32,9 +36,14 @@ unfolding touched unchanged
 damage-refused e a = refl
 
 -- get_tid is served: w1 the running task, 1
-pub repair-served : touched repairs (X get-tid 0 0 0) (pos 1) ≡ unchanged repairs (pos 0 ∷ pos 1 ∷ pos 0 ∷ pos 1 ∷ pos 0 ∷ []) (pos 0)
+pub repair-served : touched repairs (taskCall get-tid (pos 0) (pos 0) (pos 0)) (pos 1) ≡ unchanged repairs (pos 0 ∷ pos 1 ∷ pos 0 ∷ pos 1 ∷ pos 0 ∷ []) (pos 0)
 unfolding touched unchanged
 repair-served = refl
+
+-- from a handler, with the task at the outermost entry
+pub open-repair-served : touched openRepairs (handlerCall get-tid (pos 0) (pos 0) (pos 0)) (pos 1) ≡ unchanged openRepairs (pos 0 ∷ pos 1 ∷ pos 0 ∷ pos 1 ∷ pos 0 ∷ []) (pos 0)
+unfolding touched unchanged
+open-repair-served = refl
 
 pub readings-hold : read readings ≡ map (λ r. r .gives) readings
 unfolding read

@@ -6,7 +6,7 @@ use lib.IntN.{ℤ, pos}
 use lib.ListN.{length, replicate}
 use Rattle.rules.specs.Codes.{minus, number}
 use Rattle.rules.specs.Setup.{Read, got, and-then, setup, Setup}
-use Rattle.rules.specs.Events.{Event, tick, call}
+use Rattle.rules.specs.Events.{Event, tick, enter, exit, call}
 use Rattle.rules.specs.State.{Cell, Body}
 use Rattle.rules.specs.Acts.{with-clock, with-store}
 use Rattle.rules.specs.View.{View, running}
@@ -22,8 +22,8 @@ pub record Step : Type 0 where
   pub event : Event
   pub says : List ℤ
 
-abbrev pub step : Event → ℤ → ℕ → ℕ → ℕ → ℕ → Step
-step e c x y r n = record { event = e; says = c ∷ pos x ∷ pos y ∷ pos r ∷ pos n ∷ [] }
+abbrev pub stepOf : Event → ℤ → ℕ → ℕ → ℕ → ℕ → Step
+stepOf e c x y r n = record { event = e; says = c ∷ pos x ∷ pos y ∷ pos r ∷ pos n ∷ [] }
 
 -- the calls by name, in the order of their numbers
 pub data Call : Type 0 where
@@ -65,19 +65,54 @@ callNumber mbx-sts = 30
 callNumber mpl-sts = 31
 callNumber get-tim = 32
 
--- X> and H>: a call from task context and from a handler
-abbrev pub X± : Call → ℤ → ℤ → ℤ → Event
-X± n a b c = call (pos 0) (pos (callNumber n)) a b c
+-- a call from task context, and one from a handler
+abbrev pub taskCall : Call → ℤ → ℤ → ℤ → Event
+taskCall n a b c = call (pos 0) (pos (callNumber n)) a b c
 
-abbrev pub H± : Call → ℤ → ℤ → ℤ → Event
-H± n a b c = call (pos 1) (pos (callNumber n)) a b c
+abbrev pub handlerCall : Call → ℤ → ℤ → ℤ → Event
+handlerCall n a b c = call (pos 1) (pos (callNumber n)) a b c
+
+-- what a line of a sheet is about: an event alone, or one between the entry of a handler and its return
+pub data Happening : Type 0 where
+  alone inside : Event → Happening
+
+-- X> is a call from task context, H> means entry, call, return; I> is a handler's call alone
+abbrev pub X± : Call → ℤ → ℤ → ℤ → Happening
+X± n a b c = alone (taskCall n a b c)
+
+abbrev pub H± : Call → ℤ → ℤ → ℤ → Happening
+H± n a b c = inside (handlerCall n a b c)
 
 -- with words that are not negative
-abbrev pub X : Call → ℕ → ℕ → ℕ → Event
+abbrev pub X : Call → ℕ → ℕ → ℕ → Happening
 X n a b c = X± n (pos a) (pos b) (pos c)
 
-abbrev pub H : Call → ℕ → ℕ → ℕ → Event
+abbrev pub H : Call → ℕ → ℕ → ℕ → Happening
 H n a b c = H± n (pos a) (pos b) (pos c)
+
+abbrev pub I : Call → ℕ → ℕ → ℕ → Happening
+I n a b c = alone (handlerCall n (pos a) (pos b) (pos c))
+
+-- A line: what happens, then code, w1, w2, the running task (after H> read at the return), the number released.
+pub record Line : Type 0 where
+  pub what : Happening
+  pub code : ℤ
+  pub w1 : ℕ
+  pub w2 : ℕ
+  pub runs : ℕ
+  pub released : ℕ
+
+abbrev pub step : Happening → ℤ → ℕ → ℕ → ℕ → ℕ → Line
+step e c x y r n = record { what = e; code = c; w1 = x; w2 = y; runs = r; released = n }
+
+-- The steps of a line before which task r was reported. Entry and return give code 0 and no words; between them r is still reported.
+abbrev pub lineSteps : Happening → ℕ → Line → List Step
+lineSteps (alone e) r k = stepOf e (k .code) (k .w1) (k .w2) (k .runs) (k .released) ∷ []
+lineSteps (inside e) r k = stepOf enter (pos 0) 0 0 r 0 ∷ stepOf e (k .code) (k .w1) (k .w2) r (k .released) ∷ stepOf exit (pos 0) 0 0 (k .runs) 0 ∷ []
+
+abbrev pub steps : ℕ → List Line → List Step
+steps r [] = []
+steps r (k ∷ l) = lineSteps (k .what) r k ++ steps (k .runs) l
 
 -- the clock to begin with, the running task before any event, the steps, and at the end the cell of a task: code and word
 pub record Case : Type 0 where
@@ -88,8 +123,9 @@ pub record Case : Type 0 where
   pub code : ℤ
   pub word : ℕ
 
-abbrev pub case : ℕ → ℕ → List Step → ℕ → ℤ → ℕ → Case
-case t r s i c w = record { clock = t; runs = r; steps = s; who = i; code = c; word = w }
+-- by lines
+abbrev pub case : ℕ → ℕ → List Line → ℕ → ℤ → ℕ → Case
+case t r l i c w = record { clock = t; runs = r; steps = steps r l; who = i; code = c; word = w }
 
 -- a setup as bytes, and cases over it
 pub record Sheet : Type 0 where
@@ -175,7 +211,7 @@ benchSheet = record {
       -- B7 X>chg_pri(1,2): runs 2.
       ∷ case 0 1 (step (X chg-pri 1 2 0) (pos 0) 0 0 2 0 ∷ []) 1 (pos 0) 0
       -- B8 X>wai_tsk(2), tick, tick: the second releases 1, cell -3413, runs 2.
-      ∷ case 0 1 (step (X wai-tsk 2 0 0) (pos 1) 0 0 2 0 ∷ step tick (pos 0) 0 0 2 0 ∷ step tick (pos 0) 0 0 2 1 ∷ []) 1 (minus 3413) 0
+      ∷ case 0 1 (step (X wai-tsk 2 0 0) (pos 1) 0 0 2 0 ∷ step (alone tick) (pos 0) 0 0 2 0 ∷ step (alone tick) (pos 0) 0 0 2 1 ∷ []) 1 (minus 3413) 0
       -- B9 three X>pget_blk(1): w1 1, w1 2, code -5; X>rel_blk(1,1), X>pget_blk(1): w1 1.
       ∷ case 0 1
       (step (X pget-blk 1 0 0) (pos 0) 1 0 1 0
@@ -211,7 +247,7 @@ benchSheet = record {
       ∷ case 0 1 (step (X± wai-tsk (minus 2) (pos 0) (pos 0)) (minus 1831) 0 0 1 0 ∷ []) 1 (pos 0) 0
       -- clock wrap.
       ∷ case (2 ^ 48 - 1) 1
-      (step (X get-tim 0 0 0) (pos 0) 65535 4294967295 1 0 ∷ step tick (pos 0) 0 0 1 0 ∷ step (X get-tim 0 0 0) (pos 0) 0 0 1 0 ∷ [])
+      (step (X get-tim 0 0 0) (pos 0) 65535 4294967295 1 0 ∷ step (alone tick) (pos 0) 0 0 1 0 ∷ step (X get-tim 0 0 0) (pos 0) 0 0 1 0 ∷ [])
       1 (pos 0) 0
       ∷ [];
 }

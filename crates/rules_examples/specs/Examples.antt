@@ -1,4 +1,4 @@
--- Worked examples: every call in use and every code that a run can give; damaged states; setups that are refused.
+-- Worked examples: every call in use and every code that a run can give; handlers; damaged states; setups that are refused.
 use mathlib.Core.Bool.{Bool, true, cond}
 use mathlib.Core.List.{List, [], _∷_, _++_, map}
 use mathlib.Core.Option.{none, some}
@@ -8,15 +8,15 @@ use lib.ListN.{replicate}
 use Rattle.rules.specs.Ids.{put}
 use Rattle.rules.specs.Codes.{OK, H-POLL, E-RLWAI, minus, number}
 use Rattle.rules.specs.Setup.{Fault, S1, S2, S3, S4, Read, got, refused, and-then, setup}
-use Rattle.rules.specs.Events.{Event, tick, call}
-use Rattle.rules.specs.State.{Kind, semaphore, flag, mailbox, pool, asleep, timed, on, State, suspended, waiting, waiting-suspended, Body}
+use Rattle.rules.specs.Events.{Event, tick, enter, exit, call}
+use Rattle.rules.specs.State.{Kind, semaphore, flag, mailbox, pool, asleep, timed, on, State, suspended, waiting, waiting-suspended, in-handler, Body}
 use Rattle.rules.specs.Places.{sameKind, at, each}
-use Rattle.rules.specs.Acts.{with-state, with-priority, with-wakeups, with-cell, with-semaphores, with-flags, with-messages, with-pools, with-store, change}
+use Rattle.rules.specs.Acts.{with-state, with-priority, with-wakeups, with-cell, with-semaphores, with-flags, with-messages, with-pools, with-store, with-handlers, change}
 use Rattle.rules.specs.View.{View}
 use Rattle.rules.specs.Answers.{numbers}
 use Rattle.rules.specs.Kernel.{fresh, event, cell}
 use Rattle.rules.specs.Runs.{answers}
-use Rattle.rules_examples.specs.BenchSheet.{step, sta-tsk, ext-tsk, ter-tsk, chg-pri, rot-rdq, rel-wai, sus-tsk, rsm-tsk, slp-tsk, wai-tsk, wup-tsk, can-wup, sig-sem, wai-sem, preq-sem, set-flg, clr-flg, wai-flg, pol-flg, snd-msg, rcv-msg, prcv-msg, get-blk, pget-blk, rel-blk, get-tid, tsk-sts, sem-sts, flg-sts, mbx-sts, mpl-sts, get-tim, X, H, X±, H±, case, Sheet, at-clock, benchBytes}
+use Rattle.rules_examples.specs.BenchSheet.{alone, step, sta-tsk, ext-tsk, ter-tsk, chg-pri, rot-rdq, rel-wai, sus-tsk, rsm-tsk, slp-tsk, wai-tsk, wup-tsk, can-wup, sig-sem, wai-sem, preq-sem, set-flg, clr-flg, wai-flg, pol-flg, snd-msg, rcv-msg, prcv-msg, get-blk, pget-blk, rel-blk, get-tid, tsk-sts, sem-sts, flg-sts, mbx-sts, mpl-sts, get-tim, X, H, I, X±, H±, case, Sheet, at-clock, benchBytes}
 
 -- a word as four bytes, least significant first
 abbrev pub bytes : List ℕ → List ℕ
@@ -156,7 +156,7 @@ taskExamples = record {
       ∷ step (X rsm-tsk 1 0 0) (pos 0) 0 0 1 0
       ∷ [])
       1 (pos 0) 0
-      -- 5 rot_rdq(a): the head of that queue goes last; 0 means the running task's queue; an empty queue is code 0. E_TPRI: outside 0..P.
+      -- 5 rot_rdq(a): the head of that queue goes last; 0 means the best nonempty ready queue; an empty queue is code 0. E_TPRI: outside 0..P.
       ∷ case 0 1
       (step (X rot-rdq 2 0 0) (pos 0) 0 0 2 0
       ∷ step (X rot-rdq 0 0 0) (pos 0) 0 0 5 0
@@ -255,7 +255,7 @@ taskExamples = record {
       ∷ step (X chg-pri 1 3 0) (pos 0) 0 0 2 0
       ∷ step (X wup-tsk 1 0 0) (pos 0) 0 0 2 0
       ∷ step (X sus-tsk 1 0 0) (pos 0) 0 0 2 0
-      ∷ step tick (pos 0) 0 0 2 0
+      ∷ step (alone tick) (pos 0) 0 0 2 0
       ∷ step (X tsk-sts 1 0 0) (pos 0) 4 3 2 0
       ∷ step (X rsm-tsk 1 0 0) (pos 0) 0 0 2 0
       ∷ step (X rot-rdq 3 0 0) (pos 0) 0 0 2 0
@@ -265,11 +265,11 @@ taskExamples = record {
       ∷ step (X slp-tsk 0 0 0) (pos 1) 0 0 1 0
       ∷ step (X wai-sem 1 0 0) (pos 1) 0 0 4 0
       ∷ step (X sus-tsk 1 0 0) (pos 0) 0 0 4 0
-      ∷ step tick (pos 0) 0 0 4 0
+      ∷ step (alone tick) (pos 0) 0 0 4 0
       ∷ step (X tsk-sts 1 0 0) (pos 0) 5 3 4 0
       ∷ step (X rsm-tsk 1 0 0) (pos 0) 0 0 4 0
       ∷ step (X chg-pri 1 4 0) (pos 0) 0 0 4 0
-      ∷ step tick (pos 0) 0 0 4 0
+      ∷ step (alone tick) (pos 0) 0 0 4 0
       ∷ step (X tsk-sts 1 0 0) (pos 0) 3 4 4 0
       ∷ step (X can-wup 1 0 0) (pos 0) 1 0 4 0
       ∷ [])
@@ -353,10 +353,10 @@ taskExamples = record {
       ∷ step (H± wai-tsk (minus 2) (pos 0) (pos 0)) (minus 1831) 0 0 1 0
       ∷ step (H wai-tsk 1 0 0) (minus 2629) 0 0 1 0
       ∷ step (X± wai-tsk (minus 1) (pos 0) (pos 0)) (pos 1) 0 0 2 0
-      ∷ step tick (pos 0) 0 0 2 0
+      ∷ step (alone tick) (pos 0) 0 0 2 0
       ∷ step (X tsk-sts 1 0 0) (pos 0) 3 2 2 0
       ∷ step (X wai-tsk 2147483647 0 0) (pos 1) 0 0 5 0
-      ∷ step tick (pos 0) 0 0 5 0
+      ∷ step (alone tick) (pos 0) 0 0 5 0
       ∷ step (X wup-tsk 1 0 0) (pos 0) 0 0 5 1
       ∷ step (X wup-tsk 2 0 0) (pos 0) 0 0 5 1
       ∷ [])
@@ -374,9 +374,9 @@ taskExamples = record {
       ∷ case 0 1
       (step (X wai-tsk 2 0 0) (pos 1) 0 0 2 0
       ∷ step (X sus-tsk 1 0 0) (pos 0) 0 0 2 0
-      ∷ step tick (pos 0) 0 0 2 0
+      ∷ step (alone tick) (pos 0) 0 0 2 0
       ∷ step (X tsk-sts 1 0 0) (pos 0) 5 2 2 0
-      ∷ step tick (pos 0) 0 0 2 1
+      ∷ step (alone tick) (pos 0) 0 0 2 1
       ∷ step (X tsk-sts 1 0 0) (pos 0) 4 2 2 0
       ∷ [])
       1 (minus 3413) 0
@@ -386,10 +386,10 @@ taskExamples = record {
       ∷ step (X slp-tsk 0 0 0) (pos 1) 0 0 5 0
       ∷ step (X sus-tsk 1 0 0) (pos 0) 0 0 5 0
       ∷ step (X sus-tsk 2 0 0) (pos 0) 0 0 5 0
-      ∷ step tick (pos 0) 0 0 5 0
+      ∷ step (alone tick) (pos 0) 0 0 5 0
       ∷ step (X rsm-tsk 1 0 0) (pos 0) 0 0 5 0
-      ∷ step tick (pos 0) 0 0 5 0
-      ∷ step tick (pos 0) 0 0 5 1
+      ∷ step (alone tick) (pos 0) 0 0 5 0
+      ∷ step (alone tick) (pos 0) 0 0 5 1
       ∷ step (X tsk-sts 1 0 0) (pos 0) 1 2 5 0
       ∷ step (X tsk-sts 2 0 0) (pos 0) 5 2 5 0
       ∷ [])
@@ -398,10 +398,10 @@ taskExamples = record {
       ∷ case 0 1
       (step (X rot-rdq 0 0 0) (pos 0) 0 0 2 0
       ∷ step (X wai-tsk 2 0 0) (pos 1) 0 0 5 0
-      ∷ step tick (pos 0) 0 0 5 0
+      ∷ step (alone tick) (pos 0) 0 0 5 0
       ∷ step (X rot-rdq 0 0 0) (pos 0) 0 0 1 0
       ∷ step (X wai-tsk 1 0 0) (pos 1) 0 0 5 0
-      ∷ step tick (pos 0) 0 0 5 2
+      ∷ step (alone tick) (pos 0) 0 0 5 2
       ∷ step (X slp-tsk 0 0 0) (pos 1) 0 0 1 0
       ∷ step (X slp-tsk 0 0 0) (pos 1) 0 0 2 0
       ∷ [])
@@ -532,9 +532,9 @@ objectExamples = record {
       (step (X wai-flg 1 6 3) (pos 1) 0 0 2 0
       ∷ step (X wai-flg 1 2 0) (pos 1) 0 0 5 0
       ∷ step (X sus-tsk 1 0 0) (pos 0) 0 0 5 0
-      ∷ step tick (pos 0) 0 0 5 0
+      ∷ step (alone tick) (pos 0) 0 0 5 0
       ∷ step (X rsm-tsk 1 0 0) (pos 0) 0 0 5 0
-      ∷ step tick (pos 0) 0 0 5 0
+      ∷ step (alone tick) (pos 0) 0 0 5 0
       ∷ step (X sus-tsk 1 0 0) (pos 0) 0 0 5 0
       ∷ step (X set-flg 1 2 0) (pos 0) 0 0 5 1
       ∷ step (X flg-sts 1 0 0) (pos 0) 2 0 5 0
@@ -668,15 +668,15 @@ objectExamples = record {
       -- 32 get_tim: the clock, w1 its quotient by 2^32, w2 the remainder. Tick: the clock rises by one.
       ∷ case 4294967295 1
       (step (X get-tim 0 0 0) (pos 0) 0 4294967295 1 0
-      ∷ step tick (pos 0) 0 0 1 0
+      ∷ step (alone tick) (pos 0) 0 0 1 0
       ∷ step (H get-tim 0 0 0) (pos 0) 1 0 1 0
-      ∷ step tick (pos 0) 0 0 1 0
+      ∷ step (alone tick) (pos 0) 0 0 1 0
       ∷ step (X get-tim 0 0 0) (pos 0) 1 1 1 0
       ∷ [])
       1 (pos 0) 0
       -- After 2^48 - 1 comes 0, and not sooner.
       ∷ case (2 ^ 47 - 1) 1
-      (step tick (pos 0) 0 0 1 0 ∷ step (X get-tim 0 0 0) (pos 0) 32768 0 1 0 ∷ [])
+      (step (alone tick) (pos 0) 0 0 1 0 ∷ step (X get-tim 0 0 0) (pos 0) 32768 0 1 0 ∷ [])
       1 (pos 0) 0
       -- E_NOEXS: id outside 1..count, in every call that names a task or an object.
       ∷ case 0 1
@@ -761,12 +761,12 @@ objectExamples = record {
       1 (pos 0) 0
       -- H_CALL: call number not 1..32, or context not 0 or 1; before the parameters.
       ∷ case 0 1
-      (step (call (pos 0) (pos 0) (pos 0) (pos 0) (pos 0)) (minus 1) 0 0 1 0
-      ∷ step (call (pos 0) (pos 33) (pos 0) (pos 0) (pos 0)) (minus 1) 0 0 1 0
-      ∷ step (call (pos 1) (minus 1) (pos 0) (pos 0) (pos 0)) (minus 1) 0 0 1 0
-      ∷ step (call (pos 2) (pos 26) (pos 0) (pos 0) (pos 0)) (minus 1) 0 0 1 0
-      ∷ step (call (minus 1) (pos 26) (pos 0) (pos 0) (pos 0)) (minus 1) 0 0 1 0
-      ∷ step (call (pos 2) (pos 14) (pos 9) (pos 0) (pos 0)) (minus 1) 0 0 1 0
+      (step (alone (call (pos 0) (pos 0) (pos 0) (pos 0) (pos 0))) (minus 1) 0 0 1 0
+      ∷ step (alone (call (pos 0) (pos 33) (pos 0) (pos 0) (pos 0))) (minus 1) 0 0 1 0
+      ∷ step (alone (call (pos 1) (minus 1) (pos 0) (pos 0) (pos 0))) (minus 1) 0 0 1 0
+      ∷ step (alone (call (pos 2) (pos 26) (pos 0) (pos 0) (pos 0))) (minus 1) 0 0 1 0
+      ∷ step (alone (call (minus 1) (pos 26) (pos 0) (pos 0) (pos 0))) (minus 1) 0 0 1 0
+      ∷ step (alone (call (pos 2) (pos 14) (pos 9) (pos 0) (pos 0))) (minus 1) 0 0 1 0
       ∷ [])
       1 (pos 0) 0
       -- A negative code leaves the state unchanged and the running task as before, as status calls show.
@@ -792,13 +792,181 @@ objectExamples = record {
       ∷ [];
 }
 
+-- Handlers: entry and return as events, over the same setup. Each case has the request's words above it.
+abbrev pub handlerExamples : Sheet
+handlerExamples = record {
+  bytes = exampleBytes;
+  cases =
+      -- While any handler is open, the running task reported is the one at the outermost entry: task 3, of priority 1, is started by a
+      -- handler and runs only after the return. Entry and return give code 0 and no words. get_tid gives the interrupted task, tsk_sts shows
+      -- it as RUN, and every other task in a ready queue as READY.
+      case 0 1
+      (step (alone enter) (pos 0) 0 0 1 0
+      ∷ step (I sta-tsk 3 0 0) (pos 0) 0 0 1 0
+      ∷ step (I get-tid 0 0 0) (pos 0) 1 0 1 0
+      ∷ step (I tsk-sts 1 0 0) (pos 0) 2 2 1 0
+      ∷ step (I tsk-sts 3 0 0) (pos 0) 1 1 1 0
+      ∷ step (I tsk-sts 2 0 0) (pos 0) 1 2 1 0
+      ∷ step (alone exit) (pos 0) 0 0 3 0
+      ∷ step (X tsk-sts 3 0 0) (pos 0) 2 1 3 0
+      ∷ step (X tsk-sts 1 0 0) (pos 0) 1 2 3 0
+      ∷ [])
+      3 (pos 0) 0
+      -- Even if it has been suspended meanwhile; tsk_sts then shows SUSPEND, and the head of its queue is READY. Resumed, it stands last in its
+      -- queue and shows RUN until the return.
+      ∷ case 0 1
+      (step (alone enter) (pos 0) 0 0 1 0
+      ∷ step (I sus-tsk 1 0 0) (pos 0) 0 0 1 0
+      ∷ step (I get-tid 0 0 0) (pos 0) 1 0 1 0
+      ∷ step (I tsk-sts 1 0 0) (pos 0) 4 2 1 0
+      ∷ step (I tsk-sts 2 0 0) (pos 0) 1 2 1 0
+      ∷ step (I sus-tsk 1 0 0) (minus 4) 0 0 1 0
+      ∷ step (I rsm-tsk 1 0 0) (pos 0) 0 0 1 0
+      ∷ step (I tsk-sts 1 0 0) (pos 0) 2 2 1 0
+      ∷ step (alone exit) (pos 0) 0 0 2 0
+      ∷ step (X tsk-sts 1 0 0) (pos 0) 1 2 2 0
+      ∷ [])
+      1 (pos 0) 0
+      -- Suspended at the return, it is SUSPEND and the next one runs; with every other task asleep nobody does.
+      ∷ case 0 1
+      (step (H sus-tsk 1 0 0) (pos 0) 0 0 2 0
+      ∷ step (X tsk-sts 1 0 0) (pos 0) 4 2 2 0
+      ∷ step (X slp-tsk 0 0 0) (pos 1) 0 0 5 0
+      ∷ step (X slp-tsk 0 0 0) (pos 1) 0 0 4 0
+      ∷ step (alone enter) (pos 0) 0 0 4 0
+      ∷ step (I sus-tsk 4 0 0) (pos 0) 0 0 4 0
+      ∷ step (alone exit) (pos 0) 0 0 0 0
+      ∷ [])
+      1 (pos 0) 0
+      -- So does one whose priority changes: it goes last in another queue, and shows RUN until the return.
+      ∷ case 0 1
+      (step (alone enter) (pos 0) 0 0 1 0
+      ∷ step (I chg-pri 1 4 0) (pos 0) 0 0 1 0
+      ∷ step (I tsk-sts 1 0 0) (pos 0) 2 4 1 0
+      ∷ step (alone exit) (pos 0) 0 0 2 0
+      ∷ [])
+      1 (pos 0) 0
+      -- Nested: the inner entry interrupts nobody else, the inner return switches nobody. H> inside a handler is entry, call, return too.
+      ∷ case 0 1
+      (step (alone enter) (pos 0) 0 0 1 0
+      ∷ step (I sus-tsk 1 0 0) (pos 0) 0 0 1 0
+      ∷ step (alone enter) (pos 0) 0 0 1 0
+      ∷ step (I sta-tsk 3 0 0) (pos 0) 0 0 1 0
+      ∷ step (alone exit) (pos 0) 0 0 1 0
+      ∷ step (H wup-tsk 1 0 0) (pos 0) 0 0 1 0
+      ∷ step (I tsk-sts 3 0 0) (pos 0) 1 1 1 0
+      ∷ step (alone exit) (pos 0) 0 0 3 0
+      ∷ [])
+      3 (pos 0) 0
+      -- Nested up to 15 deep: entry at 15 is H_NEST, and changes nothing. A tick at depth 15 needs no entry. Return at 0 is E_CTX.
+      ∷ case 0 1
+      (replicate 15 (step (alone enter) (pos 0) 0 0 1 0) ++ (step (alone enter) (minus 7) 0 0 1 0
+      ∷ step (alone tick) (pos 0) 0 0 1 0
+      ∷ step (I get-tim 0 0 0) (pos 0) 0 1 1 0
+      ∷ step (alone enter) (minus 7) 0 0 1 0
+      ∷ step (alone exit) (pos 0) 0 0 1 0
+      ∷ step (alone enter) (pos 0) 0 0 1 0
+      ∷ step (alone enter) (minus 7) 0 0 1 0
+      ∷ replicate 15 (step (alone exit) (pos 0) 0 0 1 0) ++ (step (alone exit) (minus 2629) 0 0 1 0
+      ∷ step (X get-tim 0 0 0) (pos 0) 0 1 1 0
+      ∷ [])))
+      1 (pos 0) 0
+      -- rot_rdq(0) acts on the best nonempty ready queue: the interrupted task goes last, and shows RUN until the return.
+      ∷ case 0 1
+      (step (alone enter) (pos 0) 0 0 1 0
+      ∷ step (I rot-rdq 0 0 0) (pos 0) 0 0 1 0
+      ∷ step (I tsk-sts 1 0 0) (pos 0) 2 2 1 0
+      ∷ step (I tsk-sts 2 0 0) (pos 0) 1 2 1 0
+      ∷ step (I rot-rdq 0 0 0) (pos 0) 0 0 1 0
+      ∷ step (alone exit) (pos 0) 0 0 5 0
+      ∷ [])
+      1 (pos 0) 0
+      -- Not on the interrupted task's queue: task 3 has started at priority 1, and nobody of priority 2 moves.
+      ∷ case 0 1
+      (step (alone enter) (pos 0) 0 0 1 0
+      ∷ step (I sta-tsk 3 0 0) (pos 0) 0 0 1 0
+      ∷ step (I rot-rdq 0 0 0) (pos 0) 0 0 1 0
+      ∷ step (alone exit) (pos 0) 0 0 3 0
+      ∷ step (X slp-tsk 0 0 0) (pos 1) 0 0 1 0
+      ∷ [])
+      3 (pos 0) 0
+      -- An entry while nothing runs: the task reported stays 0 until the return, nobody shows RUN, get_tid is code 0 with w1 0. rot_rdq(0)
+      -- moves nothing with every queue empty, code 0; and acts on the best nonempty queue even while the running task reported is 0.
+      ∷ case 0 1
+      (step (X slp-tsk 0 0 0) (pos 1) 0 0 2 0
+      ∷ step (X slp-tsk 0 0 0) (pos 1) 0 0 5 0
+      ∷ step (X slp-tsk 0 0 0) (pos 1) 0 0 4 0
+      ∷ step (X slp-tsk 0 0 0) (pos 1) 0 0 0 0
+      ∷ step (alone enter) (pos 0) 0 0 0 0
+      ∷ step (I rot-rdq 0 0 0) (pos 0) 0 0 0 0
+      ∷ step (I wup-tsk 4 0 0) (pos 0) 0 0 0 1
+      ∷ step (I wup-tsk 1 0 0) (pos 0) 0 0 0 1
+      ∷ step (I wup-tsk 2 0 0) (pos 0) 0 0 0 1
+      ∷ step (I get-tid 0 0 0) (pos 0) 0 0 0 0
+      ∷ step (I tsk-sts 1 0 0) (pos 0) 1 2 0 0
+      ∷ step (I rot-rdq 0 0 0) (pos 0) 0 0 0 0
+      ∷ step (X get-tid 0 0 0) (minus 2629) 0 0 0 0
+      ∷ step (alone exit) (pos 0) 0 0 2 0
+      ∷ step (X slp-tsk 0 0 0) (pos 1) 0 0 1 0
+      ∷ [])
+      1 (pos 0) 0
+      -- A tick outside handlers counts as entry, tick, return: the task that it releases runs at once. Inside, it runs after the return.
+      ∷ case 0 1
+      (step (X chg-pri 1 1 0) (pos 0) 0 0 1 0
+      ∷ step (X wai-tsk 1 0 0) (pos 1) 0 0 2 0
+      ∷ step (alone tick) (pos 0) 0 0 1 1
+      ∷ step (X wai-tsk 2 0 0) (pos 1) 0 0 2 0
+      ∷ step (alone enter) (pos 0) 0 0 2 0
+      ∷ step (alone tick) (pos 0) 0 0 2 0
+      ∷ step (alone tick) (pos 0) 0 0 2 1
+      ∷ step (I tsk-sts 1 0 0) (pos 0) 1 1 2 0
+      ∷ step (alone exit) (pos 0) 0 0 1 0
+      ∷ [])
+      1 (minus 3413) 0
+      -- A handler call at depth 0 is E_CTX, behind the words: H> of the bench sheet is not meant here.
+      ∷ case 0 1
+      (step (I get-tid 0 0 0) (minus 2629) 0 0 1 0
+      ∷ step (I sta-tsk 3 0 0) (minus 2629) 0 0 1 0
+      ∷ step (I wai-sem 9 0 0) (minus 2100) 0 0 1 0
+      ∷ step (I sus-tsk 3 0 0) (minus 2629) 0 0 1 0
+      ∷ step (alone exit) (minus 2629) 0 0 1 0
+      ∷ step (X tsk-sts 3 0 0) (pos 0) 0 1 1 0
+      ∷ [])
+      1 (pos 0) 0
+      -- A task call above 0 is E_CTX, behind the words and before E_SELF and E_DMT, whichever call it is; so are a handler's task-only calls. Nobody
+      -- is oneself to a handler: it may suspend or wake the interrupted task.
+      ∷ case 0 1
+      (step (alone enter) (pos 0) 0 0 1 0
+      ∷ map (λ e. step e (minus 2629) 0 0 1 0)
+      (X sta-tsk 3 0 0 ∷ X ext-tsk 0 0 0 ∷ X ter-tsk 1 0 0 ∷ X chg-pri 3 2 0
+      ∷ X rot-rdq 0 0 0 ∷ X rel-wai 1 0 0 ∷ X sus-tsk 1 0 0 ∷ X rsm-tsk 2 0 0
+      ∷ X slp-tsk 0 0 0 ∷ X wai-tsk 0 0 0 ∷ X wup-tsk 1 0 0 ∷ X can-wup 3 0 0
+      ∷ X sig-sem 3 0 0 ∷ X wai-sem 2 0 0 ∷ X preq-sem 1 0 0 ∷ X set-flg 1 1 0
+      ∷ X clr-flg 2 0 0 ∷ X wai-flg 2 5 0 ∷ X pol-flg 1 1 0 ∷ X snd-msg 1 1 0
+      ∷ X rcv-msg 1 0 0 ∷ X prcv-msg 2 0 0 ∷ X get-blk 1 0 0 ∷ X pget-blk 2 0 0
+      ∷ X rel-blk 1 1 0 ∷ X get-tid 0 0 0 ∷ X tsk-sts 1 0 0 ∷ X sem-sts 1 0 0
+      ∷ X flg-sts 1 0 0 ∷ X mbx-sts 1 0 0 ∷ X mpl-sts 1 0 0 ∷ X get-tim 0 0 0
+      ∷ I ext-tsk 0 0 0 ∷ I ter-tsk 1 0 0 ∷ I slp-tsk 0 0 0 ∷ I wai-tsk 0 0 0
+      ∷ I wai-sem 2 0 0 ∷ I wai-flg 2 5 0 ∷ I rcv-msg 1 0 0 ∷ I get-blk 1 0 0 ∷ [])
+      ++ (step (X sus-tsk 6 0 0) (minus 2100) 0 0 1 0
+      ∷ step (alone (call (pos 2) (pos 26) (pos 0) (pos 0) (pos 0))) (minus 1) 0 0 1 0
+      ∷ step (alone (call (pos 0) (pos 33) (pos 0) (pos 0) (pos 0))) (minus 1) 0 0 1 0
+      ∷ step (I wup-tsk 1 0 0) (pos 0) 0 0 1 0
+      ∷ step (alone exit) (pos 0) 0 0 1 0
+      ∷ step (X can-wup 1 0 0) (pos 0) 1 0 1 0
+      ∷ []))
+      1 (pos 0) 0
+      ∷ [];
+}
+
 -- the state that an event leaves of the fresh one
 unfoldable pub leaves : Event → Read View
 unfolding answers
 leaves e = and-then (setup exampleBytes) (λ u i. got (event (fresh u) e .next) i)
 
 -- A recorded run over another setup: priorities 1 and 2; task 1 starts at priority 1, task 2, of priority 2, is not started. Fresh: the
--- others are dormant, clock 0; a dormant task has its starting priority. Kinds 0 task, 1 handler, 2 tick; any other is H_CALL.
+-- others are dormant, clock 0; a dormant task has its starting priority. Kinds 0 task, 1 handler, 2 tick, 3 entry, 4 return, of which the
+-- last three ignore the other words; any other is H_CALL, before anything else is judged, whether or not a handler is open.
 abbrev pub runBytes : List ℕ
 runBytes = bytes (2 ∷ 2 ∷ 1 ∷ 1 ∷ 2 ∷ 0 ∷ 0 ∷ 0 ∷ 0 ∷ 0 ∷ 0 ∷ [])
 
@@ -806,17 +974,29 @@ abbrev pub runWords : List ℤ
 runWords =
     pos 0 ∷ pos 32 ∷ pos 0 ∷ pos 0 ∷ pos 0
     ∷ pos 1 ∷ pos 27 ∷ pos 2 ∷ pos 0 ∷ pos 0
-    ∷ pos 2 ∷ pos 0 ∷ pos 0 ∷ pos 0 ∷ pos 0
+    ∷ pos 3 ∷ minus 1 ∷ pos 99 ∷ minus 2 ∷ pos 7
+    ∷ pos 1 ∷ pos 27 ∷ pos 2 ∷ pos 0 ∷ pos 0
+    ∷ pos 2 ∷ pos 33 ∷ minus 1 ∷ pos 0 ∷ pos 0
+    ∷ pos 5 ∷ pos 32 ∷ pos 0 ∷ pos 0 ∷ pos 0
+    ∷ pos 4 ∷ pos 0 ∷ pos 5 ∷ pos 0 ∷ minus 1
     ∷ pos 0 ∷ pos 32 ∷ pos 0 ∷ pos 0 ∷ pos 0
-    ∷ pos 3 ∷ pos 32 ∷ pos 0 ∷ pos 0 ∷ pos 0
+    ∷ pos 4 ∷ pos 0 ∷ pos 0 ∷ pos 0 ∷ pos 0
+    ∷ pos 5 ∷ pos 14 ∷ pos 9 ∷ pos 0 ∷ pos 0
+    ∷ minus 1 ∷ pos 32 ∷ pos 0 ∷ pos 0 ∷ pos 0
     ∷ []
 
 abbrev pub runAnswers : Read (List (List ℤ))
 runAnswers =
     got ((pos 0 ∷ pos 0 ∷ pos 0 ∷ pos 1 ∷ pos 0 ∷ [])
+    ∷ (minus 2629 ∷ pos 0 ∷ pos 0 ∷ pos 1 ∷ pos 0 ∷ [])
+    ∷ (pos 0 ∷ pos 0 ∷ pos 0 ∷ pos 1 ∷ pos 0 ∷ [])
     ∷ (pos 0 ∷ pos 0 ∷ pos 2 ∷ pos 1 ∷ pos 0 ∷ [])
     ∷ (pos 0 ∷ pos 0 ∷ pos 0 ∷ pos 1 ∷ pos 0 ∷ [])
+    ∷ (minus 1 ∷ pos 0 ∷ pos 0 ∷ pos 1 ∷ pos 0 ∷ [])
+    ∷ (pos 0 ∷ pos 0 ∷ pos 0 ∷ pos 1 ∷ pos 0 ∷ [])
     ∷ (pos 0 ∷ pos 0 ∷ pos 1 ∷ pos 1 ∷ pos 0 ∷ [])
+    ∷ (minus 2629 ∷ pos 0 ∷ pos 0 ∷ pos 1 ∷ pos 0 ∷ [])
+    ∷ (minus 1 ∷ pos 0 ∷ pos 0 ∷ pos 1 ∷ pos 0 ∷ [])
     ∷ (minus 1 ∷ pos 0 ∷ pos 0 ∷ pos 1 ∷ pos 0 ∷ [])
     ∷ []) 44
 
@@ -918,6 +1098,13 @@ damages =
     -- A timed wait has 1 to 2147483647 ticks left.
     ∷ with-sleeper (waiting (timed 0))
     ∷ with-sleeper (waiting (timed 2147483648))
+    -- The depth is 0..15: here it is 16. Above 0 the interrupted task is 0 or one that is ready, running or suspended: task 3 is dormant, task
+    -- 2 waits, suspended or not, and there is no task 9.
+    ∷ with-body (with-handlers (in-handler 15 1))
+    ∷ with-body (with-handlers (in-handler 0 3))
+    ∷ (λ v. with-body (with-handlers (in-handler 14 2)) (with-waiter semaphore 1 0 0 v))
+    ∷ (λ v. with-body (with-handlers (in-handler 0 2)) (with-sleeper (waiting-suspended asleep) v))
+    ∷ with-body (with-handlers (in-handler 3 9))
     ∷ []
 
 -- close to these, but no rule is broken: a waiter on semaphore 1, whose count is 0; one on flag 2 that asks for a bit that is not set; one
@@ -936,6 +1123,14 @@ repairs =
     ∷ with-waiter flag 1 (2 ^ 32 - 1) 3
     ∷ with-body (change (with-cell (record { code = OK; word = 2 ^ 32 - 1 })) 2)
     ∷ with-body (λ b. with-store (with-flags ((2 ^ 32 - 1) ∷ 5 ∷ []) (b .store)) b)
+    ∷ []
+
+-- and with handlers open: 15 of them; one, which interrupted task 1, suspended since, or no longer at the head of its queue
+abbrev pub openRepairs : List (View → View)
+openRepairs =
+    with-body (with-handlers (in-handler 14 1))
+    ∷ (λ v. with-ready 2 (2 ∷ 5 ∷ []) (with-body (λ b. with-handlers (in-handler 0 1) (change (with-state suspended) 1 b)) v))
+    ∷ (λ v. with-ready 2 (2 ∷ 5 ∷ 1 ∷ []) (with-body (with-handlers (in-handler 0 1)) v))
     ∷ []
 
 -- what comes back of an event there, the state after it, and the cell of a task before it

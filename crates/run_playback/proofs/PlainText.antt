@@ -40,7 +40,9 @@ event-fits : (k n a b c : ℤ) → Word k → Word n → Word a → Word b → W
 event-fits (pos zero) n a b c x y z v w = (x, y, z, v, w)
 event-fits (pos (suc zero)) n a b c x y z v w = (x, y, z, v, w)
 event-fits (pos (suc (suc zero))) n a b c x y z v w = tt
-event-fits (pos (suc (suc (suc k)))) n a b c x y z v w = (x, y, z, v, w)
+event-fits (pos (suc (suc (suc zero)))) n a b c x y z v w = tt
+event-fits (pos (suc (suc (suc (suc zero))))) n a b c x y z v w = tt
+event-fits (pos (suc (suc (suc (suc (suc k)))))) n a b c x y z v w = (x, y, z, v, w)
 event-fits (negsuc k) n a b c x y z v w = (x, y, z, v, w)
 
 rows-fit : (l : List (List ℕ)) → Each (Fits (events .entry)) l → AllWords (eventsOf (map signedWord (joined l)))

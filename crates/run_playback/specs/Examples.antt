@@ -20,8 +20,11 @@ abbrev pub examples : List Example
 examples =
     example benchRun (ascii "start 1\n1 0 0 0 3 0\n2 1 0 0 1 0\n")
     ∷ example (benchBytes ++ bytes (0 ∷ [])) (ascii "start 1\n")
-    -- any other kind gets code -1 as H_CALL does: here 3, and -1
-    ∷ example (benchBytes ++ bytes (2 ∷ 3 ∷ 26 ∷ 0 ∷ 0 ∷ 0 ∷ (2 ^ 32 - 1) ∷ 26 ∷ 0 ∷ 0 ∷ 0 ∷ [])) (ascii "start 1\n1 -1 0 0 1 0\n2 -1 0 0 1 0\n")
+    -- a handler's call outside handlers; then entry, the handler's sta_tsk(3), return: task 3 runs at the return and not before
+    ∷ example (benchBytes ++ bytes (4 ∷ 1 ∷ 1 ∷ 3 ∷ 0 ∷ 0 ∷ 3 ∷ 0 ∷ 0 ∷ 0 ∷ 0 ∷ 1 ∷ 1 ∷ 3 ∷ 0 ∷ 0 ∷ 4 ∷ 0 ∷ 0 ∷ 0 ∷ 0 ∷ []))
+    (ascii "start 1\n1 -2629 0 0 1 0\n2 0 0 0 1 0\n3 0 0 0 1 0\n4 0 0 0 3 0\n")
+    -- any other kind gets code -1 as H_CALL does: here 5, and -1
+    ∷ example (benchBytes ++ bytes (2 ∷ 5 ∷ 26 ∷ 0 ∷ 0 ∷ 0 ∷ (2 ^ 32 - 1) ∷ 26 ∷ 0 ∷ 0 ∷ 0 ∷ [])) (ascii "start 1\n1 -1 0 0 1 0\n2 -1 0 0 1 0\n")
     -- S1: empty input, and no word where the count of events should be
     ∷ example [] (ascii "refused 1 0\n")
     ∷ example benchBytes (ascii "refused 1 64\n")

@@ -77,8 +77,16 @@ messages-ok-requires c κs = search needs
 
 returns-6 : tie.Need-returns-6
 unfolding rangesOk
-returns-6 c =
-    let a5 = c .before in
+returns-6 c = let a = c .before .before in simp (loop-fails _ (a .before .system5 .ensures) (a .at-most5 .ensures) (c .before .messages-ok .ensures) (c .if6 .taken), and-false)
+
+handling-ok-requires : tie.Need-handling-ok-requires
+handling-ok-requires c κs = search needs
+
+returns-7 : tie.Need-returns-7
+unfolding rangesOk
+returns-7 c =
+    let i6 = c .before in
+    let a5 = i6 .before .before in
     let i5 = a5 .before .before in
     let a4 = i5 .before .before in
     let i4 = a4 .before .before in
@@ -95,7 +103,7 @@ returns-6 c =
     (also (passed (loop-is _ (a2 .before .system2 .ensures) (a2 .at-most2 .ensures) (i3 .before .semaphores-ok .ensures) (f .semaphores)) (i3 .if3 .left))
     (also (passed (loop-is _ (a3 .before .system3 .ensures) (a3 .at-most3 .ensures) (i4 .before .flags-ok .ensures) (f .flags)) (i4 .if4 .left))
     (also (passed (loop-is _ (a4 .before .system4 .ensures) (a4 .at-most4 .ensures) (i5 .before .pools-ok .ensures) (f .pools)) (i5 .if5 .left))
-    (loop-is _ (a5 .before .system5 .ensures) (a5 .at-most5 .ensures) (c .messages-ok .ensures) (f .messages))))))
+    (also (passed (loop-is _ (a5 .before .system5 .ensures) (a5 .at-most5 .ensures) (i6 .before .messages-ok .ensures) (f .messages)) (i6 .if6 .left)) (c .handling-ok .ensures))))))
 
 pub ranges-ok-spec : {M : Type 1} → statement M
 ranges-ok-spec =
@@ -122,4 +130,6 @@ ranges-ok-spec =
     system-requires-5
     at-most-requires-5
     messages-ok-requires
-    returns-6)
+    returns-6
+    handling-ok-requires
+    returns-7)

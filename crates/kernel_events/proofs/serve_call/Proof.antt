@@ -47,8 +47,14 @@ named-requires c κs = search needs
 named-requires-2 : tie.Need-named-requires-2
 named-requires-2 c κs = search needs
 
+is-open-requires : tie.Need-is-open-requires
+is-open-requires c κs = search needs
+
 caller-requires : tie.Need-caller-requires
 caller-requires c κs = search needs
+
+handles-requires : tie.Need-handles-requires
+handles-requires c κs = search needs
 
 dispatch-requires : tie.Need-dispatch-requires
 dispatch-requires c κs = search needs
@@ -63,14 +69,36 @@ returns-3 : tie.Need-returns-3
 returns-3 c =
     let at-running-task = c .before in
     let at-dispatch = at-running-task .before .before in
-    let at-caller = at-dispatch .before in
-    let at-named2 = at-caller .before .before .before in
+    let at-handles = at-dispatch .before in
+    let at-caller = at-handles .before .before .before in
+    let at-is-open = at-caller .before in
+    let at-named2 = at-is-open .before .before in
     let at-named = at-named2 .before in
     let second = at-named .before in
     let at-is-above = second .before in
     let first = at-is-above .before in
     let start = first .before in
-    rw (c .answer-of2 .ensures) (λ K. call-done K (not-false _ (first .if1 .left)) _ _ _ _ _ (words-fit start) (rw (toZ-ofZ (start .fits .context)) at (at-is-above .is-above .ensures)) (second .if2 .left) (ap (λ (x : ℕ). eqb x 1) (rw (toZ-ofZ (start .fits .context)) at (at-named .named .ensures))) (rw (toZ-ofZ (start .fits .number)) at (at-named2 .named2 .ensures)) (at-caller .caller .ensures) (rw (toZ-ofZ (start .fits .a), toZ-ofZ (start .fits .b), toZ-ofZ (start .fits .c)) at (at-dispatch .dispatch .ensures)) (at-running-task .running-task .ensures))
+    let context = rw (toZ-ofZ (start .fits .context)) at (at-named .named .ensures) in
+    rw (c .answer-of2 .ensures) (λ K. call-done K (not-false _ (first .if1 .left)) _ _ _ _ _ (words-fit start) (rw (toZ-ofZ (start .fits .context)) at (at-is-above .is-above .ensures)) (second .if2 .left)
+    (ap (λ (x : ℕ). eqb x 1) context) (rw (toZ-ofZ (start .fits .number)) at (at-named2 .named2 .ensures)) (at-is-open .is-open .ensures) (at-caller .caller .ensures) (at-handles .handles .ensures)
+    (rw (toZ-ofZ (start .fits .a), toZ-ofZ (start .fits .b), toZ-ofZ (start .fits .c)) at (at-dispatch .dispatch .ensures)) (at-running-task .running-task .ensures))
 
 pub serve-call-spec : {M : Type 1} → statement M
-serve-call-spec = tie.close (tie.spec damaged-requires returns is-above-requires refuse-requires answer-of-requires returns-2 named-requires named-requires-2 caller-requires dispatch-requires running-task-requires answer-of-requires-2 returns-3)
+serve-call-spec =
+    tie.close
+    (tie.spec
+    damaged-requires
+    returns
+    is-above-requires
+    refuse-requires
+    answer-of-requires
+    returns-2
+    named-requires
+    named-requires-2
+    is-open-requires
+    caller-requires
+    handles-requires
+    dispatch-requires
+    running-task-requires
+    answer-of-requires-2
+    returns-3)

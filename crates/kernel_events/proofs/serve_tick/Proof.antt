@@ -27,7 +27,7 @@ returns-2 c =
     let at-running-task = c .before in
     let at-tick = at-running-task .before .before in
     let first = at-tick .before .before in
-    rw (c .answer-of .ensures) (λ K. tick-done K (not-false _ (first .if1 .left)) (at-tick .tick .ensures) (at-running-task .running-task .ensures))
+    rw (c .answer-of .ensures) (λ K. tick-done K (not-false _ (first .if1 .left)) (at-running-task .running-task .ensures) (at-tick .tick .ensures))
 
 pub serve-tick-spec : {M : Type 1} → statement M
 serve-tick-spec = tie.close (tie.spec damaged-requires returns tick-requires running-task-requires answer-of-requires returns-2)

@@ -1,15 +1,23 @@
--- `memory_running::running_task` meets its contract. The running task is the best. Assumes nothing.
+-- `memory_running::running_task` meets its contract. By whether a handler is open. Assumes nothing.
+use Rattle.memory_running.proofs.Marks.{running-best, running-interrupted}
 use borrow.Author.Needs.{needs}
-use Rattle.memory_running.specs.Running.{runningOf}
 use Rattle.memory_running.proofs.running_task.Statement.{statement}
 use Rattle.memory_running.proofs.running_task.Tie as tie
+
+is-open-requires : tie.Need-is-open-requires
+is-open-requires c κs = search needs
+
+handling-requires : tie.Need-handling-requires
+handling-requires c κs = search needs
+
+returns : tie.Need-returns
+returns c = running-interrupted _ (c .before .before .is-open .ensures) (c .before .if1 .taken) (c .handling .ensures)
 
 best-task-requires : tie.Need-best-task-requires
 best-task-requires c κs = search needs
 
-returns : tie.Need-returns
-unfolding runningOf
-returns c = c .best-task .ensures
+returns-2 : tie.Need-returns-2
+returns-2 c = running-best _ (c .before .before .is-open .ensures) (c .before .if1 .left) (c .best-task .ensures)
 
 pub running-task-spec : {M : Type 1} → statement M
-running-task-spec = tie.close (tie.spec best-task-requires returns)
+running-task-spec = tie.close (tie.spec is-open-requires handling-requires best-task-requires returns returns-2)

@@ -5,10 +5,10 @@ use Rattle.bench_sheet.proofs.turns.replayed.Statement.{statement}
 use Rattle.bench_sheet.proofs.turns.replayed.Tie as tie
 
 abbrev Inv-loop : tie.InvT-loop
-Inv-loop words₀ messages₀ list n codes answers i₀ words messages i = i ≤ 64
+Inv-loop words₀ messages₀ list n codes answers i₀ words messages i = i ≤ 128
 
 abbrev μ-loop : tie.MeasureT-loop
-μ-loop words₀ messages₀ list n codes answers i₀ words messages i = 64 - i
+μ-loop words₀ messages₀ list n codes answers i₀ words messages i = 128 - i
 
 loop-holds : tie.Need-loop-holds Inv-loop μ-loop
 loop-holds c = search needs

@@ -1,0 +1,2 @@
+-- Laws of entry and return.
+pub mod Handlers

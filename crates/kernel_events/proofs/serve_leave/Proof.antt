@@ -1,0 +1,33 @@
+-- `kernel_events::serve_leave` meets its contract. By what is known, and the return. Assumes nothing.
+use borrow.Author.Tests.{not-true, not-false}
+use Rattle.kernel_events.proofs.Served.{unsound-step, not-sound, leave-done}
+use borrow.Author.Needs.{needs}
+use Rattle.kernel_events.proofs.serve_leave.Statement.{statement}
+use Rattle.kernel_events.proofs.serve_leave.Tie as tie
+
+damaged-requires : tie.Need-damaged-requires
+damaged-requires c κs = search needs
+
+returns : tie.Need-returns
+returns c =
+    let first = c .before in
+    λ K. unsound-step _ _ _ _ tt (not-sound K (not-true _ (first .if1 .taken))) (c .damaged .ensures)
+
+leave-requires : tie.Need-leave-requires
+leave-requires c κs = search needs
+
+running-task-requires : tie.Need-running-task-requires
+running-task-requires c κs = search needs
+
+answer-of-requires : tie.Need-answer-of-requires
+answer-of-requires c κs = search needs
+
+returns-2 : tie.Need-returns-2
+returns-2 c =
+    let at-running-task = c .before in
+    let at-leave = at-running-task .before .before in
+    let first = at-leave .before .before in
+    rw (c .answer-of .ensures) (λ K. leave-done K (not-false _ (first .if1 .left)) (at-running-task .running-task .ensures) (at-leave .leave .ensures))
+
+pub serve-leave-spec : {M : Type 1} → statement M
+serve-leave-spec = tie.close (tie.spec damaged-requires returns leave-requires running-task-requires answer-of-requires returns-2)

@@ -1,0 +1,14 @@
+-- `memory_running::is_open` meets its contract. By the depth. Assumes nothing.
+use Rattle.memory_running.proofs.Marks.{open-read}
+use borrow.Author.Needs.{needs}
+use Rattle.memory_running.proofs.is_open.Statement.{statement}
+use Rattle.memory_running.proofs.is_open.Tie as tie
+
+handling-requires : tie.Need-handling-requires
+handling-requires c κs = search needs
+
+returns : tie.Need-returns
+returns c = open-read _ (c .handling .ensures)
+
+pub is-open-spec : {M : Type 1} → statement M
+is-open-spec = tie.close (tie.spec handling-requires returns)
