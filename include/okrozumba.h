@@ -19,10 +19,10 @@ extern "C" {
 
 /* ---- the state */
 
-#define OKROZUMBA_STATE_WORDS 1180
+#define OKROZUMBA_STATE_WORDS 1182
 #define OKROZUMBA_MESSAGES 256
 
-/* The kernel's memory, 5744 bytes. Only the functions below give its words a meaning. A copy of it is a second kernel in the same state. */
+/* The kernel's memory, 5752 bytes. Only the functions below give its words a meaning. A copy of it is a second kernel in the same state. */
 typedef struct okrozumba_state {
     uint32_t words[OKROZUMBA_STATE_WORDS];
     uint32_t messages[OKROZUMBA_MESSAGES];
@@ -30,11 +30,13 @@ typedef struct okrozumba_state {
 
 /* ---- events */
 
-/* The context of a call; and the kind of an event, which is a call's context or a tick. */
+/* The context of a call; and the kind of an event, which is a call's context or no call. */
 enum {
     OKROZUMBA_TASK = 0,    /* the running task calls */
-    OKROZUMBA_HANDLER = 1, /* an interrupt handler calls */
-    OKROZUMBA_TICK = 2     /* no call: the clock rises by one */
+    OKROZUMBA_HANDLER = 1, /* an interrupt handler calls; one must be open */
+    OKROZUMBA_TICK = 2,    /* no call: the clock rises by one */
+    OKROZUMBA_ENTRY = 3,   /* no call: a handler is entered */
+    OKROZUMBA_RETURN = 4   /* no call: a handler returns */
 };
 
 /* The calls, by number. Those marked T are for tasks only; the words that each takes stand behind it. */
@@ -43,7 +45,7 @@ enum {
     OKROZUMBA_EXT_TSK = 2,   /* T */
     OKROZUMBA_TER_TSK = 3,   /* T, task */
     OKROZUMBA_CHG_PRI = 4,   /* task, priority */
-    OKROZUMBA_ROT_RDQ = 5,   /* priority, 0 for the running task's */
+    OKROZUMBA_ROT_RDQ = 5,   /* priority, 0 for the best that has a ready task */
     OKROZUMBA_REL_WAI = 6,   /* task */
     OKROZUMBA_SUS_TSK = 7,   /* task */
     OKROZUMBA_RSM_TSK = 8,   /* task */
@@ -104,6 +106,7 @@ enum {
     OKROZUMBA_H_SUS = -4,         /* sus_tsk on a suspended task */
     OKROZUMBA_H_POLL = -5,        /* a poll that can't be served at once */
     OKROZUMBA_H_MSG = -6,         /* the message already lies in a mailbox */
+    OKROZUMBA_H_NEST = -7,        /* an entry while 15 handlers are open */
     OKROZUMBA_H_STATE = -9,       /* the state is damaged */
     OKROZUMBA_H_ILBLK = -10,      /* block number outside the pool, or free */
     OKROZUMBA_E_TPRI = -1830,     /* priority outside 1..P (rot_rdq: 0..P) */
@@ -113,7 +116,8 @@ enum {
     OKROZUMBA_E_DMT = -2101,      /* ter_tsk, chg_pri, sus_tsk, wup_tsk or can_wup on a dormant task */
     OKROZUMBA_E_NOSUS = -2104,    /* rsm_tsk on a task not suspended */
     OKROZUMBA_E_NOWAI = -2110,    /* rel_wai on a task not waiting */
-    OKROZUMBA_E_CTX = -2629,      /* task-only call from a handler; task context while nothing runs */
+    OKROZUMBA_E_CTX = -2629,      /* task-only call from a handler; task context while nothing runs or a handler is open; handler context
+                                     or a return while none is */
     OKROZUMBA_E_QOVR = -2889,     /* wake-up count already 15; semaphore already 65535 */
     OKROZUMBA_E_TMOUT = -3413,    /* wai_tsk with time 0 and no wake-up stored; in a cell, time ran out */
     OKROZUMBA_E_RLWAI = -3414     /* only in a cell: wait broken off */
@@ -126,7 +130,7 @@ typedef struct okrozumba_answer {
     int32_t code;
     uint32_t w1;
     uint32_t w2;
-    uint32_t running;  /* the running task after the event, 0 if none */
+    uint32_t running;  /* the running task after the event, while a handler is open the one at the outermost entry; 0 if none */
     uint32_t released; /* the number of tasks released from a wait */
 } okrozumba_answer;
 
@@ -185,13 +189,22 @@ okrozumba_answer okrozumba_call(uint32_t words[OKROZUMBA_STATE_WORDS], uint32_t 
    for damage itself. */
 okrozumba_answer okrozumba_tick(uint32_t words[OKROZUMBA_STATE_WORDS], const uint32_t messages[OKROZUMBA_MESSAGES]);
 
+/* A handler is entered, up to 15 in each other. While one is open no task is switched: the running task reported is the one at the
+   outermost entry. On a damaged state: H_STATE, all else 0, and the state as it was. It looks for damage itself. */
+okrozumba_answer okrozumba_enter(uint32_t words[OKROZUMBA_STATE_WORDS], const uint32_t messages[OKROZUMBA_MESSAGES]);
+
+/* A handler returns; behind the outermost the best ready task runs. On a damaged state: H_STATE, all else 0, and the state as it was. It
+   looks for damage itself. */
+okrozumba_answer okrozumba_leave(uint32_t words[OKROZUMBA_STATE_WORDS], const uint32_t messages[OKROZUMBA_MESSAGES]);
+
 /* Reads the answer cell of a task. On a damaged state H_STATE, then for a bad id E_NOEXS, each with word 0. It looks for damage itself. */
 okrozumba_reading okrozumba_cell(const uint32_t words[OKROZUMBA_STATE_WORDS], const uint32_t messages[OKROZUMBA_MESSAGES], int32_t task);
 
-/* The running task; 0 if there is none, and on a damaged state. It looks for damage itself. */
+/* The running task, while a handler is open the one at the outermost entry; 0 if there is none, and on a damaged state. It looks for damage
+   itself. */
 uint32_t okrozumba_running(const uint32_t words[OKROZUMBA_STATE_WORDS], const uint32_t messages[OKROZUMBA_MESSAGES]);
 
-/* Events one after the other, five words each: kind, number, a, b, c (of a tick only the kind counts). The code of event i goes to
+/* Events one after the other, five words each: kind, number, a, b, c (of what is no call only the kind counts). The code of event i goes to
    codes[i], its w1, w2, running and released to answers[4 i] and the next three; what lies behind the last is left. The answers are those
    of one call after the other, and it is quicker: the state is looked at for damage once. On a damaged state every event is answered with
    H_STATE and zeros. Returns OKROZUMBA_DONE, or OKROZUMBA_RAGGED, _FEW_CODES or _FEW_WORDS, the first that applies, with nothing

@@ -9,7 +9,9 @@
        setup without its last byte: refused S1 at 60
        setup: fresh, runs 1
        task 1 wai_sem(1): code 1, runs 2, released 0
+       handler entered: code 0, runs 2, released 0
        handler rel_wai(1): code 0, runs 2, released 1
+       handler returns: code 0, runs 2, released 0
        cell of task 1: code -3414, word 0
        task 2 rot_rdq(0): code 0, runs 1, released 0
        task 1 wai_tsk(2): code 1, runs 2, released 0
@@ -59,7 +61,9 @@ int main(void) {
     printf("setup: fresh, runs %" PRIu32 "\n", okrozumba_running(s.words, s.messages));
 
     say("task 1 wai_sem(1)", okrozumba_call(s.words, s.messages, OKROZUMBA_TASK, OKROZUMBA_WAI_SEM, 1, 0, 0));
+    say("handler entered", okrozumba_enter(s.words, s.messages));
     say("handler rel_wai(1)", okrozumba_call(s.words, s.messages, OKROZUMBA_HANDLER, OKROZUMBA_REL_WAI, 1, 0, 0));
+    say("handler returns", okrozumba_leave(s.words, s.messages));
     say_cell(&s, 1);
 
     say("task 2 rot_rdq(0)", okrozumba_call(s.words, s.messages, OKROZUMBA_TASK, OKROZUMBA_ROT_RDQ, 0, 0, 0));

@@ -24,6 +24,7 @@ const FLAG: Column = Column(590);
 const FREE: Column = Column(607);
 const SIZE: Column = Column(616);
 const SYSTEM: Column = Column(1171);
+const HANDLING: Column = Column(1180);
 
 /// The two directions of links, and the number of their nodes.
 #[derive(Clone, Copy)]
@@ -62,6 +63,10 @@ const POOLS: (u32, u32) = (5, 8);
 const MAILS: (u32, u32) = (6, 256);
 const CLOCK_LOW: u32 = 7;
 const CLOCK_HIGH: u32 = 8;
+
+/// Entries of the handlers' column: how many are open, and the interrupted task or 0.
+const DEPTH: u32 = 0;
+const INTERRUPTED: u32 = 1;
 
 /// A cell's code as the memory has it.
 const CELL_CODES: [i32; 3] = [0, -3413, -3414];
@@ -180,6 +185,12 @@ impl Reader<'_> {
         Ok(())
     }
 
+    /// With no handler open the word is no part of the state.
+    fn interrupted(&self) -> Option<u32> {
+        let task = self.at(HANDLING, INTERRUPTED);
+        (self.at(HANDLING, DEPTH) > 0 && task != 0).then_some(task)
+    }
+
     fn picture(&self) -> Result<Picture, Breach> {
         let tasks = self.count(TASKS)?;
         let messages = self.count(MAILS)?;
@@ -201,6 +212,8 @@ impl Reader<'_> {
                 .collect::<Result<_, _>>()?,
             clock: u64::from(self.at(SYSTEM, CLOCK_HIGH)) << 32
                 | u64::from(self.at(SYSTEM, CLOCK_LOW)),
+            depth: self.at(HANDLING, DEPTH),
+            interrupted: self.interrupted(),
             ready: of_tasks(READY_ANCHORS, priorities)?,
             semaphore_waiters: of_tasks(SEMAPHORE_ANCHORS, semaphores)?,
             flag_waiters: of_tasks(FLAG_ANCHORS, flags)?,
@@ -315,6 +328,14 @@ impl Writer {
         self.put(SYSTEM, CLOCK_HIGH, (p.clock >> 32) as u32);
     }
 
+    /// With no handler open the second word is no part of the state.
+    fn handling(&mut self, p: &Picture) {
+        self.put(HANDLING, DEPTH, p.depth);
+        if p.depth > 0 {
+            self.put(HANDLING, INTERRUPTED, p.interrupted.unwrap_or(0));
+        }
+    }
+
     fn links(&mut self, p: &Picture) {
         for id in 1..=p.tasks.len() as u32 {
             self.put(TASK_LINKS.next, id, 0);
@@ -338,6 +359,7 @@ pub fn drawn(p: &Picture, mut any: impl FnMut() -> u32) -> State {
     };
     let mut messages = std::array::from_fn(|_| any());
     w.system(p);
+    w.handling(p);
     for (id, task) in (1..).zip(&p.tasks) {
         w.task(id, task);
     }
@@ -349,4 +371,14 @@ pub fn drawn(p: &Picture, mut any: impl FnMut() -> u32) -> State {
     messages[..p.messages.len()].copy_from_slice(&p.messages);
     w.links(p);
     State::of(w.words, messages)
+}
+
+/// The memory with any depth and interrupted task.
+pub fn with_handling(state: &State, depth: u32, interrupted: u32) -> State {
+    let mut w = Writer {
+        words: *state.words(),
+    };
+    w.put(HANDLING, DEPTH, depth);
+    w.put(HANDLING, INTERRUPTED, interrupted);
+    State::of(w.words, *state.messages())
 }

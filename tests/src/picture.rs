@@ -73,6 +73,10 @@ pub struct Picture {
     /// Which blocks of each pool are free.
     pub pools: Vec<Vec<bool>>,
     pub clock: u64,
+    /// Handlers that are open.
+    pub depth: u32,
+    /// The task that ran at the outermost entry; none if none did, or no handler is open.
+    pub interrupted: Option<u32>,
     /// The ready queue of each priority.
     pub ready: Queues,
     pub semaphore_waiters: Queues,
@@ -85,9 +89,12 @@ pub struct Picture {
 
 /// The rule that is broken.
 pub type Breach = &'static str;
+pub const DEPTH_RULE: Breach = "depth of handlers";
+pub const INTERRUPTED_RULE: Breach = "interrupted task";
 
 pub const TICKS_MOST: u32 = 2_147_483_647;
 pub const CLOCK_END: u64 = 1 << 48;
+const DEPTH_MOST: u32 = 15;
 const CELL_CODES: [i32; 3] = [0, -3413, -3414];
 
 fn keep(holds: bool, rule: Breach) -> Result<(), Breach> {
@@ -123,6 +130,7 @@ impl Picture {
         for task in &self.tasks {
             self.task_sound(task)?;
         }
+        self.handlers_sound()?;
         self.task_queues_sound()?;
         self.mail_sound()?;
         self.nobody_overlooked()
@@ -156,6 +164,20 @@ impl Picture {
             "message's mailbox",
         )?;
         keep(self.clock < CLOCK_END, "clock")
+    }
+
+    /// The interrupted task is none, or one that is ready, running or suspended.
+    fn handlers_sound(&self) -> Result<(), Breach> {
+        keep(self.depth <= DEPTH_MOST, DEPTH_RULE)?;
+        let Some(id) = self.interrupted else {
+            return Ok(());
+        };
+        keep(
+            self.depth > 0 && numbered(id, self.tasks.len()),
+            INTERRUPTED_RULE,
+        )?;
+        let stands = matches!(self.task(id).standing, Standing::Ready | Standing::Suspend);
+        keep(stands, INTERRUPTED_RULE)
     }
 
     fn task_sound(&self, task: &Task) -> Result<(), Breach> {

@@ -9,6 +9,7 @@ pub const H_NODMT: i32 = -3;
 pub const H_SUS: i32 = -4;
 pub const H_POLL: i32 = -5;
 pub const H_MSG: i32 = -6;
+pub const H_NEST: i32 = -7;
 pub const H_ILBLK: i32 = -10;
 pub const E_TPRI: i32 = -1830;
 pub const E_ILTIME: i32 = -1831;
@@ -24,16 +25,19 @@ pub const E_RLWAI: i32 = -3414;
 /// The caller must wait.
 const WAITS: i32 = 1;
 
+pub const DEPTH_MOST: u32 = 15;
 const WAKEUPS_MOST: u32 = 15;
 const SEMAPHORE_MOST: u32 = 65535;
 const TASK: i32 = 0;
 const HANDLER: i32 = 1;
 const TASK_ONLY: [i32; 8] = [2, 3, 9, 10, 14, 18, 21, 23];
 
-/// A tick, or a call.
+/// A tick, a handler's entry or return, or a call.
 #[derive(Clone, Copy, PartialEq, Eq, Debug)]
 pub enum Event {
     Tick,
+    Enter,
+    Leave,
     Call {
         context: i32,
         number: i32,
@@ -72,6 +76,10 @@ pub struct Plain {
     messages: Vec<Message>,
     pools: Vec<Vec<bool>>,
     clock: u64,
+    /// Handlers that are open.
+    depth: u32,
+    /// The task that ran at the outermost entry; none if none did, or no handler is open.
+    interrupted: Option<u32>,
     /// Numbers given so far.
     numbers: u64,
 }
@@ -150,6 +158,8 @@ impl Plain {
                 .map(|blocks| vec![true; *blocks as usize])
                 .collect(),
             clock: 0,
+            depth: 0,
+            interrupted: None,
             numbers: 0,
         };
         for (id, task) in (1..).zip(&setup.tasks) {
@@ -185,6 +195,8 @@ impl Plain {
                 .collect(),
             pools: p.pools.clone(),
             clock: p.clock,
+            depth: p.depth,
+            interrupted: p.interrupted,
             numbers: 0,
         };
         for id in p.task_queues().into_iter().flatten().flatten() {
@@ -254,8 +266,22 @@ impl Plain {
     }
 
     /// The head of the nonempty ready queue with the smallest priority number.
-    pub fn running(&self) -> Option<u32> {
+    pub fn best(&self) -> Option<u32> {
         (1..=self.priorities).find_map(|priority| self.ready(priority).first().copied())
+    }
+
+    /// The running task reported: while a handler is open, the one at the outermost entry.
+    pub fn running(&self) -> Option<u32> {
+        if self.depth == 0 {
+            self.best()
+        } else {
+            self.interrupted
+        }
+    }
+
+    /// How many handlers are open.
+    pub fn depth(&self) -> u32 {
+        self.depth
     }
 
     pub fn cell(&self, id: i32) -> (i32, u32) {
@@ -286,6 +312,8 @@ impl Plain {
             messages: self.messages.iter().map(|m| m.mailbox).collect(),
             pools: self.pools.clone(),
             clock: self.clock,
+            depth: self.depth,
+            interrupted: self.interrupted,
             ready: (1..=self.priorities)
                 .map(|priority| self.ready(priority))
                 .collect(),
@@ -342,10 +370,12 @@ impl Plain {
         }
     }
 
-    /// The running task, if the context suits the call.
+    /// The running task, if the context suits the call and what is open.
     fn judge_context(&self, context: i32, number: i32) -> Result<Option<u32>, i32> {
         let running = self.running();
         refuse_if(context == HANDLER && TASK_ONLY.contains(&number), E_CTX)?;
+        refuse_if(context == HANDLER && self.depth == 0, E_CTX)?;
+        refuse_if(context == TASK && self.depth > 0, E_CTX)?;
         refuse_if(context == TASK && running.is_none(), E_CTX)?;
         Ok(running)
     }
@@ -440,7 +470,9 @@ impl Plain {
     pub fn event(&mut self, event: Event) -> Answer {
         let before: Vec<bool> = self.waiting();
         let said = match event {
-            Event::Tick => Ok(self.tick()),
+            Event::Tick => self.tick(),
+            Event::Enter => self.enter(),
+            Event::Leave => self.leave(),
             Event::Call {
                 context,
                 number,
@@ -471,7 +503,33 @@ impl Plain {
             .collect()
     }
 
-    fn tick(&mut self) -> Said {
+    fn enter(&mut self) -> Result<Said, i32> {
+        refuse_if(self.depth == DEPTH_MOST, H_NEST)?;
+        self.interrupted = self.running();
+        self.depth += 1;
+        Ok(DONE)
+    }
+
+    fn leave(&mut self) -> Result<Said, i32> {
+        refuse_if(self.depth == 0, E_CTX)?;
+        self.depth -= 1;
+        if self.depth == 0 {
+            self.interrupted = None;
+        }
+        Ok(DONE)
+    }
+
+    /// Outside handlers: entry, tick, return.
+    fn tick(&mut self) -> Result<Said, i32> {
+        if self.depth > 0 {
+            return Ok(self.pass_time());
+        }
+        self.enter()?;
+        self.pass_time();
+        self.leave()
+    }
+
+    fn pass_time(&mut self) -> Said {
         self.clock = (self.clock + 1) % CLOCK_END;
         for id in 1..=self.counts().tasks {
             self.lose_one(id);
@@ -494,16 +552,16 @@ impl Plain {
         }
     }
 
-    /// A call that was judged. A task-only call has a caller.
+    /// A call that was judged. A task-only call comes from the running task.
     fn perform(&mut self, number: i32, a: u32, b: u32, c: u32) -> Said {
-        let caller = self.running();
-        let me = caller.unwrap_or(0);
+        let running = self.running();
+        let me = running.unwrap_or(0);
         match number {
             1 => self.sta_tsk(a),
             2 => self.end(me),
             3 => self.end(a),
             4 => self.chg_pri(a, b),
-            5 => self.rot_rdq(a, caller),
+            5 => self.rot_rdq(a),
             6 => self.served(a, E_RLWAI, 0),
             7 => self.sus_tsk(a),
             8 => self.rsm_tsk(a),
@@ -522,7 +580,7 @@ impl Plain {
             23 | 24 => self.take_block(me, a),
             25 => self.rel_blk(a, b),
             26 => (0, me, 0),
-            27 => self.tsk_sts(a, caller),
+            27 => self.tsk_sts(a, running),
             28 => (
                 0,
                 self.first_or_0(Object::Semaphore(a)),
@@ -574,9 +632,10 @@ impl Plain {
         DONE
     }
 
-    fn rot_rdq(&mut self, priority: u32, running: Option<u32>) -> Said {
+    /// 0 means the best nonempty queue, whichever task is reported.
+    fn rot_rdq(&mut self, priority: u32) -> Said {
         let head = match priority {
-            0 => running,
+            0 => self.best(),
             _ => self.ready(priority).first().copied(),
         };
         if let Some(id) = head {

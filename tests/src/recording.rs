@@ -6,8 +6,10 @@ use crate::setup::{self, Fault, Reader, Setup};
 
 const EVENTS_MOST: u32 = 3000;
 const TICK: i32 = 2;
+const ENTRY: i32 = 3;
+const RETURN: i32 = 4;
 
-/// An event: kind (0 task, 1 handler, 2 tick), call, a, b, c.
+/// An event: kind (0 task, 1 handler, 2 tick, 3 entry, 4 return), call, a, b, c.
 pub type Five = [i32; 5];
 
 #[derive(Clone, Debug)]
@@ -16,10 +18,13 @@ pub struct Recording {
     pub events: Vec<Five>,
 }
 
-/// Any kind but a tick's is a context; one that no call can have gets code -1, as H_CALL does.
+/// Of a tick, an entry and a return only the kind counts. Any other kind is a context; one that no call can have gets code -1, as H_CALL
+/// does.
 pub fn event([kind, number, a, b, c]: Five) -> Event {
     match kind {
         TICK => Event::Tick,
+        ENTRY => Event::Enter,
+        RETURN => Event::Leave,
         context => Event::Call {
             context,
             number,
@@ -30,10 +35,12 @@ pub fn event([kind, number, a, b, c]: Five) -> Event {
     }
 }
 
-fn words(event: Event) -> Five {
+pub fn words(event: Event) -> Five {
     match event {
-        // of a tick only the kind counts
+        // words that don't count
         Event::Tick => [TICK, 5, -1, 77, 3],
+        Event::Enter => [ENTRY, 9, 0, -1, 1],
+        Event::Leave => [RETURN, -3, 2, i32::MIN, 4],
         Event::Call {
             context,
             number,

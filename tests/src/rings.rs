@@ -1,4 +1,4 @@
-//! The kernel of paper 01 once more, unproved and written for speed: what `bench` measures the proved one against.
+//! The kernel of paper 01 and request K2 once more, unproved and written for speed: what `bench` measures the proved one against.
 //!
 //! Queues are doubly linked rings in arrays: nodes 1 to 32 are tasks (1 to 256 messages), the nodes behind them anchors, one for each queue.
 //! Bit masks say which ready queues are nonempty and which tasks wait for a time. Nothing is allocated. Numbers that a sound state keeps in
@@ -54,7 +54,7 @@ const CALLER_WAITS: Result<Said, i32> = Ok(Said {
     released: 0,
 });
 
-#[derive(Clone, Copy, Default)]
+#[derive(Clone, Copy, Default, PartialEq)]
 struct Task {
     status: u32,
     priority: u32,
@@ -69,14 +69,14 @@ struct Task {
     word: u32,
 }
 
-#[derive(Clone, Copy, Default)]
+#[derive(Clone, Copy, Default, PartialEq)]
 struct Link {
     next: u32,
     prev: u32,
 }
 
 /// Rings over N nodes. A node in no ring, and an empty anchor, points to itself.
-#[derive(Clone)]
+#[derive(Clone, PartialEq)]
 struct Rings<const N: usize> {
     link: [Link; N],
 }
@@ -132,9 +132,12 @@ impl<const N: usize> Rings<N> {
     }
 }
 
-#[derive(Clone)]
+#[derive(Clone, PartialEq)]
 pub struct Kernel {
+    /// Kept as it was at the outermost entry while a handler is open.
     running: u32,
+    /// Handlers that are open.
+    depth: u32,
     ready: u32,
     timed: u32,
     clock: u64,
@@ -190,7 +193,7 @@ fn meets(have: u32, want: u32, mode: u32) -> bool {
     }
 }
 
-/// Who calls: a handler, or the running task, 0 if there is none.
+/// Who calls: an open handler, or the running task outside handlers, 0 if there is none.
 #[derive(Clone, Copy)]
 struct Caller {
     handler: bool,
@@ -198,6 +201,22 @@ struct Caller {
 }
 
 impl Caller {
+    /// The task context, outside handlers.
+    fn in_task(k: &Kernel) -> Caller {
+        Caller {
+            handler: false,
+            me: if k.depth == 0 { k.running } else { 0 },
+        }
+    }
+
+    /// The handler context, while one is open.
+    fn in_handler(k: &Kernel) -> Caller {
+        Caller {
+            handler: k.depth != 0,
+            me: 0,
+        }
+    }
+
     /// E_CTX for a call that handlers may make.
     fn any(self) -> Result<(), i32> {
         if self.me == 0 && !self.handler {
@@ -223,6 +242,7 @@ impl Kernel {
         let setup = setup::read(bytes)?;
         let mut k = Kernel {
             running: 0,
+            depth: 0,
             ready: 0,
             timed: 0,
             clock: 0,
@@ -269,13 +289,21 @@ impl Kernel {
         &mut self.task[t as usize]
     }
 
-    fn dispatch(&mut self) {
-        self.running = if self.ready == 0 {
+    /// The head of the best nonempty ready queue, 0 if all are empty.
+    fn best(&self) -> u32 {
+        if self.ready == 0 {
             0
         } else {
             self.queue
                 .next(ready_anchor(self.ready.trailing_zeros() + 1))
-        };
+        }
+    }
+
+    /// No task is switched while a handler is open.
+    fn dispatch(&mut self) {
+        if self.depth == 0 {
+            self.running = self.best();
+        }
     }
 
     /// Last in the queue of its priority; it is in no ring.
@@ -427,7 +455,7 @@ impl Kernel {
         }
         by.any()?;
         let t = if a == 0 {
-            self.running
+            self.best()
         } else {
             self.queue.first(ready_anchor(a as u32))
         };
@@ -538,10 +566,9 @@ impl Kernel {
     fn tsk_sts(&self, by: Caller, a: i32) -> Result<Said, i32> {
         let t = self.task_id(a)?;
         by.any()?;
-        let status = if t == self.running {
-            RUN
-        } else {
-            self.at(t).status
+        let status = match self.at(t).status {
+            READY if t == self.running => RUN,
+            status => status,
         };
         gives(status, self.at(t).priority)
     }
@@ -871,31 +898,31 @@ impl Kernel {
         n
     }
 
-    /// An event of five words: kind (0 task, 1 handler, 2 tick), call, a, b, c.
+    fn enter(&mut self) -> Result<Said, i32> {
+        if self.depth == 15 {
+            return Err(H_NEST);
+        }
+        self.depth += 1;
+        DONE
+    }
+
+    fn leave(&mut self) -> Result<Said, i32> {
+        if self.depth == 0 {
+            return Err(E_CTX);
+        }
+        self.depth -= 1;
+        DONE
+    }
+
+    /// An event of five words: kind (0 task, 1 handler, 2 tick, 3 entry, 4 return), call, a, b, c.
     pub fn event(&mut self, e: &[i32; 5]) -> Answer {
         let [kind, n, a, b, c] = *e;
         let said = match kind {
-            0 => self.call(
-                Caller {
-                    handler: false,
-                    me: self.running,
-                },
-                n,
-                a,
-                b,
-                c,
-            ),
-            1 => self.call(
-                Caller {
-                    handler: true,
-                    me: 0,
-                },
-                n,
-                a,
-                b,
-                c,
-            ),
+            0 => self.call(Caller::in_task(self), n, a, b, c),
+            1 => self.call(Caller::in_handler(self), n, a, b, c),
             2 => released(self.tick()),
+            3 => self.enter(),
+            4 => self.leave(),
             _ => Err(H_CALL),
         };
         match said {
@@ -1068,7 +1095,7 @@ impl Kernel {
             })
     }
 
-    /// The mask of the ready queues, and who runs.
+    /// The mask of the ready queues, the depth, and who runs or was interrupted.
     fn is_run(&self) -> bool {
         let mut ready: u32 = 0;
         for p in 1..=self.priorities {
@@ -1076,12 +1103,15 @@ impl Kernel {
                 ready |= 1 << (p - 1);
             }
         }
-        let running = if ready == 0 {
-            0
-        } else {
-            self.queue.next(ready_anchor(ready.trailing_zeros() + 1))
-        };
-        self.ready == ready && self.running == running
+        self.ready == ready && self.depth <= 15 && self.is_running_sound()
+    }
+
+    fn is_running_sound(&self) -> bool {
+        if self.depth == 0 {
+            return self.running == self.best();
+        }
+        let t = self.running;
+        t == 0 || t <= self.tasks && matches!(self.at(t).status, READY | SUSPEND)
     }
 }
 
@@ -1111,97 +1141,4 @@ impl<const N: usize> Rings<N> {
 }
 
 #[cfg(test)]
-mod tests {
-    use super::*;
-    use crate::plain::{Event, Plain};
-    use crate::random::Random;
-    use crate::script::{self, Author, SIZES};
-    use okrozumba::State;
-
-    const RUNS: u64 = 400;
-    const EVENTS: u32 = 500;
-
-    fn five(event: Event) -> [i32; 5] {
-        match event {
-            Event::Tick => [2, 0, 0, 0, 0],
-            Event::Call {
-                context,
-                number,
-                a,
-                b,
-                c,
-            } => [context, number, a, b, c],
-        }
-    }
-
-    fn same_cells(rings: &Kernel, proved: &State) {
-        for id in -1..=33 {
-            let cell = proved.cell(id);
-            assert_eq!(rings.cell(id), (cell.code, cell.word), "cell of {id}");
-        }
-    }
-
-    /// The same answers and cells as the proved kernel, and never a state that the check finds damaged.
-    #[test]
-    fn answers_are_the_proved_kernels() {
-        for seed in 0..RUNS {
-            let random = &mut Random::new(seed);
-            let setup = script::setup(random, SIZES[seed as usize % SIZES.len()]);
-            let bytes = setup::bytes(&setup);
-            let mut author = Author::default();
-            let mut plain = Plain::fresh(&setup);
-            let mut proved = State::start(&bytes).unwrap();
-            let mut rings = Kernel::start(&bytes).unwrap();
-            for _ in 0..EVENTS {
-                let event = author.event(random, &plain);
-                plain.event(event);
-                let e = five(event);
-                let mut answer = [0; 4];
-                let mut code = [0];
-                proved.events(&e, &mut code, &mut answer).unwrap();
-                let r = rings.checked_event(&e);
-                assert_eq!(
-                    (r.code, [r.w1, r.w2, r.running, r.released]),
-                    (code[0], answer),
-                    "seed {seed}, {event:?}"
-                );
-                same_cells(&rings, &proved);
-            }
-        }
-    }
-
-    /// The check sees damage of each kind.
-    #[test]
-    fn damage_is_found() {
-        let setup = script::setup(&mut Random::new(2), SIZES[2]);
-        let mut sound = Kernel::start(&setup::bytes(&setup)).unwrap();
-        assert!(sound.event(&[0, 18, 1, 1 << 31, 0]).code >= 0);
-        assert!(sound.event(&[1, 20, 1, 1, 0]).code >= 0);
-        assert!(sound.event(&[0, 10, 9, 0, 0]).code >= 0);
-        assert!(sound.is_sound());
-        let t = sound.running;
-        let damages: [fn(&mut Kernel, u32); 12] = [
-            |k, _| k.priorities = 17,
-            |k, _| k.ready ^= 1 << 3,
-            |k, _| k.timed ^= 1,
-            |k, _| k.count[1] = 65536,
-            |k, _| k.size[1] = 33,
-            |k, _| k.mailbox[1] ^= 1,
-            |k, _| k.mailbox[200] = 1,
-            |k, _| k.mail.link[1].prev = 2,
-            |k, t| k.queue.link[t as usize].next = t,
-            |k, t| k.at_mut(t).wakeups = 16,
-            |k, t| k.at_mut(t).status = SUSPEND,
-            |k, t| k.at_mut(t).code = 7,
-        ];
-        for (i, damage) in damages.iter().enumerate() {
-            let mut k = sound.clone();
-            damage(&mut k, t);
-            assert_eq!(
-                k.checked_event(&[1, 26, 0, 0, 0]).code,
-                H_STATE,
-                "damage {i}"
-            );
-        }
-    }
-}
+mod tests;

@@ -98,7 +98,8 @@ pub fn setup(random: &mut Random, size: Size) -> Setup {
 
 // ---- events
 
-/// Which calls come, and how: percentages of ticks, of handlers and of wrong words, and of words that the mood keeps coming back to.
+/// Which calls come, and how: percentages of ticks, of handlers and of wrong words, and of words that the mood keeps coming back to. While
+/// a handler is open, `deeper` is the percentage of its turns that enter another.
 #[derive(Clone, Copy)]
 struct Mood {
     calls: &'static [i32],
@@ -106,6 +107,7 @@ struct Mood {
     handlers: u32,
     wrong: u32,
     focus: u32,
+    deeper: u32,
 }
 
 const fn mood(calls: &'static [i32], ticks: u32, handlers: u32, wrong: u32, focus: u32) -> Mood {
@@ -115,7 +117,12 @@ const fn mood(calls: &'static [i32], ticks: u32, handlers: u32, wrong: u32, focu
         handlers,
         wrong,
         focus,
+        deeper: 5,
     }
+}
+
+const fn nested(deeper: u32, mood: Mood) -> Mood {
+    Mood { deeper, ..mood }
 }
 
 const ALL: [i32; 32] = [
@@ -123,7 +130,7 @@ const ALL: [i32; 32] = [
     27, 28, 29, 30, 31, 32,
 ];
 
-const MOODS: [Mood; 12] = [
+const MOODS: [Mood; 15] = [
     // of everything, right and wrong
     mood(&ALL, 10, 35, 10, 30),
     mood(&ALL, 5, 50, 50, 30),
@@ -141,13 +148,26 @@ const MOODS: [Mood; 12] = [
     // counts rise and mailboxes fill
     mood(&[11], 0, 90, 2, 90),
     mood(&[20, 20, 20, 22], 1, 50, 2, 60),
-    mood(&[20], 0, 80, 0, 95),
+    mood(&[20], 0, 95, 0, 95),
+    // handlers in handlers, and what they do to the interrupted task
+    nested(60, mood(&ALL, 10, 90, 5, 30)),
+    nested(30, mood(&[4, 5, 7, 8, 26, 27], 5, 80, 3, 30)),
+    nested(40, mood(&[1, 5, 6, 11, 26, 27], 5, 60, 3, 0)),
 ];
 
 const NUMBERS_OUTSIDE: [i32; 6] = [0, 33, -1, 64, i32::MIN, i32::MAX];
 /// The top one, too: a pattern is an unsigned number.
 const BITS: [i32; 4] = [1, 2, 4, i32::MIN];
-const CONTEXTS_OUTSIDE: [i32; 5] = [2, -1, 3, i32::MIN, i32::MAX];
+const CONTEXTS_OUTSIDE: [i32; 7] = [2, -1, 3, 4, 5, i32::MIN, i32::MAX];
+
+/// Who is next: a call of the running task or of a handler, an entry or a return.
+#[derive(Clone, Copy, PartialEq, Eq)]
+enum Turn {
+    Task,
+    Handler,
+    Enter,
+    Leave,
+}
 
 /// Writes events for a plain kernel as it stands. A mood lasts a while and has a call, an id, a bit and a mode that it keeps coming back to.
 pub struct Author {
@@ -176,7 +196,7 @@ impl Author {
     fn change_mood(&mut self, random: &mut Random) {
         self.mood = random.pick(&MOODS);
         self.left = if random.percent(10) {
-            250
+            380
         } else {
             random.within(5, 60)
         };
@@ -188,7 +208,7 @@ impl Author {
 
     pub fn event(&mut self, random: &mut Random, plain: &Plain) -> Event {
         // tasks alone get nowhere once all of them wait
-        let stuck = self.mood.handlers < 10 && plain.running().is_none();
+        let stuck = self.mood.handlers < 10 && plain.best().is_none();
         if self.left == 0 || stuck && random.percent(70) {
             self.change_mood(random);
         }
@@ -196,8 +216,16 @@ impl Author {
         if random.percent(self.mood.ticks) {
             return Event::Tick;
         }
+        match self.turn(random, plain) {
+            Turn::Enter => Event::Enter,
+            Turn::Leave => Event::Leave,
+            turn => self.call_by(random, plain, turn),
+        }
+    }
+
+    fn call_by(&self, random: &mut Random, plain: &Plain, turn: Turn) -> Event {
         let number = self.number(random);
-        let context = self.context(random, plain);
+        let context = self.context(random, turn);
         let (a, b, c) = self.words(random, plain, number);
         Event::Call {
             context,
@@ -222,16 +250,33 @@ impl Author {
         }
     }
 
-    fn context(&self, random: &mut Random, plain: &Plain) -> i32 {
-        if self.wrong(random) && random.percent(10) {
-            return random.pick(&CONTEXTS_OUTSIDE);
-        }
-        let handlers = if plain.running().is_none() {
+    /// Mostly what suits the handlers that are open, now and then what doesn't.
+    fn turn(&self, random: &mut Random, plain: &Plain) -> Turn {
+        let open = plain.depth() > 0;
+        let handlers = if plain.best().is_none() {
             85
         } else {
             self.mood.handlers
         };
-        i32::from(random.percent(handlers))
+        let handler = random.percent(handlers);
+        if random.percent(4) || self.wrong(random) && random.percent(20) {
+            return random.pick(&[Turn::Task, Turn::Handler, Turn::Enter, Turn::Leave]);
+        }
+        match (handler, open) {
+            (true, true) if random.percent(self.mood.deeper) => Turn::Enter,
+            (true, true) if random.percent(8) => Turn::Leave,
+            (true, true) => Turn::Handler,
+            (true, false) => Turn::Enter,
+            (false, true) => Turn::Leave,
+            (false, false) => Turn::Task,
+        }
+    }
+
+    fn context(&self, random: &mut Random, turn: Turn) -> i32 {
+        if self.wrong(random) && random.percent(10) {
+            return random.pick(&CONTEXTS_OUTSIDE);
+        }
+        i32::from(turn == Turn::Handler)
     }
 
     /// Words that the call ignores are random, too.

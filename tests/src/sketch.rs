@@ -168,6 +168,17 @@ fn blocks(random: &mut Random, many: u32, waiters: &[u32]) -> Vec<bool> {
         .collect()
 }
 
+/// As often none open as some; then any task that may be interrupted, or none.
+fn handlers(random: &mut Random, tasks: &[Task]) -> (u32, Option<u32>) {
+    if random.percent(50) {
+        return (0, None);
+    }
+    let may = |task: &Task| matches!(task.standing, Standing::Ready | Standing::Suspend);
+    let depth = random.pick(&[1, 1, 2, 8, 14, 15, 15]);
+    let interrupted = members(random, tasks, may).first().copied();
+    (depth, interrupted.filter(|_| random.percent(80)))
+}
+
 /// A sound state with as much of each thing as the setup has.
 pub fn picture(random: &mut Random, setup: &Setup) -> Picture {
     let tasks: Vec<Task> = setup.tasks.iter().map(|_| task(random, setup)).collect();
@@ -181,6 +192,7 @@ pub fn picture(random: &mut Random, setup: &Setup) -> Picture {
     let pool_waiters = waiters(random, &tasks, setup.pools.len(), Object::Pool);
     let messages = mailboxes(random, setup, &mailbox_waiters);
     let pools = setup.pools.iter().zip(&pool_waiters);
+    let (depth, interrupted) = handlers(random, &tasks);
     Picture {
         priorities: setup.priorities,
         semaphores: semaphore_waiters
@@ -196,6 +208,8 @@ pub fn picture(random: &mut Random, setup: &Setup) -> Picture {
             .map(|(many, queue)| blocks(random, *many, queue))
             .collect(),
         clock: clock(random),
+        depth,
+        interrupted,
         mail: mail(random, setup, &messages),
         tasks,
         messages,

@@ -36,6 +36,10 @@ extern "C" {
 
     pub fn okrozumba_tick(words: &mut Words, messages: &Messages) -> Answer;
 
+    pub fn okrozumba_enter(words: &mut Words, messages: &Messages) -> Answer;
+
+    pub fn okrozumba_leave(words: &mut Words, messages: &Messages) -> Answer;
+
     pub fn okrozumba_cell(words: &Words, messages: &Messages, task: i32) -> Cell;
 
     pub fn okrozumba_running(words: &Words, messages: &Messages) -> u32;

@@ -8,7 +8,7 @@ pub const EXT_TSK: i32 = 2;
 pub const TER_TSK: i32 = 3;
 /// Task, priority.
 pub const CHG_PRI: i32 = 4;
-/// Priority, 0 for the running task's.
+/// Priority, 0 for the best that has a ready task.
 pub const ROT_RDQ: i32 = 5;
 /// Task.
 pub const REL_WAI: i32 = 6;

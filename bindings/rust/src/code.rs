@@ -16,6 +16,8 @@ pub const H_SUS: i32 = -4;
 pub const H_POLL: i32 = -5;
 /// The message already lies in a mailbox.
 pub const H_MSG: i32 = -6;
+/// An entry while 15 handlers are open.
+pub const H_NEST: i32 = -7;
 /// The state is damaged.
 pub const H_STATE: i32 = -9;
 /// Block number outside the pool, or free.
@@ -34,7 +36,7 @@ pub const E_DMT: i32 = -2101;
 pub const E_NOSUS: i32 = -2104;
 /// rel_wai on a task not waiting.
 pub const E_NOWAI: i32 = -2110;
-/// Task-only call from a handler; task context while nothing runs.
+/// Task-only call from a handler; task context while nothing runs or a handler is open; handler context or a return while none is.
 pub const E_CTX: i32 = -2629;
 /// Wake-up count already 15; semaphore already 65535.
 pub const E_QOVR: i32 = -2889;

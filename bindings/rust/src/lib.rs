@@ -1,9 +1,9 @@
 //! Okrozumba, a small μITRON kernel that was proved in Rattle, for programs in Rust.
 //!
-//! A kernel is a [`State`]: two arrays that the program owns. [`State::start`] makes a fresh one from a setup, [`State::call`] and
-//! [`State::tick`] carry it from event to event, [`State::cell`] reads what a task was last released from a wait with, [`State::events`] and
-//! [`State::run`] play many events at once. Nothing is kept elsewhere: a clone is a second kernel in the same state. [`playback::play`] gives
-//! the text of a recorded run.
+//! A kernel is a [`State`]: two arrays that the program owns. [`State::start`] makes a fresh one from a setup, [`State::call`],
+//! [`State::tick`], [`State::enter`] and [`State::leave`] carry it from event to event, [`State::cell`] reads what a task was last released
+//! from a wait with, [`State::events`] and [`State::run`] play many events at once. Nothing is kept elsewhere: a clone is a second kernel in
+//! the same state. [`playback::play`] gives the text of a recorded run.
 //!
 //! Every function is defined for every argument and every content of the arrays, and says by its answer what was wrong; so all of them
 //! are safe. That is what the kernel's proofs promise of the functions that this crate wraps (`include/okrozumba.h`).
@@ -27,8 +27,10 @@
 //! assert_eq!(kernel.running(), 1);
 //! let waits = kernel.call(context::TASK, call::WAI_SEM, 1, 0, 0);
 //! assert_eq!((waits.code, waits.running), (code::WAITS, 0));
+//! kernel.enter();
 //! let broken = kernel.call(context::HANDLER, call::REL_WAI, 1, 0, 0);
-//! assert_eq!((broken.code, broken.released), (code::E_OK, 1));
+//! assert_eq!((broken.code, broken.running, broken.released), (code::E_OK, 0, 1));
+//! assert_eq!(kernel.leave().running, 1);
 //! assert_eq!(kernel.cell(1).code, code::E_RLWAI);
 //! ```
 #![no_std]
@@ -40,7 +42,7 @@ pub mod code;
 pub mod playback;
 
 /// Words of a state, without the marks of the messages.
-pub const STATE_WORDS: usize = 1180;
+pub const STATE_WORDS: usize = 1182;
 /// Messages that a state has room for.
 pub const MESSAGES: usize = 256;
 /// Words of an event in [`State::events`]: kind, number, a, b, c.
@@ -54,10 +56,14 @@ pub const FOR_EVER: i32 = -1;
 pub mod context {
     /// The running task calls.
     pub const TASK: i32 = 0;
-    /// An interrupt handler calls.
+    /// An interrupt handler calls; one must be open.
     pub const HANDLER: i32 = 1;
     /// Among many events only: no call, the clock rises by one.
     pub const TICK: i32 = 2;
+    /// Among many events only: no call, a handler is entered.
+    pub const ENTRY: i32 = 3;
+    /// Among many events only: no call, a handler returns.
+    pub const RETURN: i32 = 4;
 }
 
 /// The mode of a wait for a flag: 0 asks for all bits of the pattern; add these up.
@@ -74,7 +80,7 @@ pub mod task_state {
     pub const DORMANT: u32 = 0;
     /// In a ready queue behind the running task.
     pub const READY: u32 = 1;
-    /// The running task.
+    /// The running task; while a handler is open, the one at the outermost entry unless it is suspended.
     pub const RUN: u32 = 2;
     /// Waiting.
     pub const WAIT: u32 = 3;
@@ -94,7 +100,7 @@ pub struct Answer {
     pub w1: u32,
     /// The call's second word.
     pub w2: u32,
-    /// The running task after the event, 0 if none.
+    /// The running task after the event, while a handler is open the one at the outermost entry; 0 if none.
     pub running: u32,
     /// The number of tasks released from a wait.
     pub released: u32,
@@ -224,7 +230,7 @@ impl State {
     }
 
     /// A call from a context ([`context::TASK`] or [`context::HANDLER`]) by its number ([`call`]). Words that the call doesn't take are
-    /// ignored. A negative code says that nothing changed.
+    /// ignored. A negative code says that nothing changed. Tasks call while no handler is open, handlers while one is.
     pub fn call(&mut self, context: i32, number: i32, a: i32, b: i32, c: i32) -> Answer {
         // SAFETY: two arrays of the size that is asked, borrowed apart.
         unsafe {
@@ -246,13 +252,26 @@ impl State {
         unsafe { archive::okrozumba_tick(&mut self.words, &self.messages) }
     }
 
+    /// A handler is entered, up to 15 in each other: while one is open no task is switched, and the running task reported is the one at the
+    /// outermost entry.
+    pub fn enter(&mut self) -> Answer {
+        // SAFETY: as in `call`.
+        unsafe { archive::okrozumba_enter(&mut self.words, &self.messages) }
+    }
+
+    /// A handler returns; behind the outermost the best ready task runs.
+    pub fn leave(&mut self) -> Answer {
+        // SAFETY: as in `call`.
+        unsafe { archive::okrozumba_leave(&mut self.words, &self.messages) }
+    }
+
     /// The answer cell of a task: [`code::H_STATE`] on a damaged state, then [`code::E_NOEXS`] for a bad id, each with word 0.
     pub fn cell(&self, task: i32) -> Cell {
         // SAFETY: as in `call`.
         unsafe { archive::okrozumba_cell(&self.words, &self.messages, task) }
     }
 
-    /// The running task; 0 if there is none, and on a damaged state.
+    /// The running task, while a handler is open the one at the outermost entry; 0 if there is none, and on a damaged state.
     pub fn running(&self) -> u32 {
         // SAFETY: as in `call`.
         unsafe { archive::okrozumba_running(&self.words, &self.messages) }

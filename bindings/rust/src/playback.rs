@@ -4,13 +4,15 @@
 //! ```
 //! use okrozumba::playback::{play, TEXT};
 //!
-//! // One priority; one task, of priority 1 and started; nothing else; then two events, slp_tsk and, from a handler, wup_tsk(1).
-//! let words: [u32; 20] = [1, 1, 1, 1, 0, 0, 0, 0, 0, 2, 0, 9, 0, 0, 0, 1, 11, 1, 0, 0];
+//! // One priority; one task, of priority 1 and started; nothing else; then four events, slp_tsk and a handler: entry, wup_tsk(1), return.
+//! let words: [u32; 30] = [
+//!     1, 1, 1, 1, 0, 0, 0, 0, 0, 4, 0, 9, 0, 0, 0, 3, 0, 0, 0, 0, 1, 11, 1, 0, 0, 4, 0, 0, 0, 0,
+//! ];
 //! let file: Vec<u8> = words.iter().flat_map(|word| word.to_le_bytes()).collect();
 //!
 //! let mut text = [0; TEXT];
 //! let long = play(&file, &mut text).unwrap();
-//! assert_eq!(&text[..long], b"start 1\n1 1 0 0 0 0\n2 0 0 0 1 1\n");
+//! assert_eq!(&text[..long], b"start 1\n1 1 0 0 0 0\n2 0 0 0 0 0\n3 0 0 0 0 1\n4 0 0 0 1 0\n");
 //!
 //! // Bytes that end too early are refused, with the offset of the word that isn't whole.
 //! let long = play(&file[..38], &mut text).unwrap();

@@ -72,7 +72,7 @@ fn id(random: &mut Random, n: u32) -> i32 {
     }
 }
 
-/// Every call is as likely as the other, and the tick too.
+/// Every call is as likely as the other, and the tick too; half of the calls are a handler's.
 fn any(random: &mut Random, s: &Setup) -> Five {
     let number = random.within(1, 33) as i32;
     let (tasks, objects, pools) = (s.tasks.len() as u32, s.mailboxes, s.pools.len() as u32);
@@ -96,38 +96,55 @@ fn any(random: &mut Random, s: &Setup) -> Five {
     }
 }
 
+/// A handler's call is entry, call, return.
+fn whole(event: Five) -> Vec<Five> {
+    match event[0] {
+        1 => vec![[3, 0, 0, 0, 0], event, [4, 0, 0, 0, 0]],
+        _ => vec![event],
+    }
+}
+
+/// Whether all are served and a task runs after them.
+fn suit(mut kernel: Kernel, events: &[Five]) -> bool {
+    let answers: Vec<Answer> = events.iter().map(|event| kernel.event(event)).collect();
+    let served = answers.iter().all(|answer| answer.code >= 0);
+    served && answers.last().is_some_and(|last| last.running != 0)
+}
+
 /// Random events. One that would be refused, or leave no task running, is mostly drawn again.
 fn mixed(s: &Setup, many: usize) -> Vec<i32> {
     let random = &mut Random::new(1);
     let mut kernel = rings(s);
-    let mut events = Vec::with_capacity(5 * many);
-    for _ in 0..many {
-        let mut event = any(random, s);
+    let mut events = Vec::with_capacity(many + 2);
+    while events.len() < many {
+        let mut drawn = whole(any(random, s));
         for _ in 0..random.below(12) {
-            let tried = kernel.clone().event(&event);
-            if tried.code >= 0 && tried.running != 0 {
+            if suit(kernel.clone(), &drawn) {
                 break;
             }
-            event = any(random, s);
+            drawn = whole(any(random, s));
         }
-        kernel.event(&event);
-        events.extend(event);
+        for event in &drawn {
+            kernel.event(event);
+        }
+        events.extend(drawn);
     }
-    events
+    events.truncate(many);
+    events.concat()
 }
 
 fn repeated(cycle: &[Five], many: usize) -> Vec<i32> {
     cycle.iter().cycle().take(many).flatten().copied().collect()
 }
 
-/// Two calls that leave the state as it was, whatever tasks and messages there are: sig_sem and preq_sem from a handler.
+/// Two calls that leave the state as it was, whatever tasks and messages there are: sig_sem and preq_sem.
 fn pair_of_calls() -> Vec<i32> {
-    repeated(&[[1, 13, 1, 0, 0], [1, 15, 1, 0, 0]], MIXED)
+    repeated(&[[0, 13, 1, 0, 0], [0, 15, 1, 0, 0]], MIXED)
 }
 
 /// A message in each of its places.
 fn all_messages_sent() -> Vec<i32> {
-    (1..=256).flat_map(|j| [1, 20, 1 + j % 16, j, 0]).collect()
+    (1..=256).flat_map(|j| [0, 20, 1 + j % 16, j, 0]).collect()
 }
 
 // ---- sides
@@ -183,6 +200,8 @@ impl Side for Calls {
     fn play(&mut self, events: &[i32], to: &mut Answers) {
         to.each(events, |&[kind, number, a, b, c]| match kind {
             2 => self.0.tick(),
+            3 => self.0.enter(),
+            4 => self.0.leave(),
             _ => self.0.call(kind, number, a, b, c),
         });
     }

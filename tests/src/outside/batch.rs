@@ -2,8 +2,9 @@
 use crate::pair::serve;
 use crate::Verdict;
 use okrozumba::{Answer, Refusal, State, Unfit, ANSWER_WORDS, EVENT_WORDS};
+use second::plain::Event;
 use second::random::Random;
-use second::recording::{self, Recording};
+use second::recording::{self, Five, Recording};
 use second::script::SIZES;
 use second::setup;
 
@@ -22,6 +23,21 @@ struct Run {
     fresh: State,
     answers: Vec<Answer>,
     last: State,
+    /// How many events leave a handler open.
+    open: u32,
+}
+
+fn handlers_open(events: &[Five], answers: &[Answer]) -> u32 {
+    let (mut depth, mut open) = (0, 0);
+    for (five, answer) in events.iter().zip(answers) {
+        match recording::event(*five) {
+            Event::Enter if answer.code == 0 => depth += 1,
+            Event::Leave if answer.code == 0 => depth -= 1,
+            _ => {}
+        }
+        open += u32::from(depth > 0);
+    }
+    open
 }
 
 fn record(seed: u64) -> Result<Run, String> {
@@ -31,10 +47,13 @@ fn record(seed: u64) -> Result<Run, String> {
     let fresh = State::start(&bytes).map_err(|bad| format!("{:?}: {bad:?}", drawn.setup))?;
     let mut last = fresh.clone();
     let events = drawn.events.iter();
-    let answers = events.map(|five| serve(&mut last, recording::event(*five)));
+    let answers: Vec<Answer> = events
+        .map(|five| serve(&mut last, recording::event(*five)))
+        .collect();
     Ok(Run {
         bytes,
-        answers: answers.collect(),
+        open: handlers_open(&drawn.events, &answers),
+        answers,
         words: drawn.events.concat(),
         fresh,
         last,
@@ -190,7 +209,7 @@ fn random_cuts(random: &mut Random) -> Vec<usize> {
 }
 
 pub fn check() -> Verdict {
-    let (mut cuts, mut refused) = (0, 0);
+    let (mut cuts, mut refused, mut open) = (0, 0, 0);
     for seed in 0..RUNS {
         let run = record(seed)?;
         run.whole()?;
@@ -202,11 +221,15 @@ pub fn check() -> Verdict {
             run.cut(&random_cuts(random))?;
         }
         cuts += EVENTS as u32 + 1 + CUTS;
+        open += run.open;
         if seed < 4 {
             refused += refusals(&run)?;
         }
     }
+    if open == 0 {
+        return Err("no batch was cut in a handler".to_string());
+    }
     Ok(format!(
-        "{RUNS} runs of {EVENTS} events, cut in {cuts} ways; {refused} batches refused"
+        "{RUNS} runs of {EVENTS} events, cut in {cuts} ways, {open} times in a handler; {refused} batches refused"
     ))
 }

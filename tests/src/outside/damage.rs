@@ -4,7 +4,7 @@ use crate::pair::{serve, Pair};
 use crate::Verdict;
 use okrozumba::{code, Answer, State, MESSAGES, STATE_WORDS};
 use second::layout;
-use second::picture::Picture;
+use second::picture::{Breach, Picture, DEPTH_RULE, INTERRUPTED_RULE};
 use second::plain::{Event, Plain};
 use second::random::Random;
 use second::script::{self, Author, SIZES};
@@ -21,7 +21,13 @@ struct Tally {
     damaged: u64,
     sound: u64,
     events: u64,
+    /// Damaged by a rule on handlers.
+    handlers: [u64; HANDLER_RULES.len()],
+    /// Sound, with a handler open.
+    open: u64,
 }
+
+const HANDLER_RULES: [Breach; 2] = [DEPTH_RULE, INTERRUPTED_RULE];
 
 // ---- what a memory must answer
 
@@ -33,10 +39,13 @@ const REFUSED: Answer = Answer {
     released: 0,
 };
 
-/// A tick, a call, and what is neither.
-const THREE_EVENTS: [i32; 15] = [2, 0, 0, 0, 0, 0, 26, 0, 0, 0, 9, 0, 0, 0, 0];
+/// A tick, a call, an entry, a return, and what is none of these.
+const FIVE_EVENTS: [i32; 25] = [
+    2, 0, 0, 0, 0, 0, 26, 0, 0, 0, 3, 0, 0, 0, 0, 4, 0, 0, 0, 0, 9, 0, 0, 0, 0,
+];
 
-/// The events that memory number `turn` gets: one call and a tick; by turns all calls in both contexts, and calls that don't exist.
+/// The events that memory number `turn` gets: one call, a tick, an entry and a return; by turns all calls in both contexts, and calls that
+/// don't exist.
 fn turn_events(turn: u64) -> Vec<Event> {
     let call = |n: u64| Event::Call {
         context: (n % 3) as i32,
@@ -50,7 +59,8 @@ fn turn_events(turn: u64) -> Vec<Event> {
     } else {
         turn..turn + 1
     };
-    calls.map(call).chain([Event::Tick]).collect()
+    let others = [Event::Tick, Event::Enter, Event::Leave];
+    calls.map(call).chain(others).collect()
 }
 
 fn report(what: &str, rule: &str, got: impl std::fmt::Debug, state: &State) -> String {
@@ -62,7 +72,7 @@ fn report(what: &str, rule: &str, got: impl std::fmt::Debug, state: &State) -> S
 }
 
 /// H_STATE for every event, alone and in a batch, and for every cell; nothing runs; nothing changes.
-fn answers_damage(state: &State, rule: &str, events: &[Event]) -> Result<(), String> {
+pub fn answers_damage(state: &State, rule: &str, events: &[Event]) -> Result<(), String> {
     let mut kernel = state.clone();
     for event in events {
         let got = serve(&mut kernel, *event);
@@ -79,9 +89,9 @@ fn answers_damage(state: &State, rule: &str, events: &[Event]) -> Result<(), Str
     if kernel.running() != 0 {
         return Err(report("running task", rule, kernel.running(), state));
     }
-    let (mut codes, mut answers) = ([7; 3], [7; 12]);
-    let got = kernel.events(&THREE_EVENTS, &mut codes, &mut answers);
-    if got.is_err() || codes != [code::H_STATE; 3] || answers != [0; 12] {
+    let (mut codes, mut answers) = ([7; 5], [7; 20]);
+    let got = kernel.events(&FIVE_EVENTS, &mut codes, &mut answers);
+    if got.is_err() || codes != [code::H_STATE; 5] || answers != [0; 20] {
         return Err(report("a batch", rule, (got, codes, answers), state));
     }
     if kernel != *state {
@@ -91,7 +101,7 @@ fn answers_damage(state: &State, rule: &str, events: &[Event]) -> Result<(), Str
 }
 
 /// A memory that is a sound state after all goes on as the plain kernel does.
-fn answers_sound(state: &State, picture: &Picture, events: &[Event]) -> Result<(), String> {
+pub fn answers_sound(state: &State, picture: &Picture, events: &[Event]) -> Result<(), String> {
     for event in events {
         let mut pair = Pair::of(state.clone(), Plain::standing(picture));
         pair.same_running()?;
@@ -109,10 +119,14 @@ impl Tally {
         match layout::shown(state) {
             Err(rule) => {
                 self.damaged += 1;
+                for (times, named) in self.handlers.iter_mut().zip(HANDLER_RULES) {
+                    *times += u64::from(named == rule);
+                }
                 answers_damage(state, rule, &events)
             }
             Ok(picture) => {
                 self.sound += 1;
+                self.open += u64::from(picture.depth > 0);
                 answers_sound(state, &picture, &events)
             }
         }
@@ -166,7 +180,7 @@ fn word_at(state: &State, at: usize) -> u32 {
 }
 
 /// Near the old word, at the edges of what words mean, and far away.
-fn other_words(random: &mut Random, old: u32) -> [u32; 14] {
+fn other_words(random: &mut Random, old: u32) -> [u32; 16] {
     [
         old.wrapping_add(1),
         old.wrapping_sub(1),
@@ -176,8 +190,10 @@ fn other_words(random: &mut Random, old: u32) -> [u32; 14] {
         1,
         3,
         5,
+        15,
         16,
         32,
+        33,
         u32::MAX,
         random.below(34),
         random.below(274),
@@ -290,13 +306,24 @@ fn lay_beside_waiter(p: &mut Picture) {
     }
 }
 
+/// Any task interrupted, also one that there isn't, at a depth that may be too great, with everything else as it should be.
+fn interrupt_any(random: &mut Random, p: &mut Picture) {
+    p.depth = random.pick(&[1, 1, 1, 2, 14, 15, 15, 16, 17, 1 << 31, u32::MAX]);
+    let ids = [0, 1, p.tasks.len() as u32, p.tasks.len() as u32 + 1, 33];
+    p.interrupted = Some(match random.below(4) {
+        0 => random.pick(&ids),
+        1 => random.word(),
+        _ => random.within(1, p.tasks.len() as u32),
+    });
+}
+
 fn misplaced(tally: &mut Tally, seed: u64) -> Result<(), String> {
     let random = &mut Random::new(seed);
     let mut picture = sketched(random, seed);
-    if random.percent(10) {
-        lay_beside_waiter(&mut picture);
-    } else {
-        misplace(random, &mut picture);
+    match random.below(10) {
+        0 => lay_beside_waiter(&mut picture),
+        1 | 2 => interrupt_any(random, &mut picture),
+        _ => misplace(random, &mut picture),
     }
     tally.judge(&layout::drawn(&picture, || random.word()))
 }
@@ -316,8 +343,12 @@ pub fn check() -> Verdict {
     for seed in 0..MISPLACED {
         misplaced(&mut tally, seed).map_err(|d| format!("misplaced {seed}: {d}"))?;
     }
+    let [depth, interrupted] = tally.handlers;
+    if [depth, interrupted, tally.open].contains(&0) {
+        return Err("too little tested of handlers".to_string());
+    }
     Ok(format!(
-        "{} damaged memories refused, {} still sound accepted, {} events",
-        tally.damaged, tally.sound, tally.events
+        "{} damaged memories refused, {depth} of them for the depth of handlers, {interrupted} for the interrupted task; {} still sound accepted, {} of them with a handler open; {} events",
+        tally.damaged, tally.sound, tally.open, tally.events
     ))
 }

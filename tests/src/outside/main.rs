@@ -3,6 +3,7 @@
 mod batch;
 mod damage;
 mod drawn;
+mod handlers;
 mod pair;
 mod playback;
 mod program;
@@ -20,9 +21,10 @@ pub type Verdict = Result<String, String>;
 
 type Part = (&'static str, fn() -> Verdict);
 
-const PARTS: [Part; 7] = [
+const PARTS: [Part; 8] = [
     ("bench sheet", sheet::check),
     ("random runs", runs::check),
+    ("handlers", handlers::check),
     ("drawn states", drawn::check),
     ("damaged states", damage::check),
     ("refused setups", refused::check),

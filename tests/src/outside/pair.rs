@@ -15,6 +15,8 @@ pub struct Pair {
 pub fn serve(kernel: &mut State, event: Event) -> Answer {
     match event {
         Event::Tick => kernel.tick(),
+        Event::Enter => kernel.enter(),
+        Event::Leave => kernel.leave(),
         Event::Call {
             context,
             number,

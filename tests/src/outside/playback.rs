@@ -2,6 +2,7 @@
 use crate::program;
 use crate::Verdict;
 use okrozumba::playback::{play, Short};
+use second::cases;
 use second::random::Random;
 use second::recording::{self, Recording};
 use second::script::{Size, SIZES};
@@ -23,6 +24,20 @@ const SHEET: [u32; 27] = [
     4, 3, 2, 1, 2, 1, 1, 0, 1, 0, 1, 0, 1, 2, 1, 2, 2, 0, 1, 3, 0, 0, 0, 9, 0, 0, 0,
 ];
 const SHEET_TEXT: &str = "start 1\n1 0 0 0 3 0\n2 1 0 0 1 0\n";
+
+/// The same setup; then return, entry, sta_tsk(3) from the handler, task context, another kind, a second entry, two returns. Words that
+/// don't count are -1.
+const HANDLERS: [[i32; 5]; 8] = [
+    [4, -1, -1, -1, -1],
+    [3, -1, -1, -1, -1],
+    [1, 1, 3, -1, -1],
+    [0, 26, -1, -1, -1],
+    [5, 26, -1, -1, -1],
+    [3, -1, -1, -1, -1],
+    [4, -1, -1, -1, -1],
+    [4, -1, -1, -1, -1],
+];
+const HANDLERS_TEXT: &str = "start 1\n1 -2629 0 0 1 0\n2 0 0 0 1 0\n3 0 0 0 1 0\n4 -2629 0 0 1 0\n5 -1 0 0 1 0\n6 0 0 0 1 0\n7 0 0 0 1 0\n8 0 0 0 3 0\n";
 
 #[derive(Default)]
 struct Tally {
@@ -164,10 +179,23 @@ fn edges(tally: &mut Tally) -> Result<(), String> {
     let mut run = Recording::drawn(&mut Random::new(10), Size::Small, EVENTS_MOST);
     run.events.push([0; 5]);
     tally.judge(&run.bytes())?;
-    let words = [i32::MIN, -1, 0, 1, 2, 3, 4, i32::MAX];
-    run.events = words.map(|word| [word, 26, word, word, word]).to_vec();
-    tally.judge(&run.bytes())?;
-    run.events = words.map(|word| [1, word, word, 1, 1]).to_vec();
+    let words = [i32::MIN, -1, 0, 1, 2, 3, 4, 5, i32::MAX];
+    for kinds in [0, 1, 2, 3, 4] {
+        run.events = words.map(|word| [word, 26, word, word, word]).to_vec();
+        run.events
+            .extend(words.map(|word| [kinds, word, word, 1, 1]));
+        // with no handler open at first, and with one
+        tally.judge(&run.bytes())?;
+        run.events.insert(0, [3, 0, 0, 0, 0]);
+        tally.judge(&run.bytes())?;
+    }
+    Ok(())
+}
+
+/// One entry more than there can be, then one return more.
+fn nested(tally: &mut Tally) -> Result<(), String> {
+    let mut run = Recording::drawn(&mut Random::new(10), Size::Small, 0);
+    run.events = [[3; 5]; 16].into_iter().chain([[4; 5]; 16]).collect();
     tally.judge(&run.bytes())
 }
 
@@ -195,13 +223,20 @@ fn shipped(tally: &mut Tally) -> Result<(), String> {
     Ok(())
 }
 
-fn sheet(tally: &mut Tally) -> Result<(), String> {
-    let file = setup::bytes_of(SHEET);
-    if recording::text(&file) != SHEET_TEXT {
+/// A file with its text: all of it, and cut off anywhere.
+fn known(tally: &mut Tally, file: &[u8], text: &str) -> Result<(), String> {
+    if recording::text(file) != text {
         return Err("the second player has another text than the request".to_string());
     }
-    tally.truncations(&file)?;
+    tally.truncations(file)?;
     (0..=file.len()).try_for_each(|end| tally.run_program(&file[..end], 7))
+}
+
+fn sheet(tally: &mut Tally) -> Result<(), String> {
+    known(tally, &setup::bytes_of(SHEET), SHEET_TEXT)?;
+    let setup = cases::setup()?;
+    let events = HANDLERS.to_vec();
+    known(tally, &Recording { setup, events }.bytes(), HANDLERS_TEXT)
 }
 
 pub fn check() -> Verdict {
@@ -211,6 +246,7 @@ pub fn check() -> Verdict {
     random_files(&mut tally)?;
     longest(&mut tally)?;
     edges(&mut tally)?;
+    nested(&mut tally)?;
     if tally.faults.contains(&0) || tally.shipped == 0 {
         let counts = (tally.faults, tally.shipped);
         return Err(format!("too little tested: {counts:?}"));

@@ -1,9 +1,34 @@
-//! What a run can reach, by the paper: which code each call can give, and what a cell can hold. A run that misses one tested too little.
+//! What a run can reach, by the papers: which code each call can give in which context, with a handler open and with none, and what a cell
+//! can hold. A run that misses one tested too little.
+use second::plain::Event;
 use std::collections::BTreeMap;
 
-/// The call's number, 0 for a tick; its codes but for those that all calls share.
-const OWN_CODES: [(i32, &[i32]); 33] = [
-    (0, &[0]),
+/// An event's kind; of a call also whether a handler is open.
+#[derive(Clone, Copy, PartialEq, Eq, PartialOrd, Ord, Debug)]
+pub enum Kind {
+    Tick,
+    Enter,
+    Leave,
+    Task { open: bool },
+    Handler { open: bool },
+    NoContext,
+}
+
+impl Kind {
+    pub fn of(event: Event, open: bool) -> Kind {
+        match event {
+            Event::Tick => Kind::Tick,
+            Event::Enter => Kind::Enter,
+            Event::Leave => Kind::Leave,
+            Event::Call { context: 0, .. } => Kind::Task { open },
+            Event::Call { context: 1, .. } => Kind::Handler { open },
+            Event::Call { .. } => Kind::NoContext,
+        }
+    }
+}
+
+/// The call's number and its codes but for H_CALL and E_CTX.
+const OWN_CODES: [(i32, &[i32]); 32] = [
     (1, &[0, -2100, -3]),
     (2, &[0]),
     (3, &[0, -2100, -2097, -2101]),
@@ -38,38 +63,73 @@ const OWN_CODES: [(i32, &[i32]); 33] = [
     (32, &[0]),
 ];
 
-/// A bad context, and the task context while nothing runs.
-const SHARED_CODES: [i32; 2] = [-1, -2629];
+const TASK_ONLY: [i32; 8] = [2, 3, 9, 10, 14, 18, 21, 23];
+/// Of the words, which are judged before the context.
+const WORD_CODES: [i32; 4] = [-2100, -1830, -1831, -2];
+const E_SELF: i32 = -2097;
+const E_CTX: i32 = -2629;
+const H_NEST: i32 = -7;
+const H_CALL: i32 = -1;
 const CELL_CODES: [i32; 3] = [0, -3413, -3414];
-/// A bad call number is counted here.
-const NO_CALL: i32 = 33;
+/// A call number that doesn't exist is counted here; so is an event that isn't a call.
+const NO_CALL: i32 = 0;
 
-fn reachable() -> Vec<(i32, i32)> {
-    let mut pairs = vec![(NO_CALL, -1)];
-    for (call, codes) in OWN_CODES {
-        pairs.extend(codes.iter().map(|code| (call, *code)));
-        if call != 0 {
-            pairs.extend(SHARED_CODES.iter().map(|code| (call, *code)));
+/// What a call can answer but for H_CALL.
+fn codes(kind: Kind, call: i32, own: &[i32]) -> Vec<i32> {
+    let of_words = |code: &i32| WORD_CODES.contains(code);
+    let not_self = |code: &i32| *code != E_SELF;
+    let refused = || own.iter().copied().filter(of_words).chain([E_CTX]);
+    match kind {
+        // E_CTX while nothing runs
+        Kind::Task { open: false } => own.iter().copied().chain([E_CTX]).collect(),
+        Kind::Handler { open: true } if !TASK_ONLY.contains(&call) => {
+            own.iter().copied().filter(not_self).collect()
+        }
+        _ => refused().collect(),
+    }
+}
+
+fn reachable() -> Vec<(Kind, i32, i32)> {
+    let mut all = vec![
+        (Kind::Tick, NO_CALL, 0),
+        (Kind::Enter, NO_CALL, 0),
+        (Kind::Enter, NO_CALL, H_NEST),
+        (Kind::Leave, NO_CALL, 0),
+        (Kind::Leave, NO_CALL, E_CTX),
+        (Kind::NoContext, NO_CALL, H_CALL),
+    ];
+    all.extend(OWN_CODES.map(|(call, _)| (Kind::NoContext, call, H_CALL)));
+    for open in [false, true] {
+        for kind in [Kind::Task { open }, Kind::Handler { open }] {
+            all.push((kind, NO_CALL, H_CALL));
+            for (call, own) in OWN_CODES {
+                all.extend(
+                    codes(kind, call, own)
+                        .iter()
+                        .map(|code| (kind, call, *code)),
+                );
+            }
         }
     }
-    pairs
+    all
 }
 
 /// How often each was reached.
 #[derive(Default)]
 pub struct Reached {
-    pairs: BTreeMap<(i32, i32), u64>,
+    answers: BTreeMap<(Kind, i32, i32), u64>,
     cells: BTreeMap<i32, u64>,
 }
 
 impl Reached {
-    pub fn answer(&mut self, call: i32, code: i32) {
-        let call = if (0..NO_CALL).contains(&call) {
-            call
-        } else {
-            NO_CALL
+    /// `open`: whether a handler was before the event.
+    pub fn answer(&mut self, event: Event, open: bool, code: i32) {
+        let call = match event {
+            Event::Call { number, .. } if (1..=32).contains(&number) => number,
+            _ => NO_CALL,
         };
-        *self.pairs.entry((call, code)).or_default() += 1;
+        let reached = (Kind::of(event, open), call, code);
+        *self.answers.entry(reached).or_default() += 1;
     }
 
     pub fn cell(&mut self, code: i32) {
@@ -78,7 +138,7 @@ impl Reached {
 
     fn codes(&self) -> BTreeMap<i32, u64> {
         let mut codes = BTreeMap::new();
-        for ((_, code), times) in &self.pairs {
+        for ((_, _, code), times) in &self.answers {
             *codes.entry(*code).or_default() += times;
         }
         codes
@@ -89,23 +149,23 @@ impl Reached {
         let expected = reachable();
         let missing: Vec<_> = expected
             .iter()
-            .filter(|p| !self.pairs.contains_key(p))
+            .filter(|p| !self.answers.contains_key(p))
             .collect();
         let strange: Vec<_> = self
-            .pairs
+            .answers
             .keys()
             .filter(|p| !expected.contains(p))
             .collect();
         if !missing.is_empty() || !strange.is_empty() {
             return Err(format!(
-                "(call, code) not reached: {missing:?}; not in the paper: {strange:?}"
+                "(kind, call, code) not reached: {missing:?}; not in the paper: {strange:?}"
             ));
         }
         if CELL_CODES.iter().any(|code| !self.cells.contains_key(code)) {
             return Err(format!("cells only had {:?}", self.cells.keys()));
         }
         let mut lines = format!(
-            "all {} pairs of call and code were reached\n",
+            "all {} kinds of call and code were reached\n",
             expected.len()
         );
         for (code, times) in self.codes() {

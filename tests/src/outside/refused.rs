@@ -33,20 +33,21 @@ fn told(bad: BadSetup) -> setup::Fault {
 /// Memory and places for answers that hold something else than a state.
 struct Lent {
     state: State,
-    codes: [i32; 2],
-    answers: [u32; 8],
+    codes: [i32; 4],
+    answers: [u32; 16],
 }
 
 const SENTINEL: u32 = 0xabad_cafe;
-const GET_TIM: [i32; 5] = [1, 32, 0, 0, 0];
+/// Entry, get_tim, return.
+const GET_TIM: [i32; 15] = [3, 0, 0, 0, 0, 1, 32, 0, 0, 0, 4, 0, 0, 0, 0];
 
 impl Lent {
     fn new() -> Lent {
         let state = State::of([SENTINEL; STATE_WORDS], [SENTINEL; MESSAGES]);
         Lent {
             state,
-            codes: [7; 2],
-            answers: [SENTINEL; 8],
+            codes: [7; 4],
+            answers: [SENTINEL; 16],
         }
     }
 
@@ -65,15 +66,17 @@ impl Lent {
             .run(bytes, &GET_TIM, &mut self.codes, &mut self.answers);
         ran.map_err(|refusal| match refusal {
             Refusal::Setup(bad) => told(bad),
-            Refusal::Events(unfit) => panic!("one event and room for two: {unfit:?}"),
+            Refusal::Events(unfit) => panic!("three events and room for four: {unfit:?}"),
         })
     }
 }
 
-/// The event of `run` was get_tim from a handler: the clock is 0.
+/// The events of `run` were get_tim from a handler: the clock is 0.
 fn ran_once(lent: &Lent, running: u32) -> bool {
-    lent.codes == [0, 7]
-        && lent.answers == [0, 0, running, 0, SENTINEL, SENTINEL, SENTINEL, SENTINEL]
+    let (ran, rest) = lent.answers.split_at(12);
+    lent.codes == [0, 0, 0, 7]
+        && ran == [0, 0, running, 0].repeat(3)
+        && rest.iter().all(|word| *word == SENTINEL)
 }
 
 impl Tally {

@@ -2,8 +2,8 @@
 use crate::pair::Pair;
 use crate::reach::Reached;
 use crate::Verdict;
-use second::picture::{Picture, Queues};
-use second::plain::Event;
+use second::picture::{Picture, Queues, Standing};
+use second::plain::{Event, Plain, DEPTH_MOST};
 use second::random::Random;
 use second::script::{self, Author, Size, SIZES};
 
@@ -20,6 +20,32 @@ struct Tally {
     longest_ready: usize,
     longest_wait: usize,
     longest_mail: usize,
+    deepest: u32,
+    corners: [u64; CORNERS.len()],
+}
+
+/// What an open handler can meet.
+const CORNERS: [&str; 5] = [
+    "the interrupted task suspended",
+    "the interrupted task behind another",
+    "nothing interrupted, but somebody ready",
+    "a return to another task",
+    "a tick at the greatest depth",
+];
+
+/// Which of them an event met, by the states before and after it.
+fn corners(before: &Plain, event: Event, after: &Plain) -> [bool; CORNERS.len()] {
+    let open = after.depth() > 0;
+    let (running, best) = (after.running(), after.best());
+    let stands = |standing| running.is_some_and(|id| after.task(id).standing == standing);
+    let back = before.depth() == 1 && event == Event::Leave;
+    [
+        open && stands(Standing::Suspend),
+        open && stands(Standing::Ready) && running != best,
+        open && running.is_none() && best.is_some(),
+        back && running != before.running(),
+        before.depth() == DEPTH_MOST && event == Event::Tick,
+    ]
 }
 
 fn longest(queues: &Queues) -> usize {
@@ -51,15 +77,11 @@ impl Tally {
     }
 
     fn event(&mut self, pair: &mut Pair, event: Event) -> Result<(), String> {
+        let before = pair.plain.clone();
         let answer = pair.event(event)?;
-        let call = match event {
-            Event::Tick => 0,
-            // the tick has 0
-            Event::Call { number: 0, .. } => -1,
-            Event::Call { number, .. } => number,
-        };
         self.events += 1;
-        self.reached.answer(call, answer.code);
+        self.reached.answer(event, before.depth() > 0, answer.code);
+        self.handlers(&before, event, &pair.plain);
         self.released_most = self.released_most.max(answer.released);
         pair.same_running()?;
         self.cells(pair)?;
@@ -68,16 +90,35 @@ impl Tally {
         Ok(())
     }
 
-    /// Queues that no run made long would have been tested too little.
+    fn handlers(&mut self, before: &Plain, event: Event, after: &Plain) {
+        self.deepest = self.deepest.max(after.depth());
+        for (times, met) in self.corners.iter_mut().zip(corners(before, event, after)) {
+            *times += u64::from(met);
+        }
+    }
+
+    /// Queues that no run made long, and corners that no handler met, would have been tested too little.
     fn deep_enough(&self) -> Result<(), String> {
         let longest = (self.longest_ready, self.longest_wait, self.longest_mail);
-        if longest == (32, 32, 256) {
-            Ok(())
-        } else {
-            Err(format!(
-                "longest ready queue, wait queue and mailbox: {longest:?}"
-            ))
+        if longest != (32, 32, 256) || self.deepest != DEPTH_MOST {
+            return Err(format!(
+                "longest ready queue, wait queue and mailbox: {longest:?}; deepest handler {}",
+                self.deepest
+            ));
         }
+        let mut corners = CORNERS.iter().zip(self.corners);
+        match corners.find(|(_, times)| *times == 0) {
+            None => Ok(()),
+            Some((missed, _)) => Err(format!("no handler met {missed}")),
+        }
+    }
+
+    /// How often each corner was met.
+    fn corner_lines(&self) -> String {
+        let lines = CORNERS.iter().zip(self.corners);
+        lines
+            .map(|(corner, times)| format!("  {times:8} times {corner}\n"))
+            .collect()
     }
 
     fn run(&mut self, random: &mut Random, size: Size) -> Result<(), String> {
@@ -102,13 +143,15 @@ pub fn check() -> Verdict {
     let table = tally.reached.table()?;
     tally.deep_enough()?;
     Ok(format!(
-        "{RUNS} runs, {} events, {} cells, {} states\n  longest queues: ready {}, waiters {}, messages {}; most released at once {}\n{table}",
+        "{RUNS} runs, {} events, {} cells, {} states\n  longest queues: ready {}, waiters {}, messages {}; most released at once {}; handlers {} deep\n{}{table}",
         tally.events,
         tally.cells,
         tally.pictures,
         tally.longest_ready,
         tally.longest_wait,
         tally.longest_mail,
-        tally.released_most
+        tally.released_most,
+        tally.deepest,
+        tally.corner_lines()
     ))
 }

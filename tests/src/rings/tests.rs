@@ -1,0 +1,420 @@
+//! The rings beside the proved kernel, and beside the plain one, which no archive is needed for.
+use super::*;
+use crate::cases::{self, Bench, CASES};
+use crate::layout;
+use crate::picture::{self, Object, Picture, Queues, Standing, Wait};
+use crate::plain::{Event, Plain};
+use crate::random::Random;
+use crate::recording;
+use crate::script::{self, Author, SIZES};
+use crate::setup::Setup;
+use crate::sketch;
+use okrozumba::State;
+
+const RUNS: u64 = 400;
+const EVENTS: u32 = 500;
+const STATES: u64 = 4000;
+const EVENTS_ON: u32 = 20;
+
+fn drawn(seed: u64) -> (Random, Setup) {
+    let mut random = Random::new(seed);
+    let setup = script::setup(&mut random, SIZES[seed as usize % SIZES.len()]);
+    (random, setup)
+}
+
+fn same_cells(rings: &Kernel, proved: &State) {
+    for id in -1..=33 {
+        let cell = proved.cell(id);
+        assert_eq!(rings.cell(id), (cell.code, cell.word), "cell of {id}");
+    }
+}
+
+/// The same answers and cells as the proved kernel, and never a state that the check finds damaged.
+#[test]
+fn answers_are_the_proved_kernels() {
+    for seed in 0..RUNS {
+        let (mut random, setup) = drawn(seed);
+        let bytes = setup::bytes(&setup);
+        let mut author = Author::default();
+        let mut plain = Plain::fresh(&setup);
+        let mut proved = State::start(&bytes).unwrap();
+        let mut rings = Kernel::start(&bytes).unwrap();
+        for _ in 0..EVENTS {
+            let e = recording::words(author.event(&mut random, &plain));
+            plain.event(recording::event(e));
+            let mut answer = [0; 4];
+            let mut code = [0];
+            proved.events(&e, &mut code, &mut answer).unwrap();
+            let r = rings.checked_event(&e);
+            assert_eq!(
+                (r.code, [r.w1, r.w2, r.running, r.released]),
+                (code[0], answer),
+                "seed {seed}, {e:?}"
+            );
+            same_cells(&rings, &proved);
+        }
+    }
+}
+
+/// Both unproved kernels, which must agree.
+struct Both {
+    plain: Plain,
+    rings: Kernel,
+}
+
+impl Both {
+    fn fresh(setup: &Setup) -> Both {
+        Both {
+            plain: Plain::fresh(setup),
+            rings: Kernel::start(&setup::bytes(setup)).unwrap(),
+        }
+    }
+
+    /// Both kernels that stand as the picture does.
+    fn standing(p: &Picture) -> Both {
+        Both {
+            plain: Plain::standing(p),
+            rings: standing(p),
+        }
+    }
+
+    fn same_state(&self) -> Result<(), String> {
+        let p = self.plain.picture();
+        p.sound()
+            .map_err(|rule| format!("the plain kernel's {rule}: {p:?}"))?;
+        let shown = shown(&self.rings);
+        if shown != p {
+            return Err(format!("{p:?}, the rings {shown:?}"));
+        }
+        let running = (self.plain.running().unwrap_or(0), self.rings.running);
+        if running.0 != running.1 || (-1..=33).any(|id| self.rings.cell(id) != self.plain.cell(id))
+        {
+            return Err(format!("running tasks {running:?}, or a cell, of {p:?}"));
+        }
+        Ok(())
+    }
+}
+
+// ---- pictures of rings
+
+fn listed<const N: usize>(rings: &Rings<N>, anchor: u32, many: u32) -> Queues {
+    let queue = |anchor| {
+        let all = std::iter::successors(Some(rings.next(anchor)), |id| Some(rings.next(*id)));
+        all.take_while(|id| *id != anchor).collect()
+    };
+    (anchor..anchor + many).map(queue).collect()
+}
+
+fn wait_of(task: &Task) -> Wait {
+    match task.kind {
+        SLEEP => Wait::Asleep,
+        TIMED => Wait::Timed(task.ticks),
+        SEMAPHORE => Wait::On(Object::Semaphore(task.object), 0, 0),
+        FLAG => Wait::On(Object::Flag(task.object), task.wish, task.mode),
+        MAILBOX => Wait::On(Object::Mailbox(task.object), 0, 0),
+        _ => Wait::On(Object::Pool(task.object), 0, 0),
+    }
+}
+
+fn task_of(task: &Task) -> picture::Task {
+    picture::Task {
+        start: task.start,
+        priority: task.priority,
+        standing: match task.status {
+            DORMANT => Standing::Dormant,
+            READY => Standing::Ready,
+            SUSPEND => Standing::Suspend,
+            WAIT => Standing::Wait(wait_of(task)),
+            _ => Standing::WaitSuspend(wait_of(task)),
+        },
+        wakeups: task.wakeups,
+        cell: (task.code, task.word),
+    }
+}
+
+fn shown(k: &Kernel) -> Picture {
+    let of_tasks = |anchor, many| listed(&k.queue, anchor, many);
+    let free = |p: usize| {
+        (0..k.size[p])
+            .map(|block| k.free[p] >> block & 1 == 1)
+            .collect()
+    };
+    Picture {
+        priorities: k.priorities,
+        tasks: (1..=k.tasks).map(|t| task_of(k.at(t))).collect(),
+        semaphores: k.count[1..=k.semaphores as usize].to_vec(),
+        flags: k.pattern[1..=k.flags as usize].to_vec(),
+        mailboxes: k.mailboxes,
+        messages: k.mailbox[1..=k.messages as usize].to_vec(),
+        pools: (1..=k.pools as usize).map(free).collect(),
+        clock: k.clock,
+        depth: k.depth,
+        interrupted: (k.depth > 0 && k.running > 0).then_some(k.running),
+        ready: of_tasks(ready_anchor(1), k.priorities),
+        semaphore_waiters: of_tasks(wait_anchor(SEMAPHORE, 1), k.semaphores),
+        flag_waiters: of_tasks(wait_anchor(FLAG, 1), k.flags),
+        mailbox_waiters: of_tasks(wait_anchor(MAILBOX, 1), k.mailboxes),
+        pool_waiters: of_tasks(wait_anchor(POOL, 1), k.pools),
+        mail: listed(&k.mail, mail_anchor(1), k.mailboxes),
+    }
+}
+
+fn put_wait(k: &mut Kernel, t: u32, wait: Wait) {
+    let (kind, object, wish, mode, ticks) = match wait {
+        Wait::Asleep => (SLEEP, 0, 0, 0, 0),
+        Wait::Timed(left) => (TIMED, 0, 0, 0, left),
+        Wait::On(Object::Semaphore(on), wish, mode) => (SEMAPHORE, on, wish, mode, 0),
+        Wait::On(Object::Flag(on), wish, mode) => (FLAG, on, wish, mode, 0),
+        Wait::On(Object::Mailbox(on), wish, mode) => (MAILBOX, on, wish, mode, 0),
+        Wait::On(Object::Pool(on), wish, mode) => (POOL, on, wish, mode, 0),
+    };
+    if kind == TIMED {
+        k.timed |= 1 << (t - 1);
+    }
+    let task = k.at_mut(t);
+    task.kind = kind;
+    task.object = object;
+    task.wish = wish;
+    task.mode = mode;
+    task.ticks = ticks;
+}
+
+fn put_task(k: &mut Kernel, t: u32, from: &picture::Task) {
+    let task = k.at_mut(t);
+    task.status = match from.standing {
+        Standing::Dormant => DORMANT,
+        Standing::Ready => READY,
+        Standing::Suspend => SUSPEND,
+        Standing::Wait(_) => WAIT,
+        Standing::WaitSuspend(_) => WAIT_SUSPEND,
+    };
+    task.priority = from.priority;
+    task.wakeups = from.wakeups;
+    (task.code, task.word) = from.cell;
+    if let Some(wait) = from.standing.wait() {
+        put_wait(k, t, wait);
+    }
+}
+
+/// Rings that stand as the picture does.
+fn standing(p: &Picture) -> Kernel {
+    let setup = Setup {
+        priorities: p.priorities,
+        tasks: p.tasks.iter().map(|task| (task.start, false)).collect(),
+        semaphores: p.semaphores.clone(),
+        flags: p.flags.clone(),
+        mailboxes: p.mailboxes,
+        messages: p.messages.len() as u32,
+        pools: p.pools.iter().map(|free| free.len() as u32).collect(),
+    };
+    let mut k = Kernel::start(&setup::bytes(&setup)).unwrap();
+    for (t, task) in (1..).zip(&p.tasks) {
+        put_task(&mut k, t, task);
+    }
+    let [ready, waiters @ ..] = p.task_queues();
+    for t in ready.iter().flatten() {
+        k.enter_ready(*t);
+    }
+    for t in waiters.into_iter().flatten().flatten() {
+        let anchor = k.home(*t);
+        k.queue.push(anchor, *t);
+    }
+    for (m, mail) in (1..).zip(&p.mail) {
+        for j in mail {
+            k.mail.push(mail_anchor(m), *j);
+            k.mailbox[*j as usize] = m;
+        }
+    }
+    for (p, free) in (1..).zip(&p.pools) {
+        let marks = free.iter().rev();
+        k.free[p] = marks.fold(0, |marks, free| marks << 1 | u32::from(*free));
+    }
+    k.clock = p.clock;
+    k.depth = p.depth;
+    k.running = if p.depth == 0 {
+        k.best()
+    } else {
+        p.interrupted.unwrap_or(0)
+    };
+    k
+}
+
+impl Bench for Both {
+    fn event(&mut self, event: Event) -> Result<Answer, String> {
+        let five = recording::words(event);
+        let before = self.rings.clone();
+        let (plain, rings) = (
+            self.plain.event(recording::event(five)),
+            self.rings.checked_event(&five),
+        );
+        if plain != rings {
+            return Err(format!("{event:?}: {plain:?}, the rings {rings:?}"));
+        }
+        if plain.code < 0 && before != self.rings {
+            return Err(format!("{event:?} was refused and changed the rings"));
+        }
+        self.same_state()?;
+        Ok(plain)
+    }
+
+    fn running(&self) -> Result<u32, String> {
+        self.same_state()?;
+        Ok(self.rings.running)
+    }
+
+    fn cell(&self, task: i32) -> Result<(i32, u32), String> {
+        self.same_state()?;
+        Ok(self.rings.cell(task))
+    }
+}
+
+/// What the papers say of single events.
+#[test]
+fn cases_hold() {
+    for (name, steps) in CASES {
+        let mut both = Both::fresh(&cases::setup().unwrap());
+        cases::play(&mut both, steps).unwrap_or_else(|d| panic!("{name}: {d}"));
+    }
+}
+
+/// Random runs in which handlers are nested: the same answers, and after each event the same state.
+#[test]
+fn answers_are_the_plain_kernels() {
+    let mut deepest = 0;
+    for seed in 0..RUNS {
+        let (mut random, setup) = drawn(40_000 + seed);
+        let mut both = Both::fresh(&setup);
+        let mut author = Author::default();
+        for _ in 0..EVENTS {
+            let event = author.event(&mut random, &both.plain);
+            both.event(event)
+                .unwrap_or_else(|d| panic!("seed {seed}: {d}"));
+            deepest = deepest.max(both.plain.depth());
+        }
+    }
+    assert_eq!(deepest, 15);
+}
+
+/// From sound states that no short run reaches, too; and each has a memory that shows it.
+#[test]
+fn sound_states_go_on_alike() {
+    let mut open = 0;
+    for seed in 0..STATES {
+        let (mut random, setup) = drawn(seed);
+        let mut both = Both::standing(&sketch::picture(&mut random, &setup));
+        both.same_state()
+            .unwrap_or_else(|d| panic!("seed {seed}: {d}"));
+        let mut author = Author::default();
+        for _ in 0..EVENTS_ON {
+            let event = author.event(&mut random, &both.plain);
+            both.event(event)
+                .unwrap_or_else(|d| panic!("seed {seed}: {d}"));
+        }
+        let last = both.plain.picture();
+        let memory = layout::drawn(&last, || random.word());
+        assert_eq!(layout::shown(&memory), Ok(last), "seed {seed}");
+        open += u32::from(both.plain.depth() > 0);
+    }
+    assert!(open > 0);
+}
+
+/// Any other kind than 0 to 4 is H_CALL, whatever its words say and whether or not a handler is open; kinds 2, 3 and 4 ignore the words.
+#[test]
+fn kinds_are_judged_first() {
+    let mut both = Both::fresh(&cases::setup().unwrap());
+    for open in [0, 1] {
+        assert_eq!(both.plain.depth(), open);
+        for kind in [-1, 5, 6, i32::MIN, i32::MAX] {
+            for number in [0, 1, 14, 26, 33] {
+                let e = [kind, number, 99, 99, 99];
+                let told = (
+                    both.plain.event(recording::event(e)).code,
+                    both.rings.event(&e).code,
+                );
+                assert_eq!(told, (H_CALL, H_CALL), "{e:?}");
+            }
+        }
+        both.event(Event::Enter).unwrap();
+    }
+    for kind in [2, 3, 4] {
+        let told = [0, 1, -1, i32::MIN, 77].map(|word| {
+            let e = [kind, word, word, word, word];
+            let (mut plain, mut rings) = (both.plain.clone(), both.rings.clone());
+            (plain.event(recording::event(e)), rings.event(&e))
+        });
+        assert!(told
+            .iter()
+            .all(|each| each.0 == told[0].0 && each.1 == each.0));
+        assert_eq!(told[0].0.code, 0);
+    }
+}
+
+/// The check sees damage of each kind.
+#[test]
+fn damage_is_found() {
+    let setup = script::setup(&mut Random::new(2), SIZES[2]);
+    let mut sound = Kernel::start(&setup::bytes(&setup)).unwrap();
+    assert!(sound.event(&[0, 18, 1, 1 << 31, 0]).code >= 0);
+    assert!(sound.event(&[0, 20, 1, 1, 0]).code >= 0);
+    assert!(sound.event(&[0, 10, 9, 0, 0]).code >= 0);
+    assert!(sound.is_sound());
+    let t = sound.running;
+    let damages: [fn(&mut Kernel, u32); 14] = [
+        |k, _| k.priorities = 17,
+        |k, _| k.ready ^= 1 << 3,
+        |k, _| k.timed ^= 1,
+        |k, _| k.count[1] = 65536,
+        |k, _| k.size[1] = 33,
+        |k, _| k.mailbox[1] ^= 1,
+        |k, _| k.mailbox[200] = 1,
+        |k, _| k.mail.link[1].prev = 2,
+        |k, t| k.queue.link[t as usize].next = t,
+        |k, t| k.at_mut(t).wakeups = 16,
+        |k, t| k.at_mut(t).status = SUSPEND,
+        |k, t| k.at_mut(t).code = 7,
+        |k, _| k.running = 0,
+        |k, _| k.depth = 16,
+    ];
+    for (i, damage) in damages.iter().enumerate() {
+        let mut k = sound.clone();
+        damage(&mut k, t);
+        assert_eq!(
+            k.checked_event(&[0, 26, 0, 0, 0]).code,
+            H_STATE,
+            "damage {i}"
+        );
+    }
+}
+
+/// The check, and the second decision on the picture, of rings with such a depth and interrupted task.
+fn judged(open: &Kernel, depth: u32, interrupted: u32) -> [bool; 2] {
+    let mut k = open.clone();
+    k.depth = depth;
+    k.running = interrupted;
+    let told = k.checked_event(&[3, 0, 0, 0, 0]);
+    [told.code != H_STATE, shown(&k).sound().is_ok()]
+}
+
+/// The depth is 0 to 15; above 0 the interrupted task is 0 or one that is ready or suspended, and nothing else.
+#[test]
+fn interrupted_is_judged() {
+    let mut open = Kernel::start(&setup::bytes(&cases::setup().unwrap())).unwrap();
+    // 1 sleeps, 2 is ready, 3 is dormant
+    for e in [[0, 9, 0, 0, 0], [3, 0, 0, 0, 0]] {
+        assert!(open.event(&e).code >= 0);
+    }
+    // then 2 is suspended, then 1 too
+    for e in [[1, 27, 1, 0, 0], [1, 7, 2, 0, 0], [1, 7, 1, 0, 0]] {
+        assert_eq!(open.event(&e).code, 0);
+        for interrupted in [0, 1, 2, 3, 4, 33, u32::MAX] {
+            let sound = matches!(interrupted, 0 | 2);
+            for (depth, in_range) in [(1, true), (15, true), (16, false), (u32::MAX, false)] {
+                assert_eq!(
+                    judged(&open, depth, interrupted),
+                    [sound && in_range; 2],
+                    "{e:?}, depth {depth}, interrupted {interrupted}"
+                );
+            }
+        }
+    }
+}
