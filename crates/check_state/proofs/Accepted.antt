@@ -12,13 +12,15 @@ use Rattle.rules.specs.View.{line}
 use Rattle.rules.specs.Sound.{Unserved, AllUnserved, SoundTask, SoundBody, Queue}
 use Rattle.rules.proofs.Ids.{length-ids}
 use Rattle.rules.proofs.Lines.{line-tabulate, shape-tabulate}
-use Rattle.memory_rings.specs.Rings.{lineOf}
+use Rattle.memory_rings.specs.Rings.{lineOf, Linked}
 use Rattle.memory_columns.specs.Layout as Layout
-use Rattle.memory_columns.specs.Layout.{stateWords, maxMessages, words}
-use Rattle.memory_picture.specs.Picture.{taskShown, tasksShown, messagesShown, storeShown, bodyShown, anchor, lineShown, viewShown, Whole, Accepted}
+use Rattle.memory_columns.specs.Layout.{stateWords, maxMessages, words, entry}
+use Rattle.memory_picture.specs.Picture.{taskShown, tasksShown, messagesShown, storeShown, bodyShown, anchor, lineShown, viewShown, nonemptyShown, UsedByTasks, Whole, Accepted}
 use Rattle.memory_picture.proofs.FormHomes.{TaskQueue, MailQueue, task-exists, mail-exists, task-many, mail-many}
-use Rattle.check_state.specs.Unserved.{accepts}
-use Rattle.check_ranges.proofs.Decisions.{decides-as, decides-and}
+use Rattle.memory_running.specs.Running.{readyMarks}
+use Rattle.memory_running.proofs.Running.{marks-law}
+use Rattle.check_state.specs.Unserved.{readyMarked, accepts}
+use Rattle.check_ranges.proofs.Decisions.{Decides, decides-as, decides-and, decides-eq}
 use Rattle.check_ranges.proofs.Ranges.{Ranges, ranges-law}
 use Rattle.check_queues.proofs.Homes.{Keeps}
 use Rattle.check_queues.proofs.Queued.{task-is, tasks-law, mails-law}
@@ -130,11 +132,18 @@ module _ (b msgs : List ℕ) where
   unfolding viewShown bodyShown
   queues-of A q h = A .sound .queues q h
 
+-- ---- the word of nonempty ready queues
+
+ready-law : (b msgs : List ℕ) → Ranges b msgs → Linked (tasksShown b) (UsedByTasks (storeShown b msgs)) (words Layout.next b) (words Layout.prev b) (lineOf (tasksShown b) (words Layout.next b))
+    → Decides (readyMarked b) (entry Layout.nonempty b 0 ≡ nonemptyShown b)
+unfolding bodyShown storeShown
+ready-law b msgs R W = let e = marks-law b msgs W (R .sizes .priorities .1) in decides-as (decides-eq (entry Layout.nonempty b 0) (readyMarks b)) (λ h. h ∙ e) (λ h. h ∙ sym e)
+
 -- THE THEOREM
 
 pub accepts-law : (b msgs : List ℕ) → length b ≡ stateWords → length msgs ≡ maxMessages → (accepts b msgs ≡ true) ↔ Accepted b msgs
 unfolding accepts
 accepts-law b msgs size marks = decides-as
-    (decides-and (ranges-law b msgs) (λ R. decides-and (tasks-law b msgs size R) (λ T. decides-and (mails-law b msgs size R) (λ M. unserved-law b msgs size R (M .0) (M .1)))))
-    (λ h. accepted-of b msgs (record { size = size; marks = marks; low = h .0 .low; tasks = h .1 .0 .0; mails = h .1 .1 .0 .0 }) (h .0) (h .1 .1 .1) (h .1 .0 .1) (h .1 .1 .0 .1))
-    (λ A. (ranges-of b msgs A, ((A .whole .tasks, tasks-kept b msgs (queues-of b msgs A)), ((A .whole .mails, mails-kept b msgs (queues-of b msgs A)), nobody-of b msgs A))))
+    (decides-and (ranges-law b msgs) (λ R. decides-and (tasks-law b msgs size R) (λ T. decides-and (ready-law b msgs R (T .0)) (λ N. decides-and (mails-law b msgs size R) (λ M. unserved-law b msgs size R (M .0) (M .1))))))
+    (λ h. accepted-of b msgs (record { size = size; marks = marks; low = h .0 .low; tasks = h .1 .0 .0; word = h .1 .1 .0; mails = h .1 .1 .1 .0 .0 }) (h .0) (h .1 .1 .1 .1) (h .1 .0 .1) (h .1 .1 .1 .0 .1))
+    (λ A. (ranges-of b msgs A, ((A .whole .tasks, tasks-kept b msgs (queues-of b msgs A)), (A .whole .word, ((A .whole .mails, mails-kept b msgs (queues-of b msgs A)), nobody-of b msgs A)))))

@@ -8,6 +8,7 @@ use Rattle.memory_rings.specs.Links.{firstOf}
 use Rattle.memory_columns.specs.Layout as Layout
 use Rattle.memory_columns.specs.Layout.{words, entry}
 use Rattle.memory_queues.specs.Moves.{mailAnchor}
+use Rattle.memory_running.specs.Running.{readyMarks}
 use Rattle.check_ranges.specs.Ranges.{every, many, rangesOk}
 use Rattle.check_queues.specs.Queues.{tasksQueued, mailQueued}
 
@@ -28,5 +29,9 @@ unservedOk b i =
 
 -- ---- the check
 
+-- the word of nonempty ready queues is the one that the queues have
+abbrev pub readyMarked : List ℕ → Bool
+readyMarked b = eqb (entry Layout.nonempty b 0) (readyMarks b)
+
 unfoldable pub accepts : List ℕ → List ℕ → Bool
-accepts b msgs = rangesOk b msgs && (tasksQueued b && (mailQueued b msgs && every (many b Layout.tasks) 1 (unservedOk b)))
+accepts b msgs = rangesOk b msgs && (tasksQueued b && (readyMarked b && (mailQueued b msgs && every (many b Layout.tasks) 1 (unservedOk b))))

@@ -18,6 +18,7 @@ use memory_columns::flag;
 use memory_columns::free;
 use memory_columns::kind;
 use memory_columns::mode;
+use memory_columns::nonempty;
 use memory_columns::object;
 use memory_columns::semaphore;
 use memory_columns::status;
@@ -26,6 +27,7 @@ use memory_columns::wish;
 use memory_objects::flags::meets;
 use memory_queues::mail_anchor;
 use memory_queues::mail_first;
+use memory_running::ready_marks;
 ghost use mathlib.Core.Path.{_≡_};
 ghost use mathlib.Core.Bool.{true};
 ghost use mathlib.Core.Logic.{_↔_};
@@ -83,6 +85,15 @@ fn all_unserved(words: &[u32; STATE_WORDS], n: u32) -> bool
 
 // ---- the whole
 
+// Whether the word of nonempty ready queues is the one that the queues have.
+fn ready_marked(words: &[u32; STATE_WORDS]) -> bool
+    ensures { λ r. ⌜ r ≡ Unserved.readyMarked (now (words .entry)) ⌝ }
+{
+    let kept = nonempty(words);
+    let marks = ready_marks(words);
+    kept == marks
+}
+
 // All rules, in order.
 fn accepts_test(words: &[u32; STATE_WORDS], messages: &[u32; MESSAGE_WORDS]) -> bool
     ensures { λ r. ⌜ r ≡ Unserved.accepts (now (words .entry)) (now (messages .entry)) ⌝ }
@@ -91,6 +102,9 @@ fn accepts_test(words: &[u32; STATE_WORDS], messages: &[u32; MESSAGE_WORDS]) -> 
         return false;
     }
     if !tasks_queued(words) {
+        return false;
+    }
+    if !ready_marked(words) {
         return false;
     }
     if !mail_queued(words, messages) {

@@ -1,19 +1,23 @@
 -- A memory with another clock written is accepted still, and shows what it showed but for the clock. Assumes nothing.
-use mathlib.Core.Bool.{true}
+use mathlib.Core.Bool.{true, cond}
 use mathlib.Core.List.{List}
-use mathlib.Core.Path.{_≡_, refl, _∙_}
-use Prim.Native.Nat.{ℕ, _/_, _%_, _^_, _<_}
+use mathlib.Core.Path.{_≡_, refl, ap, _∙_}
+use Prim.Native.Nat.{ℕ, zero, suc, pred, _/_, _%_, _^_, _<_}
 use native.Mathlib.Omega.{arith}
-use lib.Dec.{ltb}
+use lib.Bits.{bitOr}
+use lib.Dec.{eqb, ltb}
 use lib.ListN.{length, getD, set, length-set}
 use lib.Seq.{getD-set-same, getD-set-other}
 use borrow.Author.Tests.{ltb-true, lt-ltb}
 use Rattle.rules.specs.Places.{tabulate}
 use Rattle.rules_examples.specs.BenchSheet.{at-clock}
+use Rattle.memory_rings.specs.Links.{firstOf}
 use Rattle.memory_rings.proofs.Columns.{col-store, length-store}
 use Rattle.memory_columns.specs.Layout as Layout
 use Rattle.memory_columns.specs.Layout.{words, entry}
 use Rattle.memory_columns.proofs.Frame.{words-length}
+use Rattle.memory_queues.specs.Moves.{readyAnchor}
+use Rattle.memory_running.specs.Running.{headAt, marksOf, readyMarks}
 use Rattle.memory_picture.specs.Picture.{taskShown, storeShown, handlersShown, bodyShown, lineShown, viewShown, Accepted}
 use Rattle.memory_picture.proofs.FormWords.{back-clock}
 use Rattle.check_ranges.specs.Ranges.{sizesOk, taskOk, waitOk, stateOk, semaphoreOk, flagOk, poolOk, messageOk, openOk, interruptedOk, rangesOk}
@@ -59,10 +63,24 @@ module _ {b m : List ℕ} (A : Accepted b m) (t : ℕ) where
     unfolding sizesOk
     sizes = simp (col-store, counts, low-half, high-half, wide, halves .0, halves .1, halves .2, halves .3)
 
+    next-kept : words Layout.next (clockSet t b) ≡ words Layout.next b
+    next-kept = simp col-store
+
+    marks-kept : (n p w : ℕ) → marksOf n p w (clockSet t b) ≡ marksOf n p w b
+    unfolding marksOf
+    marks-kept zero p w = refl
+    marks-kept (suc n) p w =
+        marks-kept n (suc p) (cond (eqb (headAt (clockSet t b) p) 0) w (bitOr w (2 ^ pred p)))
+        ∙ ap (λ (l : List ℕ). marksOf n (suc p) (cond (eqb (firstOf l (readyAnchor p)) 0) w (bitOr w (2 ^ pred p))) b) next-kept
+
+    ready : readyMarks (clockSet t b) ≡ readyMarks b
+    unfolding readyMarks
+    ready = simp (marks-kept, col-store, counts)
+
     -- no other test reads the clock
     tests : accepts (clockSet t b) m ≡ accepts b m
     unfolding accepts rangesOk tasksQueued mailQueued taskOk stateOk waitOk poolOk openOk interruptedOk taskHome home unservedOk waitFree
-    tests = simp (sizes, col-store, counts, taskOk, semaphoreOk, flagOk, poolOk, messageOk, taskHome, unservedOk)
+    tests = simp (sizes, ready, col-store, counts, taskOk, semaphoreOk, flagOk, poolOk, messageOk, taskHome, unservedOk)
 
     pub clock-accepted : Accepted (clockSet t b) m
     clock-accepted = accepts-law (clockSet t b) m (simp length-store (A .whole .size)) (A .whole .marks) .0 (tests ∙ accepts-law b m (A .whole .size) (A .whole .marks) .1 A)

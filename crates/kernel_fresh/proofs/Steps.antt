@@ -14,7 +14,7 @@ use Rattle.setup.proofs.Plans.{plan-fits}
 use Rattle.memory_columns.specs.Layout as Layout
 use Rattle.memory_columns.specs.Layout.{system, stateWords, maxBlocks, readyNode, waitNode, mailNode, put}
 use Rattle.memory_queues.specs.Moves.{clearedQueue, clearedMail}
-use Rattle.memory_objects.proofs.Steps.{one-bit}
+use Rattle.memory_columns.proofs.OneBit.{one-bit}
 use Rattle.kernel_fresh.specs.Laying.{inTurn, counted, laidTask, laidSemaphore, laidFlag, allFree, laidPool, entered, emptiedQueues, emptied, laid}
 
 -- ---- loops over ids

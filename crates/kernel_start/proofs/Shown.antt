@@ -14,12 +14,12 @@ use lib.ListN.{length, getD, replicate, length-replicate, length-map}
 use lib.Pow.{pow-pos}
 use lib.Seq.{ext-getD}
 use borrow.Author.Tests.{lt-ltb}
-use Rattle.rules.specs.Ids.{of, In}
+use Rattle.rules.specs.Ids.{of, from, ids, In}
 use Rattle.rules.specs.Setup.{Setup, Entry}
 use Rattle.rules.specs.State.{semaphore, flag, mailbox, pool, nobody, Store, no-handler}
 use Rattle.rules.specs.Places.{Place, readyAt, waiters, mail, Exists, tabulate}
 use Rattle.rules.specs.Kernel.{idleTask, idle}
-use Rattle.rules.proofs.Ids.{of-replicate}
+use Rattle.rules.proofs.Ids.{of-replicate, map-ids}
 use Rattle.rules.proofs.Accepted.{GoodSetup, idle-sound, unstarted-sound}
 use Rattle.rules.proofs.Lines.{tabulate-same}
 use Rattle.memory_rings.specs.Rings.{lineOf, Linked}
@@ -30,8 +30,7 @@ use Rattle.setup.specs.Layout.{PlanShows, PlanFits}
 use Rattle.memory_columns.specs.Layout as Layout
 use Rattle.memory_columns.specs.Layout.{Column, stateWords, maxTasks, maxMessages, maxBlocks, mailNode, fits, clear, words, entry, Only}
 use Rattle.memory_columns.proofs.Frame.{Sized, words-length, only-both}
-use Rattle.memory_picture.specs.Picture.{codeOf, stateShown, taskShown, messageShown, poolShown, tasksShown, messagesShown, storeShown, handlersShown, bodyShown, anchor, lineShown, viewShown, UsedByTasks, ready-queue, wait-queue, UsedByMail, mailbox-queue, Whole, Accepted}
-use Rattle.memory_picture.specs.Form.{maskOf}
+use Rattle.memory_picture.specs.Picture.{codeOf, stateShown, taskShown, messageShown, poolShown, tasksShown, messagesShown, storeShown, handlersShown, bodyShown, anchor, lineShown, viewShown, maskOf, occupied, nonemptyShown, UsedByTasks, ready-queue, wait-queue, UsedByMail, mailbox-queue, Whole, Accepted}
 use Rattle.memory_picture.proofs.FormPile.{table-is}
 use Rattle.memory_picture.proofs.FormWords.{back-pool}
 use Rattle.kernel_fresh.specs.Laying.{counted, allFree, entered, emptied, anchorsOf}
@@ -56,6 +55,13 @@ pub zeros-blank : Blank (replicate stateWords 0)
 zeros-blank d f =
     let e = words-length d (replicate stateWords 0) (length-replicate {A = ℕ} stateWords 0) f in
     ext-getD 0 _ _ (e ∙ sym (length-replicate (d .width) 0)) (λ i k. col-at (d .at) (d .width) (replicate stateWords 0) i (omega arith) ∙ zero-at stateWords (d .at + i) ∙ sym (zero-at (d .width) i))
+
+-- ---- no mark is set
+
+none-marked : (k n : ℕ) → maskOf (map (λ q. false) (from k n)) ≡ 0
+unfolding maskOf
+none-marked k zero = refl
+none-marked k (suc n) = rw (none-marked (suc k) n)
 
 -- ---- a pool of which every block is free
 
@@ -233,20 +239,33 @@ module _ (s : List ℕ) (u : Setup) (G : GoodSetup u) (p : Plan) (S : PlanShows 
   unfolding counts
   low = rw (at-system Layout.clockLow) (lit< tt)
 
+  line-shown : (q : Place) → Exists (idle u .store) q → lineShown memory q ≡ []
+  unfolding lineShown
+  line-shown (readyAt q) e = line-is tasks-linked (anchor (readyAt q)) (ready-queue q e)
+  line-shown (waiters k o) e = line-is tasks-linked (anchor (waiters k o)) (wait-queue k o e)
+  line-shown (mail m) e = line-is mails-linked (anchor (mail m)) (mailbox-queue m e)
+
+  -- nobody stands in a ready queue
+  priorities-shown : entry Layout.system memory Layout.priorities ≡ idle u .store .priorities
+  unfolding counts idle
+  priorities-shown = at-system Layout.priorities ∙ S .priorities
+
+  word : entry Layout.nonempty memory 0 ≡ nonemptyShown memory
+  unfolding nonemptyShown ids
+  word =
+      at-zero Layout.nonempty refl refl refl 0
+      ∙ sym (ap maskOf (map-ids (λ q. occupied (lineShown memory (readyAt q))) (λ q. false) (entry Layout.system memory Layout.priorities)
+      (λ q r. ap occupied (line-shown (readyAt q) (subst (In q) priorities-shown r)))) ∙ none-marked 1 (entry Layout.system memory Layout.priorities))
+
   whole : Whole memory marks
   whole = record {
+    word = word;
     size = size;
     marks = hm;
     low = low;
     tasks = rw store-shown (linked-ext tasks-linked (lineOf (tasksShown memory) (words Layout.next memory)) (λ a v. sym (line-is tasks-linked a v)));
     mails = rw store-shown (linked-ext mails-linked (lineOf (messagesShown memory) (words Layout.mailNext memory)) (λ a v. sym (line-is mails-linked a v)));
   }
-
-  line-shown : (q : Place) → Exists (idle u .store) q → lineShown memory q ≡ []
-  unfolding lineShown
-  line-shown (readyAt q) e = line-is tasks-linked (anchor (readyAt q)) (ready-queue q e)
-  line-shown (waiters k o) e = line-is tasks-linked (anchor (waiters k o)) (wait-queue k o e)
-  line-shown (mail m) e = line-is mails-linked (anchor (mail m)) (mailbox-queue m e)
 
   -- ---- the whole
 

@@ -114,6 +114,10 @@ system = column 1171 9
 abbrev pub handling : Column
 handling = column 1180 2
 
+-- the word of nonempty ready queues: bit p - 1 is that of priority p
+abbrev pub nonempty : Column
+nonempty = column 1182 1
+
 -- ---- the entries of the system's column
 
 abbrev pub priorities : ℕ
@@ -171,6 +175,10 @@ mailAnchors = maxMessages
 abbrev pub readyNode : ℕ → ℕ
 readyNode p = readyAnchors + p
 
+-- it is the anchor of a ready queue
+abbrev pub isReadyNode : ℕ → Bool
+isReadyNode a = leb (readyNode 1) a && leb a (readyNode maxPriorities)
+
 -- of the waiters on object o of kind k
 abbrev pub waitNode : ℕ → ℕ → ℕ
 waitNode k o = waitAnchors + (maxObjects * k + o)
@@ -190,10 +198,10 @@ objectColumns = semaphore ∷ flag ∷ free ∷ size ∷ []
 
 -- all of them, in order
 abbrev pub columns : List Column
-columns = taskColumns ++ (next ∷ prev ∷ (objectColumns ++ (mailNext ∷ mailPrev ∷ system ∷ handling ∷ [])))
+columns = taskColumns ++ (next ∷ prev ∷ (objectColumns ++ (mailNext ∷ mailPrev ∷ system ∷ handling ∷ nonempty ∷ [])))
 
 abbrev pub stateWords : ℕ
-stateWords = 1182
+stateWords = 1183
 
 -- the two directions of a ring stand side by side, as the crate `rings` wants them: the links back behind the links forth
 abbrev pub back : Column → Column

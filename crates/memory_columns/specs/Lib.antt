@@ -1,2 +1,3 @@
 -- The layout of the memory.
 pub mod Layout
+pub mod Bits

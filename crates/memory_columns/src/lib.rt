@@ -1,4 +1,6 @@
 // The columns of the memory: total reads and writes by id. An id that a column does not have reads 0 and writes nothing.
+pub mod bits;
+
 ghost use mathlib.Core.Path.{_≡_};
 ghost use Prim.Native.Nat.{_+_, _≤_};
 ghost use lib.ListN.{getD};
@@ -6,7 +8,7 @@ ghost use Rattle.memory_rings.specs.Columns.{col, store};
 ghost use Rattle.memory_columns.specs.Layout as Layout;
 ghost use Rattle.memory_columns.specs.Layout.{stateWords, entry, put, atMost};
 
-// Entries of a column of tasks, of objects, of pools, of the system and of the handlers, and nodes of the rings of tasks and of messages. Entry 0 is unused.
+// Entries of a column of tasks, of objects, of pools, of the system, of the handlers and of the word of nonempty queues, and nodes of the rings of tasks and of messages. Entry 0 is unused.
 const TASK_ENTRIES: usize = 33;
 
 const OBJECT_ENTRIES: usize = 17;
@@ -16,6 +18,8 @@ const POOL_ENTRIES: usize = 9;
 const SYSTEM_ENTRIES: usize = 9;
 
 const HANDLING_ENTRIES: usize = 2;
+
+const NONEMPTY_ENTRIES: usize = 1;
 
 const TASK_NODES: usize = 105;
 
@@ -64,8 +68,10 @@ const AT_SYSTEM: usize = MAIL_LINKS_END;
 
 const AT_HANDLING: usize = AT_SYSTEM + SYSTEM_ENTRIES;
 
+const AT_NONEMPTY: usize = AT_HANDLING + HANDLING_ENTRIES;
+
 // How many words the kernel's state has, and how many marks of messages beside it.
-pub const STATE_WORDS: usize = AT_HANDLING + HANDLING_ENTRIES;
+pub const STATE_WORDS: usize = AT_NONEMPTY + NONEMPTY_ENTRIES;
 
 pub const MESSAGE_WORDS: usize = 256;
 
@@ -117,8 +123,10 @@ pub const WAIT_ANCHORS: u32 = 16;
 
 pub const MAIL_ANCHORS: u32 = 256;
 
-// The first of each: of the ready queues, of the waiters on each kind of object, of the messages in mailboxes.
+// The first of each, and the last of the ready queues: of the ready queues, of the waiters on each kind of object, of the messages in mailboxes.
 pub const FIRST_READY: u32 = READY_ANCHORS + 1;
+
+pub const LAST_READY: u32 = READY_ANCHORS + MAX_PRIORITIES;
 
 pub const FIRST_SEMAPHORE: u32 = WAIT_ANCHORS + (MAX_OBJECTS * SEMAPHORE + 1);
 
@@ -399,6 +407,19 @@ pub fn set_handling(words: &mut [u32; STATE_WORDS], i: u32, v: u32)
     ensures { λ _. ⌜ now (words .exit) ≡ put Layout.handling i v (now (words .entry)) ⌝ }
 {
     write(words, AT_HANDLING, HANDLING_ENTRIES, i, v);
+}
+
+// The word of nonempty ready queues: bit p - 1 is that of priority p.
+pub fn nonempty(words: &[u32; STATE_WORDS]) -> u32
+    ensures { λ r. ⌜ r ≡ entry Layout.nonempty (now (words .entry)) 0 ⌝ }
+{
+    read(words, AT_NONEMPTY, NONEMPTY_ENTRIES, 0)
+}
+
+pub fn set_nonempty(words: &mut [u32; STATE_WORDS], v: u32)
+    ensures { λ _. ⌜ now (words .exit) ≡ put Layout.nonempty 0 v (now (words .entry)) ⌝ }
+{
+    write(words, AT_NONEMPTY, NONEMPTY_ENTRIES, 0, v);
 }
 
 // A count that a damaged memory cannot make long.

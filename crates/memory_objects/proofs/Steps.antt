@@ -1,20 +1,19 @@
 -- The code's steps put together: each law takes what the calls of a function give, in order, and ends in what the function does.
 -- Assumes nothing.
-use Prim.Native.Nat.{ℕ, zero, suc, pred, _+_, _-_, _*_, _%_, _^_, _≤_, _<_}
+use Prim.Native.Nat.{ℕ, zero, suc, pred, _+_, _-_, _%_, _^_, _≤_, _<_}
 use mathlib.Core.Bool.{Bool, true, false}
 use mathlib.Core.List.{List}
 use mathlib.Core.Path.{_≡_, refl, sym, _∙_}
 use native.Mathlib.Numerals.{sub-one, add-one}
-use native.Mathlib.Nat.{one-mul}
 use native.Mathlib.Omega.{arith}
 use lib.ListN.{getD, set, length, List·getD-eq-default}
-use lib.Pow.{shl-exact}
 use lib.Seq.{set-out}
-use borrow.Author.Tests.{ne-eqb, le-leb, lt-leb}
+use borrow.Author.Tests.{ne-eqb, le-leb, lt-leb, lt-ltb}
 use Rattle.rules.specs.Ids.{of, put}
 use Rattle.memory_columns.specs.Layout as Layout
 use Rattle.memory_columns.specs.Layout.{maxBlocks, entry}
-use Rattle.memory_objects.specs.Moves.{masked, marked, isTimed, aged, agedFrom, clocked}
+use Rattle.memory_columns.specs.Bits.{remasked}
+use Rattle.memory_objects.specs.Moves.{marked, isTimed, aged, agedFrom, clocked}
 
 -- ---- tables by id
 
@@ -36,9 +35,6 @@ put-past l (suc i) v ne h = sym (set-out l i v (omega arith))
 
 -- ---- blocks
 
-pub one-bit : (i : ℕ) → i < 32 → (1 * 2 ^ i) % 2 ^ 32 ≡ 2 ^ i
-one-bit i h = shl-exact {a = 1} 1 i 32 (omega arith) (omega arith) ∙ one-mul (2 ^ i)
-
 module _ (p k : ℕ) (t : Bool) (b : List ℕ) where
   pub block-none : k ≡ 0 → b ≡ marked p k t b
   unfolding marked
@@ -48,11 +44,11 @@ module _ (p k : ℕ) (t : Bool) (b : List ℕ) where
   unfolding marked
   block-past h = rw (le-leb 1 k (omega arith), lt-leb k maxBlocks h)
 
-pub block-in : (p k : ℕ) (t : Bool) (b : List ℕ) {m n : ℕ} {b₁ : List ℕ} → (k ≡ 0 → ⊥) → k ≤ maxBlocks → m ≡ entry Layout.free b p → n ≡ masked m (k - 1) t
+pub block-in : (p k : ℕ) (t : Bool) (b : List ℕ) {m n : ℕ} {b₁ : List ℕ} → (k ≡ 0 → ⊥) → k ≤ maxBlocks → m ≡ entry Layout.free b p → n ≡ remasked m (k - 1) t
     → b₁ ≡ Layout.put Layout.free p n b → b₁ ≡ marked p k t b
 unfolding marked
 block-in p zero t b ne h e f g = absurd (ne refl)
-block-in p (suc k) t b ne h e f g = g ∙ rw (le-leb 1 (suc k) (omega arith), le-leb (suc k) maxBlocks h, f, e, sub-one)
+block-in p (suc k) t b ne h e f g = g ∙ rw (le-leb 1 (suc k) (omega arith), le-leb (suc k) maxBlocks h, f, e, sub-one, lt-ltb k 32 (omega arith))
 
 -- ---- time
 

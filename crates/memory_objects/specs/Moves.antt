@@ -1,18 +1,13 @@
 -- What each act on blocks, time and handlers does to the words, for any words.
-use mathlib.Core.Bool.{Bool, true, false, cond, _&&_, _||_}
+use mathlib.Core.Bool.{Bool, cond, _&&_, _||_}
 use mathlib.Core.List.{List}
-use Prim.Native.Nat.{ℕ, zero, suc, pred, _-_, _%_, _^_}
-use lib.Bits.{bitAnd, bitOr}
+use Prim.Native.Nat.{ℕ, zero, suc, pred, _%_, _^_}
 use lib.Dec.{eqb, leb}
 use Rattle.memory_columns.specs.Layout as Layout
 use Rattle.memory_columns.specs.Layout.{maxTasks, maxBlocks, status, kind, ticks, free, system, handling, entry, put, atMost}
+use Rattle.memory_columns.specs.Bits.{masked}
 
 -- ---- blocks: bit k - 1 of the mask is block k's mark
-
--- the mask with bit k as t says
-abbrev pub masked : ℕ → ℕ → Bool → ℕ
-masked m k true = bitOr m (2 ^ k)
-masked m k false = bitAnd m (2 ^ 32 - 1 - 2 ^ k)
 
 -- block k of pool p; a number that is no block's changes nothing
 unfoldable pub marked : ℕ → ℕ → Bool → List ℕ → List ℕ

@@ -2,17 +2,16 @@
 use memory_columns::MAX_BLOCKS;
 use memory_columns::MESSAGE_WORDS;
 use memory_columns::STATE_WORDS;
+use memory_columns::bits::with_bit;
 use memory_columns::free;
 use memory_columns::set_free;
 use memory_queues::mail_anchor;
 use memory_queues::mail_leave;
 use memory_queues::mail_push;
 ghost use mathlib.Core.Path.{_≡_};
-ghost use Prim.Native.Nat.{_<_};
 ghost use Rattle.rules.specs.Ids.{of, put};
-ghost use Rattle.memory_columns.specs.Layout.{maxBlocks};
 ghost use Rattle.memory_queues.specs.Moves.{mailed, unmailed, mailAnchor};
-ghost use Rattle.memory_objects.specs.Moves.{masked, marked};
+ghost use Rattle.memory_objects.specs.Moves.{marked};
 
 // The mailbox in which message j lies, 0 if in none.
 pub fn mark_of(messages: &[u32; MESSAGE_WORDS], j: u32) -> u32
@@ -58,17 +57,6 @@ pub fn receive(words: &mut [u32; STATE_WORDS], messages: &mut [u32; MESSAGE_WORD
 {
     set_mark(messages, j, 0);
     mail_leave(words, j);
-}
-
-// The mask with bit k set or not.
-fn with_bit(mask: u32, k: u32, set: bool) -> u32
-    requires { ⌜ k < maxBlocks ⌝ }
-    ensures { λ r. ⌜ r ≡ masked mask k set ⌝ }
-{
-    if set {
-        return mask | (1 << k);
-    }
-    mask & !(1 << k)
 }
 
 // Block k of a pool is marked as free or out.

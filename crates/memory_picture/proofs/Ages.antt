@@ -122,10 +122,11 @@ record Aged (n t : ℕ) (b c : List ℕ) : Type 0 where
   only : Only touchable b c
   next : words Layout.next c ≡ words Layout.next b
   prev : words Layout.prev c ≡ words Layout.prev b
+  word : entry Layout.nonempty c 0 ≡ entry Layout.nonempty b 0
 
 aged-from : (n t : ℕ) (b : List ℕ) → length b ≡ stateWords → t + n ≤ Layout.status .width → Aged n t b (agedFrom n t b)
 unfolding agedFrom
-aged-from zero t b e h = record { size = e; inside = λ j x y. absurd (omega arith); outside = λ j x. refl; only = only-none touchable b; next = refl; prev = refl }
+aged-from zero t b e h = record { size = e; inside = λ j x y. absurd (omega arith); outside = λ j x. refl; only = only-none touchable b; next = refl; prev = refl; word = refl }
 aged-from (suc n) t b e h = go (aged-touched b e t (omega arith)) (aged-shown b e t (omega arith)) (λ e′. aged-from n (suc t) (aged t b) e′ (omega arith))
   where
     go : Touched t rest b (aged t b) → taskShown (aged t b) t ≡ olderTask (taskShown b t) → (length (aged t b) ≡ stateWords → Aged n (suc t) (aged t b) (agedFrom n (suc t) (aged t b)))
@@ -141,6 +142,7 @@ aged-from (suc n) t b e h = go (aged-touched b e t (omega arith)) (aged-shown b 
           only = only-on (T .only) (R .only);
           next = R .next ∙ T .next;
           prev = R .prev ∙ T .prev;
+          word = R .word ∙ T .word;
         }
 
 -- ---- the clock
@@ -270,6 +272,7 @@ module _ (b msgs : List ℕ) (A : Accepted b msgs) (F : LowClock b) where
       prev = K .only .kept Layout.prev refl ∙ R .prev;
       mail-next = only .kept Layout.mailNext refl;
       mail-prev = only .kept Layout.mailPrev refl;
+      word = ap (λ (l : List ℕ). getD l 0 0) (K .only .kept Layout.nonempty refl) ∙ R .word;
       counts = counts;
       low-half = λ _. subst (λ (l : List ℕ). getD l Layout.clockLow 0 < 2 ^ 32) (sym system) (ticked-low (words Layout.system b) (eqb (suc (entry Layout.system b Layout.clockLow) % 2 ^ 32) 0) wide);
       lines = follows-stay _ _;

@@ -1,20 +1,20 @@
 -- The form of a sound body shows that body, whatever the lines: each entry is read off its column, and decoded. Assumes nothing.
-use mathlib.Core.List.{List, [], reverse}
+use mathlib.Core.List.{List, [], map, reverse}
 use mathlib.Core.Option.{none}
 use mathlib.Core.Path.{_≡_, refl, _∙_}
 use Prim.Native.Nat.{ℕ, zero, suc, _+_, _*_, _%_, _^_, _<_}
 use native.Mathlib.Omega.{arith}
 use lib.Dec.{lit<}
 use lib.ListN.{length, getD}
-use Rattle.rules.specs.Ids.{of, In}
+use Rattle.rules.specs.Ids.{of, ids, In}
 use Rattle.rules.specs.State.{depth, Body, task, nobody}
-use Rattle.rules.specs.Places.{Place}
+use Rattle.rules.specs.Places.{Place, readyAt}
 use Rattle.rules.specs.Sound.{SoundBody}
 use Rattle.memory_columns.specs.Layout as Layout
 use Rattle.memory_columns.specs.Layout.{columns, maxMessages, words, entry}
-use Rattle.memory_picture.specs.Picture.{taskShown, messageShown, poolShown, storeShown, openShown, handlersShown, bodyShown, tasksShown, messagesShown}
+use Rattle.memory_picture.specs.Picture.{taskShown, messageShown, poolShown, storeShown, openShown, handlersShown, maskOf, occupied, bodyShown, tasksShown, messagesShown}
 use Rattle.memory_picture.specs.Perform.{codeKept, interruptedKept}
-use Rattle.memory_picture.specs.Form.{statusNumber, wordsOf, maskOf, boxNumber, taskLink, mailLink, run, entries, pile, systemWords, handlingWords, parts}
+use Rattle.memory_picture.specs.Form.{statusNumber, wordsOf, boxNumber, taskLink, mailLink, run, entries, pile, systemWords, handlingWords, parts}
 use Rattle.memory_picture.proofs.FormPile.{run-at, pile-words, pile-at, table-is}
 use Rattle.memory_picture.proofs.FormWords.{back-state, back-code, back-pool, back-message, back-clock, back-handlers}
 
@@ -91,6 +91,12 @@ module _ (b : Body) (L : Place → List ℕ) where
 
   at-handling : (k : ℕ) → k < Layout.handling .width → entry Layout.handling form k ≡ getD (handlingWords b) k 0
   at-handling k r = pile-at (entries (parts b L)) Layout.handling refl k r
+
+  pub at-nonempty : entry Layout.nonempty form 0 ≡ maskOf (map (λ p. occupied (L (readyAt p))) (ids (b .store .priorities)))
+  at-nonempty = pile-at (entries (parts b L)) Layout.nonempty refl 0 (lit< tt)
+
+  pub priorities-count : entry Layout.system form Layout.priorities ≡ b .store .priorities
+  priorities-count = at-system Layout.priorities (lit< tt)
 
   at-mark : (j : ℕ) → In j maxMessages → of (marks b) j 0 ≡ boxNumber (of (b .store .messages) j none)
   at-mark zero r = absurd (omega (arith, r .0))

@@ -15,9 +15,9 @@ use Rattle.rules.specs.Ids.{once}
 use Rattle.rules.specs.State.{Kind, semaphore, flag, mailbox, pool, Wait, asleep, timed, on, State, dormant, ready, suspended, waiting, waiting-suspended, Cell, Task, Store, Handlers, no-handler, in-handler, depth, Body, nobody, objects, waitOf}
 use Rattle.rules.specs.Sound.{Sizes, LiesWell, CellNumbers, WishNumbers, WaitNumbers, SoundTask}
 use Rattle.memory_columns.specs.Layout.{maxObjects, maxBlocks}
-use Rattle.memory_picture.specs.Picture.{codeOf, waitShown, stateShown, messageShown, bitsOf, poolShown, openShown, kindNumber}
+use Rattle.memory_picture.specs.Picture.{codeOf, waitShown, stateShown, messageShown, bitsOf, poolShown, openShown, maskOf, kindNumber}
 use Rattle.memory_picture.specs.Perform.{codeKept, interruptedKept}
-use Rattle.memory_picture.specs.Form.{statusNumber, WaitWords, noWords, waitWords, wordsOf, maskOf, boxNumber}
+use Rattle.memory_picture.specs.Form.{statusNumber, WaitWords, noWords, waitWords, wordsOf, boxNumber}
 
 -- ---- back
 
@@ -55,7 +55,7 @@ odd : (t : Bool) (n : ℕ) → eqb ((once t + 2 * n) % 2) 1 ≡ t
 odd true n = eq-eqb ((1 + 2 * n) % 2) 1 (omega arith)
 odd false n = ne-eqb ((0 + 2 * n) % 2) 1 (λ e. omega arith)
 
-back-bits : (l : List Bool) → bitsOf (length l) (maskOf l) ≡ l
+pub back-bits : (l : List Bool) → bitsOf (length l) (maskOf l) ≡ l
 unfolding bitsOf maskOf
 back-bits [] = refl
 back-bits (t ∷ l) = rw (odd t (maskOf l), half t (maskOf l)) (ap (λ (r : List Bool). t ∷ r) (back-bits l))

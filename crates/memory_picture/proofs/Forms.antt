@@ -1,6 +1,6 @@
 -- Each sound view has an accepted form, of 32-bit words; the fresh view of every accepted setup among them. Assumes nothing.
 use mathlib.Core.Bool.{true, false≢true}
-use mathlib.Core.List.{List, [], _∷_, reverse}
+use mathlib.Core.List.{List, [], _∷_, map, reverse}
 use mathlib.Core.Logic.{_⊎_, inl, inr}
 use mathlib.Core.Option.{none}
 use mathlib.Core.Path.{_≡_, refl, sym, ap, _∙_, subst}
@@ -9,23 +9,23 @@ use native.Mathlib.Nat.{zero-add}
 use native.Mathlib.Omega.{arith}
 use lib.Dec.{lit<, lit≤}
 use lib.ListN.{length, getD}
-use Rattle.rules.specs.Ids.{of, In}
+use Rattle.rules.specs.Ids.{of, ids, In}
 use Rattle.rules.specs.State.{Task, Store, Handlers, no-handler, in-handler, depth, task, nobody, objects, isFreed}
 use Rattle.rules.specs.Places.{Place, readyAt, waiters, mail, at, each, Lines, lineAt, Exists, tabulate}
 use Rattle.rules.specs.View.{View}
 use Rattle.rules.specs.Sound.{Shape, HandlersFit, Sound}
-use Rattle.rules.proofs.Ids.{inside}
+use Rattle.rules.proofs.Ids.{inside, length-ids, map-ids}
 use Rattle.rules.proofs.Lines.{tabulate-same}
 use Rattle.memory_columns.specs.Layout as Layout
-use Rattle.memory_columns.specs.Layout.{maxMessages}
+use Rattle.memory_columns.specs.Layout.{maxMessages, entry}
 use Rattle.memory_columns.proofs.Tiling.{columns-tile}
 use Rattle.memory_rings.specs.Rings.{lineOf, Linked}
-use Rattle.memory_picture.specs.Picture.{storeShown, anchor, lineShown, viewShown, Whole, Accepted}
+use Rattle.memory_picture.specs.Picture.{storeShown, anchor, lineShown, viewShown, maskOf, occupied, nonemptyShown, Whole, Accepted}
 use Rattle.memory_picture.specs.Perform.{interruptedKept}
-use Rattle.memory_picture.specs.Form.{Fits32, maskOf, boxNumber, systemWords, handlingWords, entries, parts, formOf, marksOf}
+use Rattle.memory_picture.specs.Form.{Fits32, boxNumber, systemWords, handlingWords, entries, parts, formOf, marksOf}
 use Rattle.memory_picture.proofs.FormPile.{length-run, run-all, length-pile, pile-all, entries-all, table-is}
 use Rattle.memory_picture.proofs.FormWords.{mask-small, message-small, Small, task-small, nobody-small}
-use Rattle.memory_picture.proofs.FormBody.{marks, form, tasks-count, messages-count, low-clock, next-words, prev-words, mail-next-words, mail-prev-words, store-shown, body-shown}
+use Rattle.memory_picture.proofs.FormBody.{marks, form, tasks-count, messages-count, priorities-count, low-clock, at-nonempty, next-words, prev-words, mail-next-words, mail-prev-words, store-shown, body-shown}
 use Rattle.memory_picture.proofs.FormHomes.{tasks-linked, task-line, mails-linked, mail-line, line-small, back-small, task-link-small, mail-link-small}
 
 -- a table of lines is made from its lines
@@ -82,11 +82,19 @@ module _ (v : View) (S : Sound v) where
 
   -- ---- whole
 
+  nonempty-word : entry Layout.nonempty (form (v .body) lines) 0 ≡ nonemptyShown (form (v .body) lines)
+  unfolding nonemptyShown
+  nonempty-word =
+      at-nonempty (v .body) lines
+      ∙ ap maskOf (map-ids (λ p. occupied (lines (readyAt p))) (λ p. occupied (lineShown (form (v .body) lines) (readyAt p))) (v .body .store .priorities) (λ p r. ap occupied (sym (line-shown (readyAt p) r))))
+      ∙ ap (λ (n : ℕ). maskOf (map (λ p. occupied (lineShown (form (v .body) lines) (readyAt p))) (ids n))) (sym (priorities-count (v .body) lines))
+
   pub form-whole : Whole (formOf v) (marksOf v)
   unfolding formOf marksOf
   form-whole = record {
     size = rw zero-add at (length-pile (entries (parts (v .body) lines)) 0 Layout.columns Layout.stateWords columns-tile);
     marks = length-run maxMessages _;
+    word = nonempty-word;
     low = rw (low-clock (v .body) lines) (omega arith);
     tasks = rw (store-shown (v .body) lines (S .body), next-words (v .body) lines, prev-words (v .body) lines) (recount _ _ _ _ _ (sym (tasks-count (v .body) lines)) (tasks-linked v S));
     mails = rw (store-shown (v .body) lines (S .body), mail-next-words (v .body) lines, mail-prev-words (v .body) lines) (recount _ _ _ _ _ (sym (messages-count (v .body) lines)) (mails-linked v S));
@@ -137,7 +145,8 @@ module _ (v : View) (S : Sound v) where
       also (λ i r. entries-small maskOf (v .body .store .pools) [] (mask-small [] (lit≤ tt)) (λ p e. mask-small (of (v .body .store .pools) p []) (S .body .store .pools p e .1)) i)
       also (λ i r. entries-small length (v .body .store .pools) [] (lit< tt) (λ p e. omega (arith, S .body .store .pools p e .1)) i)
       also mail-link-small v S lines (line-small v S) also mail-link-small v S (λ q. reverse (lines q)) (back-small v S)
-      also (λ k r. word-small (systemWords (v .body)) system-small k) also (λ k r. word-small (handlingWords (v .body)) handling-small k) also tt))
+      also (λ k r. word-small (systemWords (v .body)) system-small k) also (λ k r. word-small (handlingWords (v .body)) handling-small k)
+      also (λ k r. mask-small (map (λ p. occupied (lines (readyAt p))) (ids (v .body .store .priorities))) (omega (arith, length-ids (λ p. occupied (lines (readyAt p))) (v .body .store .priorities), S .body .sizes .priorities .1))) also tt))
 
   pub marks-fit : Fits32 (marksOf v)
   unfolding marksOf

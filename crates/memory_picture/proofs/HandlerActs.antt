@@ -67,6 +67,7 @@ module _ (b msgs : List ℕ) (A : Accepted b msgs) (h : Handlers) where
     prev = only .kept Layout.prev refl;
     mail-next = only .kept Layout.mailNext refl;
     mail-prev = only .kept Layout.mailPrev refl;
+    word = ap (λ (l : List ℕ). getD l 0 0) (only .kept Layout.nonempty refl);
     counts = λ i k. ap (λ (l : List ℕ). getD l i 0) (only .kept Layout.system refl);
     low-half = λ k. rw (only .kept Layout.system refl) k;
     lines = follows-stay _ _;

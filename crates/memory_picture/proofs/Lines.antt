@@ -6,6 +6,7 @@ use Prim.Native.Nat.{ℕ, _≤_}
 use native.Mathlib.Decide.{ℕ-discrete}
 use native.Mathlib.Omega.{arith}
 use lib.Dec.{eqb}
+use lib.ListN.{getD}
 use borrow.Author.Tests.{eqb-true, eqb-false, eq-eqb, ne-eqb}
 use Rattle.rules.specs.Ids.{In, keep}
 use Rattle.rules.specs.State.{Kind, semaphore, flag, mailbox, pool, on, ready, waiting, Task, Store, Body, task}
@@ -18,6 +19,7 @@ use Rattle.memory_rings.specs.Rings.{IsId, Linked, without, upd}
 use Rattle.memory_rings.proofs.Laws.{linked-ext, push-law, leave-law, left-free}
 use Rattle.memory_rings.proofs.Lists.{upd-at}
 use Rattle.memory_columns.specs.Layout.{maxPriorities, maxObjects, readyNode, waitNode, mailNode}
+use Rattle.memory_queues.specs.Moves.{noted, inhabited}
 use Rattle.memory_picture.specs.Picture.{kindNumber, anchor}
 
 -- nobody moves, an id leaves its queue, an id goes last in the queue at a place
@@ -35,6 +37,12 @@ abbrev pub prevAfter : Step → List ℕ → List ℕ → List ℕ
 prevAfter rest nx pv = pv
 prevAfter (out t) nx pv = leftPrev nx pv t
 prevAfter (to q t) nx pv = pushPrev (leftPrev nx pv t) (anchor q) t
+
+-- the word of nonempty ready queues
+abbrev pub wordAfter : Step → List ℕ → List ℕ → ℕ → ℕ
+wordAfter rest nx pv w = w
+wordAfter (out t) nx pv w = noted (getD nx t 0) (inhabited (leftNext nx pv t) (getD nx t 0)) w
+wordAfter (to q t) nx pv w = noted (anchor q) true (noted (getD nx t 0) (inhabited (leftNext nx pv t) (getD nx t 0)) w)
 
 -- the line of anchor a
 abbrev pub lineAfter : Step → ℕ → List ℕ → List ℕ
@@ -97,7 +105,7 @@ same-kind pool flag = refl
 same-kind pool mailbox = refl
 same-kind pool pool = refl
 
-object-kind : (k : Kind) → 2 ≤ kindNumber k
+pub object-kind : (k : Kind) → 2 ≤ kindNumber k
 object-kind semaphore = omega arith
 object-kind flag = omega arith
 object-kind mailbox = omega arith

@@ -96,6 +96,7 @@ module _ (b msgs : List ℕ) (A : Accepted b msgs) where
         prev = T .prev;
         mail-next = T .only .kept Layout.mailNext refl;
         mail-prev = T .only .kept Layout.mailPrev refl;
+        word = T .word;
         counts = λ i k. ap (λ (l : List ℕ). getD l i 0) system;
         low-half = λ k. rw system k;
         lines = l;

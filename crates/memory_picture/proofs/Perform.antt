@@ -31,4 +31,4 @@ act-done elapse b msgs A f = elapse-done b msgs A (A .whole .low)
 act-done (nest h) b msgs A f = nest-done b msgs A h
 
 pub perform-law : (a : Act) (b msgs : List ℕ) → Accepted b msgs → Fit (bodyShown b msgs) a → Shows (performed a b) (performedMarks a msgs) (act a (viewShown b msgs))
-perform-law a b msgs A f = shows-done a b msgs (performed a b) (performedMarks a msgs) (A .whole) (act-done a b msgs A f)
+perform-law a b msgs A f = shows-done a b msgs (performed a b) (performedMarks a msgs) A (act-done a b msgs A f)

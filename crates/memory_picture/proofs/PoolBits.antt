@@ -11,7 +11,7 @@ use lib.ListN.{length, set}
 use lib.Pow.{pow-pos, pow-lt}
 use borrow.Author.Tests.{eqb-true, eq-eqb}
 use Rattle.rules.specs.Ids.{put, In}
-use Rattle.memory_objects.specs.Moves.{masked}
+use Rattle.memory_columns.specs.Bits.{masked}
 use Rattle.memory_picture.specs.Picture.{bitsOf, poolShown}
 
 pow-half : (i : ℕ) → 2 ^ suc i / 2 ≡ 2 ^ i
@@ -62,11 +62,11 @@ bits-clear (suc w) (suc n) m (suc i) h k l =
     bits-step n (bitAnd m (2 ^ suc w - 1 - 2 ^ suc i)) (bitAnd (m / 2) (2 ^ w - 1 - 2 ^ i)) (m % 2) (and-step m (2 ^ suc w - 1 - 2 ^ suc i) ∙ rw (x, y) (omega arith)) (omega arith)
     ∙ ap (λ (l : List Bool). eqb (m % 2) 1 ∷ l) (bits-clear w n (m / 2) i (omega arith) (omega arith) (omega arith))
 
-bits-masked : (n m i : ℕ) (t : Bool) → i < n → n ≤ 32 → m < 2 ^ n → bitsOf n (masked m i t) ≡ set (bitsOf n m) i t
+pub bits-masked : (n m i : ℕ) (t : Bool) → i < n → n ≤ 32 → m < 2 ^ n → bitsOf n (masked m i t) ≡ set (bitsOf n m) i t
 bits-masked n m i true h k l = bits-set n m i h
 bits-masked n m i false h k l = bits-clear 32 n m i h k (let g = pow-le-pow-right {n = 2} (omega arith) k in omega arith)
 
-masked-lt : (n m i : ℕ) (t : Bool) → i < n → m < 2 ^ n → masked m i t < 2 ^ n
+pub masked-lt : (n m i : ℕ) (t : Bool) → i < n → m < 2 ^ n → masked m i t < 2 ^ n
 masked-lt n m i true h l = or-lt n m (2 ^ i) l (pow-lt h)
 masked-lt n m i false h l = omega (arith, and-le-l m (2 ^ 32 - 1 - 2 ^ i))
 

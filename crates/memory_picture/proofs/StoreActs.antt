@@ -23,7 +23,8 @@ use Rattle.memory_columns.specs.Layout.{Column, maxObjects, maxMessages, maxBlo
 use Rattle.memory_columns.proofs.Tiling.{either-right, column-fits}
 use Rattle.memory_columns.proofs.Frame.{Sized, put-size, put-apart, entry-put, entry-other, only-first, object-column, clear-apart, put-among}
 use Rattle.memory_queues.specs.Moves.{mailAnchor, mailed, unmailed}
-use Rattle.memory_objects.specs.Moves.{masked, marked}
+use Rattle.memory_columns.specs.Bits.{masked}
+use Rattle.memory_objects.specs.Moves.{marked}
 use Rattle.memory_picture.specs.Picture.{messagesShown, messageShown, poolShown, storeShown, bodyShown, anchor, lineShown, viewShown, UsedByMail, mailbox-queue, Accepted}
 use Rattle.memory_queues.proofs.Relinks.{Relinked, mailed-law, unmailed-law}
 use Rattle.memory_picture.proofs.Lines.{Step, rest, out, to, nextAfter, prevAfter, Fine, Follows, follows-stay, message-leaves, message-goes}
@@ -69,6 +70,7 @@ module _ (b msgs : List ℕ) (A : Accepted b msgs) where
     prev = F .kept Layout.prev refl;
     mail-next = x;
     mail-prev = y;
+    word = ap (λ (l : List ℕ). getD l 0 0) (F .kept Layout.nonempty refl);
     counts = λ i h. ap (λ (l : List ℕ). getD l i 0) (F .kept Layout.system refl);
     low-half = λ k. rw (F .kept Layout.system refl) k;
     lines = l;

@@ -22,19 +22,22 @@ use Rattle.memory_columns.proofs.Frame.{Sized, put-size, put-apart, words-put, 
 use Rattle.memory_queues.specs.Moves.{queued, unqueued}
 use Rattle.memory_picture.specs.Picture.{codeOf, waitShown, stateShown, taskShown, messageShown, poolShown, messagesShown, clockShown, storeShown, openShown, handlersShown, anchor}
 use Rattle.memory_queues.proofs.Relinks.{queued-law, unqueued-law}
-use Rattle.memory_picture.proofs.Lines.{Step, rest, out, to, nextAfter, prevAfter}
+use Rattle.memory_picture.proofs.Lines.{Step, rest, out, to, nextAfter, prevAfter, wordAfter}
 
 -- ---- a table with one entry changed
 
-pub map-put {ℓ} : {A : Type ℓ} (f g : ℕ → A) (n i : ℕ) → In i n → ((j : ℕ) → j ≢ i → g j ≡ f j) → map g (ids n) ≡ put (map f (ids n)) i (g i)
-map-put f g n i h same = ext-getD (g i) _ _ (length-ids g n ∙ sym (length-put (map f (ids n)) i (g i) ∙ length-ids f n)) (λ j k. go j (rw (length-ids g n) at k) (ℕ-discrete (suc j) i))
+pub map-put-in {ℓ} : {A : Type ℓ} (f g : ℕ → A) (n i : ℕ) → In i n → ((j : ℕ) → In j n → j ≢ i → g j ≡ f j) → map g (ids n) ≡ put (map f (ids n)) i (g i)
+map-put-in f g n i h same = ext-getD (g i) _ _ (length-ids g n ∙ sym (length-put (map f (ids n)) i (g i) ∙ length-ids f n)) (λ j k. go j (rw (length-ids g n) at k) (ℕ-discrete (suc j) i))
   where
     go : (j : ℕ) → j < n → Dec (suc j ≡ i) → of (map g (ids n)) (suc j) (g i) ≡ of (put (map f (ids n)) i (g i)) (suc j) (g i)
     go j k (yes e) = subst (λ (x : ℕ). of (map g (ids n)) x (g i) ≡ of (put (map f (ids n)) i (g i)) x (g i)) (sym e)
         (of-ids g n i (g i) h ∙ sym (of-put-same (map f (ids n)) i (g i) (g i) (rw (length-ids f n) h)))
     go j k (no ne) =
-        of-ids g n (suc j) (g i) (omega arith) ∙ same (suc j) ne ∙ sym (of-ids f n (suc j) (g i) (omega arith))
+        of-ids g n (suc j) (g i) (omega arith) ∙ same (suc j) (omega arith, omega arith) ne ∙ sym (of-ids f n (suc j) (g i) (omega arith))
         ∙ sym (of-put-other (map f (ids n)) i (suc j) (g i) (g i) (ne-eqb i (suc j) (λ e. ne (sym e))))
+
+pub map-put {ℓ} : {A : Type ℓ} (f g : ℕ → A) (n i : ℕ) → In i n → ((j : ℕ) → j ≢ i → g j ≡ f j) → map g (ids n) ≡ put (map f (ids n)) i (g i)
+map-put f g n i h same = map-put-in f g n i h (λ j r ne. same j ne)
 
 -- ---- the columns of tasks
 
@@ -121,30 +124,32 @@ handlers-kept F h = ap (λ (m : List ℕ). openShown (getD m Layout.depth 0) (ge
 
 -- what an act on a task may write
 abbrev pub touchable : List Column
-touchable = Layout.links ∷ taskColumns
+touchable = Layout.links ∷ Layout.nonempty ∷ taskColumns
 
--- c is b but for the entries of task t, and for the rings of tasks, in which t made a step
+-- c is b but for the entries of task t, and for the rings of tasks and the word of nonempty ready queues, in which t made a step
 pub record Touched (t : ℕ) (s : Step) (b c : List ℕ) : Type 0 where
   pub size : Sized c
   pub others : (j : ℕ) → j ≢ t → taskShown c j ≡ taskShown b j
   pub only : Only touchable b c
   pub next : words Layout.next c ≡ nextAfter s (words Layout.next b) (words Layout.prev b)
   pub prev : words Layout.prev c ≡ prevAfter s (words Layout.next b) (words Layout.prev b)
+  pub word : entry Layout.nonempty c 0 ≡ wordAfter s (words Layout.next b) (words Layout.prev b) (entry Layout.nonempty b 0)
 
-links-touched : {b c : List ℕ} → Only (Layout.links ∷ []) b c → Only touchable b c
-links-touched F = only-first (Layout.links ∷ []) taskColumns F
+links-touched : {b c : List ℕ} → Only (Layout.links ∷ Layout.nonempty ∷ []) b c → Only touchable b c
+links-touched F = only-first (Layout.links ∷ Layout.nonempty ∷ []) taskColumns F
 
 module _ {t : ℕ} {b : List ℕ} where
   pub untouched : Sized b → Touched t rest b b
-  untouched e = record { size = e; others = λ j ne. refl; only = only-none touchable b; next = refl; prev = refl }
+  untouched e = record { size = e; others = λ j ne. refl; only = only-none touchable b; next = refl; prev = refl; word = refl }
 
   pub touched-put : {s : Step} {c : List ℕ} (x : Column) (v : ℕ) → among taskColumns x ≡ true → Touched t s b c → Touched t s b (Layout.put x t v c)
   touched-put {c} x v h T = record {
     size = put-size x t v c (T .size);
     others = λ j ne. shown-by c (Layout.put x t v c) j (λ d k. entry-other x t v c d (task-column x h) (task-column d k) j ne) ∙ T .others j ne;
-    only = only-on (T .only) (put-among touchable x t v c (either-right (same Layout.links x) (among taskColumns x) h));
+    only = only-on (T .only) (put-among touchable x t v c (either-right (same Layout.links x) (among (Layout.nonempty ∷ taskColumns) x) (either-right (same Layout.nonempty x) (among taskColumns x) h)));
     next = put-apart x t v c Layout.next (clear-apart taskColumns x Layout.next refl h) ∙ T .next;
     prev = put-apart x t v c Layout.prev (clear-apart taskColumns x Layout.prev refl h) ∙ T .prev;
+    word = ap (λ (l : List ℕ). getD l 0 0) (put-apart x t v c Layout.nonempty (clear-apart taskColumns x Layout.nonempty refl h)) ∙ T .word;
   }
 
   pub touched-left : {c : List ℕ} → Touched t rest b c → Touched t (out t) b (unqueued t c)
@@ -155,6 +160,7 @@ module _ {t : ℕ} {b : List ℕ} where
         only = only-on (T .only) (links-touched (R .only));
         next = R .next ∙ rw (T .next, T .prev);
         prev = R .prev ∙ rw (T .next, T .prev);
+        word = R .word ∙ rw (T .next, T .prev, T .word);
       }
 
   pub touched-last : {c : List ℕ} (a : ℕ) (h : Place) → a ≡ anchor h → Touched t (out t) b c → Touched t (to h t) b (queued a t c)
@@ -165,4 +171,5 @@ module _ {t : ℕ} {b : List ℕ} where
         only = only-on (T .only) (links-touched (R .only));
         next = R .next ∙ rw (T .next, T .prev, e);
         prev = R .prev ∙ rw (T .prev, e);
+        word = R .word ∙ rw (T .word, e);
       }

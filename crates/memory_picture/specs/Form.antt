@@ -1,19 +1,19 @@
 -- A form of every sound view: a memory that shows it. The columns stand one after the other, each computed entry by entry; in the link columns
 -- a node's link is found in the line of the queue in which the node stands.
-use mathlib.Core.Bool.{Bool, cond}
+use mathlib.Core.Bool.{cond}
 use mathlib.Core.List.{List, [], _∷_, _++_, map, reverse}
 use mathlib.Core.Option.{Option, none, some}
-use Prim.Native.Nat.{ℕ, suc, _+_, _-_, _*_, _/_, _%_, _^_, _<_}
+use Prim.Native.Nat.{ℕ, suc, _+_, _-_, _/_, _%_, _^_, _<_}
 use lib.Dec.{eqb, leb}
 use lib.ListN.{length, getD}
-use Rattle.rules.specs.Ids.{of, from, once}
+use Rattle.rules.specs.Ids.{of, from, ids}
 use Rattle.rules.specs.State.{semaphore, flag, mailbox, pool, Wait, asleep, timed, on, State, dormant, ready, suspended, waiting, waiting-suspended, depth, Body, task}
 use Rattle.rules.specs.Places.{Place, readyAt, waiters, mail, lineAt}
 use Rattle.rules.specs.View.{View}
 use Rattle.memory_rings.specs.Rings.{All, headOf}
 use Rattle.memory_columns.specs.Layout as Layout
 use Rattle.memory_columns.specs.Layout.{Column, maxPriorities, maxObjects, maxMessages, readyNode, waitNode, mailNode, same}
-use Rattle.memory_picture.specs.Picture.{kindNumber, anchor}
+use Rattle.memory_picture.specs.Picture.{maskOf, occupied, kindNumber, anchor}
 use Rattle.memory_picture.specs.Perform.{codeKept, interruptedKept}
 
 -- every entry is a 32-bit word
@@ -53,11 +53,6 @@ wordsOf (waiting w) = waitWords w
 wordsOf (waiting-suspended w) = waitWords w
 
 -- ---- objects
-
--- marks as the bits of a word, the first lowest
-unfoldable pub maskOf : List Bool → ℕ
-maskOf [] = 0
-maskOf (t ∷ l) = once t + 2 * maskOf l
 
 abbrev pub boxNumber : Option ℕ → ℕ
 boxNumber none = 0
@@ -170,6 +165,7 @@ parts b L =
     ∷ part Layout.mailPrev (mailLink b (λ q. reverse (L q)))
     ∷ part Layout.system (λ k. getD (systemWords b) k 0)
     ∷ part Layout.handling (λ k. getD (handlingWords b) k 0)
+    ∷ part Layout.nonempty (λ k. maskOf (map (λ p. occupied (L (readyAt p))) (ids (b .store .priorities))))
     ∷ []
 
 -- the memory of a view, and the marks of its messages

@@ -1,13 +1,13 @@
 -- What any memory shows (the paper's picture), as a total function: the body from the columns, the lines by bounded walks along the links.
 -- A word that is no code, status, kind or mask shows what no sound state has.
-use mathlib.Core.Bool.{Bool, cond}
+use mathlib.Core.Bool.{Bool, true, false, cond}
 use mathlib.Core.List.{List, [], _∷_, map}
 use mathlib.Core.Option.{Option, none, some}
 use mathlib.Core.Path.{_≡_}
 use Prim.Native.Nat.{ℕ, zero, suc, _+_, _*_, _/_, _%_, _^_, _<_}
 use lib.Dec.{eqb}
 use lib.ListN.{length}
-use Rattle.rules.specs.Ids.{of, ids}
+use Rattle.rules.specs.Ids.{of, ids, once}
 use Rattle.rules.specs.Codes.{Code, OK, H-STATE, E-TMOUT, E-RLWAI}
 use Rattle.rules.specs.State.{Kind, semaphore, flag, mailbox, pool, Wait, asleep, timed, on, State, dormant, ready, suspended, waiting, waiting-suspended, Task, Store, Handlers, no-handler, in-handler, Body}
 use Rattle.rules.specs.Places.{Place, readyAt, waiters, mail, Exists, tabulate}
@@ -115,6 +115,21 @@ lineShown b (mail m) = lineOf (messagesShown b) (words Layout.mailNext b) (ancho
 unfoldable pub viewShown : List ℕ → List ℕ → View
 viewShown b msgs = record { body = bodyShown b msgs; lines = tabulate (storeShown b msgs) (lineShown b) }
 
+-- ---- the word of nonempty ready queues
+
+-- marks as the bits of a word, the first lowest
+unfoldable pub maskOf : List Bool → ℕ
+maskOf [] = 0
+maskOf (t ∷ l) = once t + 2 * maskOf l
+
+abbrev pub occupied : List ℕ → Bool
+occupied [] = false
+occupied (x ∷ l) = true
+
+-- a bit for each priority, set where a task stands in its ready queue
+unfoldable pub nonemptyShown : List ℕ → ℕ
+nonemptyShown b = maskOf (map (λ p. occupied (lineShown b (readyAt p))) (ids (entry Layout.system b Layout.priorities)))
+
 -- ---- whole links
 
 -- an anchor that is in use, of tasks' queues or of mailboxes
@@ -125,12 +140,14 @@ pub data UsedByTasks (u : Store) : ℕ → Type 0 where
 pub data UsedByMail (u : Store) : ℕ → Type 0 where
   mailbox-queue : (m : ℕ) → Exists u (mail m) → UsedByMail u (anchor (mail m))
 
--- the memory has its size, the clock's low half is a word, and the links are rings, forwards and backwards
+-- the memory has its size, the clock's low half is a word, the links are rings, forwards and backwards, and the word of nonempty ready queues
+-- is that of the rings
 pub record Whole (b msgs : List ℕ) : Type 0 where
   pub size : length b ≡ stateWords
   pub marks : length msgs ≡ maxMessages
   pub low : entry Layout.system b Layout.clockLow < 2 ^ 32
   pub tasks : Linked (tasksShown b) (UsedByTasks (storeShown b msgs)) (words Layout.next b) (words Layout.prev b) (lineOf (tasksShown b) (words Layout.next b))
+  pub word : entry Layout.nonempty b 0 ≡ nonemptyShown b
   pub mails : Linked (messagesShown b) (UsedByMail (storeShown b msgs)) (words Layout.mailNext b) (words Layout.mailPrev b) (lineOf (messagesShown b) (words Layout.mailNext b))
 
 -- the memory shows the view

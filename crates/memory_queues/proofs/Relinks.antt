@@ -1,11 +1,11 @@
 -- What a move of a task or a message makes of each column. Assumes nothing.
 use mathlib.Core.Bool.{Bool, true, false, cond}
 use mathlib.Core.List.{List, [], _∷_}
-use mathlib.Core.Path.{_≡_, refl, _∙_, subst}
-use Prim.Native.Nat.{ℕ, _+_, _≤_, _<_}
+use mathlib.Core.Path.{_≡_, refl, ap, _∙_, subst}
+use Prim.Native.Nat.{ℕ, _+_, _-_, _≤_, _<_}
 use native.Mathlib.Nat.{add-zero}
 use native.Mathlib.Omega.{arith}
-use lib.Dec.{leb}
+use lib.Dec.{leb, lit<}
 use lib.ListN.{length, getD, set}
 use lib.Seq.{getD-set-same}
 use borrow.Author.Tests.{leb-true}
@@ -13,9 +13,10 @@ use Rattle.memory_rings.specs.Columns.{col, splice}
 use Rattle.memory_rings.specs.Links.{pushNext, pushPrev, leftNext, leftPrev, half, nexts, prevs, pushed, left, cleared}
 use Rattle.memory_rings.proofs.Columns.{length-col, col-splice-inside}
 use Rattle.memory_rings.proofs.Halves.{nexts-pushed, prevs-pushed, length-pushed, nexts-left, prevs-left, length-left, nexts-cleared, prevs-cleared, length-cleared}
-use Rattle.memory_columns.specs.Layout.{Column, stateWords, fits, back, both, next, prev, mailNext, mailPrev, words, Only}
-use Rattle.memory_columns.proofs.Frame.{Sized, fits-in, words-length, nexts-both, prevs-both, splice-size, splice-only}
-use Rattle.memory_queues.specs.Moves.{queued, unqueued, clearedQueue, mailed, unmailed, clearedMail}
+use Rattle.memory_columns.specs.Layout.{Column, stateWords, fits, back, both, next, prev, mailNext, mailPrev, nonempty, isReadyNode, links, readyNode, words, entry, put, Only}
+use Rattle.memory_columns.specs.Bits.{masked}
+use Rattle.memory_columns.proofs.Frame.{Sized, fits-in, words-length, put-size, put-only, entry-put, nexts-both, prevs-both, splice-size, splice-only, only-both, only-none}
+use Rattle.memory_queues.specs.Moves.{noted, annotated, inhabited, relinked as relinkedWords, unlinked, queued, unqueued, clearedQueue, mailed, unmailed, clearedMail}
 
 -- ---- rings: the links forth in column n, and the links back behind them, are others
 
@@ -55,13 +56,13 @@ module _ (b : List ℕ) (size : Sized b) where
     clear a = rw (← nexts-both n b size k, ← prevs-both n b size k, ← nexts-cleared, ← prevs-cleared) (relinked (cleared a (words (both n) b)) (length-cleared a (words (both n) b) ∙ long))
 
   -- the rings of tasks, and those of messages
-  pub queued-law : (a t : ℕ) → Relinked next b (queued a t b) (pushNext (words next b) (words prev b) a t) (pushPrev (words prev b) a t)
-  unfolding queued
-  queued-law = push next refl
+  relinked-law : (a t : ℕ) → Relinked next b (relinkedWords a t b) (pushNext (words next b) (words prev b) a t) (pushPrev (words prev b) a t)
+  unfolding relinkedWords
+  relinked-law = push next refl
 
-  pub unqueued-law : (t : ℕ) → Relinked next b (unqueued t b) (leftNext (words next b) (words prev b) t) (leftPrev (words next b) (words prev b) t)
-  unfolding unqueued
-  unqueued-law = take-out next refl
+  unlinked-law : (t : ℕ) → Relinked next b (unlinked t b) (leftNext (words next b) (words prev b) t) (leftPrev (words next b) (words prev b) t)
+  unfolding unlinked
+  unlinked-law = take-out next refl
 
   pub cleared-queue-law : (a : ℕ) → Relinked next b (clearedQueue a b) (set (words next b) a a) (set (words prev b) a a)
   unfolding clearedQueue
@@ -86,3 +87,61 @@ module _ (b : List ℕ) (size : Sized b) where
       go : (t : Bool) → leb (p + q) stateWords ≡ t → getD (set (col p q b) i v) i 0 ≡ cond t v (getD (set (col p q b) i v) i 0)
       go true e = getD-set-same (col p q b) i v 0 (rw (length-col p q b (rw size (leb-true _ _ e))) h)
       go false e = refl
+
+-- ---- the rings of tasks with the word of nonempty ready queues
+
+pub record Requeued (b c nx pv : List ℕ) (w : ℕ) : Type 0 where
+  pub size : Sized c
+  pub only : Only (links ∷ nonempty ∷ []) b c
+  pub next : words next c ≡ nx
+  pub prev : words prev c ≡ pv
+  pub word : entry nonempty c 0 ≡ w
+
+module _ (a : ℕ) (x : Bool) (c : List ℕ) (h : Sized c) where
+  annotated-size : Sized (annotated a x c)
+  unfolding annotated
+  annotated-size = go (isReadyNode a)
+    where
+      go : (t : Bool) → Sized (cond t (put nonempty 0 (masked (entry nonempty c 0) (a - readyNode 1) x) c) c)
+      go true = put-size nonempty 0 _ c h
+      go false = h
+
+  annotated-only : Only (nonempty ∷ []) c (annotated a x c)
+  unfolding annotated
+  annotated-only = go (isReadyNode a)
+    where
+      go : (t : Bool) → Only (nonempty ∷ []) c (cond t (put nonempty 0 (masked (entry nonempty c 0) (a - readyNode 1) x) c) c)
+      go true = put-only nonempty 0 _ c
+      go false = only-none (nonempty ∷ []) c
+
+  annotated-word : entry nonempty (annotated a x c) 0 ≡ noted a x (entry nonempty c 0)
+  unfolding annotated
+  annotated-word = go (isReadyNode a)
+    where
+      go : (t : Bool) → entry nonempty (cond t (put nonempty 0 (masked (entry nonempty c 0) (a - readyNode 1) x) c) c) 0 ≡ cond t (masked (entry nonempty c 0) (a - readyNode 1) x) (entry nonempty c 0)
+      go true = entry-put nonempty 0 _ c h refl (lit< tt)
+      go false = refl
+
+-- others are the links, then the mark
+requeued : {b c nx pv : List ℕ} (a : ℕ) (x : Bool) → Relinked next b c nx pv → Requeued b (annotated a x c) nx pv (noted a x (entry nonempty b 0))
+requeued {b} {c} a x R = record {
+  size = annotated-size a x c (R .size);
+  only = only-both (R .only) (annotated-only a x c (R .size));
+  next = annotated-only a x c (R .size) .kept next refl ∙ R .next;
+  prev = annotated-only a x c (R .size) .kept prev refl ∙ R .prev;
+  word = annotated-word a x c (R .size) ∙ ap (λ (l : List ℕ). noted a x (getD l 0 0)) (R .only .kept nonempty refl);
+}
+
+module _ (b : List ℕ) (size : Sized b) where
+  pub queued-law : (a t : ℕ) → Requeued b (queued a t b) (pushNext (words next b) (words prev b) a t) (pushPrev (words prev b) a t) (noted a true (entry nonempty b 0))
+  unfolding queued
+  queued-law a t = requeued a true (relinked-law b size a t)
+
+  pub unqueued-law : (t : ℕ) → Requeued b (unqueued t b) (leftNext (words next b) (words prev b) t) (leftPrev (words next b) (words prev b) t)
+      (noted (entry next b t) (inhabited (leftNext (words next b) (words prev b) t) (entry next b t)) (entry nonempty b 0))
+  unfolding unqueued
+  unqueued-law t =
+      let R = unlinked-law b size t in
+      let n : ℕ = entry next b t in
+      subst (λ (l : List ℕ). Requeued b (annotated n (inhabited (words next (unlinked t b)) n) (unlinked t b)) (leftNext (words next b) (words prev b) t) (leftPrev (words next b) (words prev b) t)
+      (noted n (inhabited l n) (entry nonempty b 0))) (R .next) (requeued n (inhabited (words next (unlinked t b)) n) R)

@@ -1,4 +1,6 @@
 // The queues: rings of tasks and of messages, over the crate `memory_rings`.
+use memory_columns::FIRST_READY;
+use memory_columns::LAST_READY;
 use memory_columns::LINKS;
 use memory_columns::LINKS_END;
 use memory_columns::MAIL_ANCHORS;
@@ -10,6 +12,9 @@ use memory_columns::POOL;
 use memory_columns::READY_ANCHORS;
 use memory_columns::STATE_WORDS;
 use memory_columns::WAIT_ANCHORS;
+use memory_columns::bits::with_bit;
+use memory_columns::nonempty;
+use memory_columns::set_nonempty;
 ghost use mathlib.Core.Path.{_≡_};
 ghost use Prim.Native.Nat.{_-_, _≤_};
 ghost use lib.ListN.{length};
@@ -18,7 +23,7 @@ ghost use Rattle.memory_rings.specs.Links.{nexts, firstOf, pushed, left, cleare
 ghost use Rattle.memory_columns.specs.Layout as Layout;
 ghost use Rattle.memory_columns.specs.Layout.{words as wordsOf};
 ghost use Rattle.memory_columns.specs.Layout.{entry};
-ghost use Rattle.memory_queues.specs.Moves.{readyAnchor, waitAnchor, mailAnchor, queued, unqueued, clearedQueue, mailed, unmailed, clearedMail};
+ghost use Rattle.memory_queues.specs.Moves.{readyAnchor, waitAnchor, mailAnchor, annotated, queued, unqueued, clearedQueue, mailed, unmailed, clearedMail};
 
 // The anchor of the ready queue of a priority; 0 for a number that is none.
 pub fn ready_anchor(priority: u32) -> u32
@@ -79,18 +84,37 @@ fn clear_in(all: &mut [u32], from: usize, to: usize, anchor: u32)
     memory_rings::clear(&mut all[from..to], anchor);
 }
 
+// The mark of an anchor in the word of nonempty ready queues; an anchor that is no ready queue's has none.
+fn note(words: &mut [u32; STATE_WORDS], anchor: u32, yes: bool)
+    ensures { λ _. ⌜ now (words .exit) ≡ annotated anchor yes (now (words .entry)) ⌝ }
+{
+    if anchor < FIRST_READY {
+        return;
+    }
+    if LAST_READY < anchor {
+        return;
+    }
+    let marks = nonempty(words);
+    set_nonempty(words, with_bit(marks, anchor - FIRST_READY, yes));
+}
+
 // Task t goes last in the queue of an anchor.
 pub fn push(words: &mut [u32; STATE_WORDS], anchor: u32, t: u32)
     ensures { λ _. ⌜ now (words .exit) ≡ queued anchor t (now (words .entry)) ⌝ }
 {
     push_in(words, LINKS, LINKS_END, anchor, t);
+    note(words, anchor, true);
 }
 
-// Task t leaves the queue in which it stands, if it stands in one.
+// Task t leaves the queue in which it stands, if it stands in one. Only if it was the last one there, its queue may be empty then, and the node
+// behind it was the anchor.
 pub fn leave(words: &mut [u32; STATE_WORDS], t: u32)
     ensures { λ _. ⌜ now (words .exit) ≡ unqueued t (now (words .entry)) ⌝ }
 {
+    let behind = follow(words, t);
     leave_in(words, LINKS, LINKS_END, t);
+    let more = first(words, behind) != 0;
+    note(words, behind, more);
 }
 
 // The queue of an anchor is made empty, where no task has a link yet.

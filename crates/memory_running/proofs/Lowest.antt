@@ -1,4 +1,5 @@
--- The word of marks has the bit p - 1 set just where the ready queue of priority p is nonempty, so its lowest bit names the first nonempty one. Assumes nothing.
+-- The word of marks has the bit p - 1 set just where the ready queue of priority p is nonempty; the lowest bit of such a word names the first
+-- nonempty queue. Assumes nothing.
 use mathlib.Core.Bool.{Bool, true, false, cond}
 use mathlib.Core.List.{List, [], _∷_, map}
 use mathlib.Core.Path.{_≡_, refl, _∙_}
@@ -8,10 +9,11 @@ use native.Mathlib.Omega.{arith}
 use lib.Bits.{bitOr, or-shifted-r}
 use lib.Dec.{eqb}
 use borrow.Author.Tests.{eq-eqb, ne-eqb}
-use Rattle.rules.specs.Ids.{from, first}
+use Rattle.rules.specs.Ids.{from, first, once}
 use Rattle.rules.specs.View.{nonempty}
 use Rattle.memory_rings.specs.Rings.{IsId, All, headOf}
 use Rattle.memory_columns.specs.Layout.{maxPriorities}
+use Rattle.memory_picture.specs.Picture.{maskOf, occupied}
 use Rattle.memory_running.specs.Running.{headAt, marksOf, lowestMark}
 
 module _ (b : List ℕ) where
@@ -50,31 +52,55 @@ pub head-of : (n v : ℕ) (l : List ℕ) → v ≡ headOf l 0 → All (IsId n) l
 head-of n v [] e h = e
 head-of n v (x ∷ l) e h = (e, h .0 .0)
 
+-- ---- the word as the queues have it
+
 module _ (b : List ℕ) (L : ℕ → List ℕ) where
-  -- the head of the queue that the lowest of n bits names, in the marks of k priorities from p on
-  lowest-word : (n k p : ℕ) → n ≤ k → ((q : ℕ) → p < q → q ≤ p + n → HeadOf (headAt b q) (L q))
-      → cond (eqb (lowestMark n (suc p) (word b k (suc p))) 0) 0 (headAt b (lowestMark n (suc p) (word b k (suc p)))) ≡ first (nonempty (map L (from (suc p) n)))
-  unfolding word lowestMark
-  lowest-word zero k p h f = refl
-  lowest-word (suc n) zero p h f = absurd (omega arith)
-  lowest-word (suc n) (suc k) p h f = go (L (suc p)) refl (f (suc p) (omega arith) (omega arith)) (lowest-word n k (suc p) (omega arith) (λ q a c. f q (omega arith) (omega arith)))
+  word-mask : (n p : ℕ) → ((q : ℕ) → p < q → q ≤ p + n → HeadOf (headAt b q) (L q)) → word b n (suc p) ≡ maskOf (map (λ q. occupied (L q)) (from (suc p) n))
+  unfolding word maskOf
+  word-mask zero p f = refl
+  word-mask (suc n) p f = go (L (suc p)) refl (f (suc p) (omega arith) (omega arith)) (word-mask n (suc p) (λ q a c. f q (omega arith) (omega arith)))
+    where
+      go : (l : List ℕ) → L (suc p) ≡ l → HeadOf (headAt b (suc p)) l → word b n (suc (suc p)) ≡ maskOf (map (λ q. occupied (L q)) (from (suc (suc p)) n))
+          → cond (eqb (headAt b (suc p)) 0) 0 1 + 2 * word b n (suc (suc p)) ≡ once (occupied (L (suc p))) + 2 * maskOf (map (λ q. occupied (L q)) (from (suc (suc p)) n))
+      go [] e v r = rw (e, eq-eqb (headAt b (suc p)) 0 v, r)
+      go (x ∷ l) e v r = rw (e, ne-eqb (headAt b (suc p)) 0 (λ z. omega (arith, v .0, v .1)), r)
+
+  pub marks-mask : (n : ℕ) → ((q : ℕ) → 1 ≤ q → q ≤ n → HeadOf (headAt b q) (L q)) → marksOf n 1 0 b ≡ maskOf (map (λ q. occupied (L q)) (from 1 n))
+  marks-mask n f = rw (marks-word b n 0 0 (omega arith), one-mul (word b n 1), zero-add (word b n 1)) (word-mask n 0 (λ q a c. f q a (omega arith)))
+
+-- ---- the lowest bit of such a word
+
+lowest-zero : (k p : ℕ) → lowestMark k p 0 ≡ 0
+unfolding lowestMark
+lowest-zero zero p = refl
+lowest-zero (suc k) p = lowest-zero k (suc p)
+
+module _ (b : List ℕ) (L : ℕ → List ℕ) where
+  -- it names the first nonempty queue of n priorities from p on
+  lowest-mask : (n k p : ℕ) → n ≤ k → ((q : ℕ) → p < q → q ≤ p + n → HeadOf (headAt b q) (L q))
+      → cond (eqb (lowestMark k (suc p) (maskOf (map (λ q. occupied (L q)) (from (suc p) n)))) 0) 0 (headAt b (lowestMark k (suc p) (maskOf (map (λ q. occupied (L q)) (from (suc p) n)))))
+      ≡ first (nonempty (map L (from (suc p) n)))
+  unfolding lowestMark maskOf
+  lowest-mask zero k p h f = rw (lowest-zero k (suc p))
+  lowest-mask (suc n) zero p h f = absurd (omega arith)
+  lowest-mask (suc n) (suc k) p h f = go (L (suc p)) refl (f (suc p) (omega arith) (omega arith)) (lowest-mask n k (suc p) (omega arith) (λ q a c. f q (omega arith) (omega arith)))
     where
       W : ℕ
-      W = word b k (suc (suc p))
+      W = maskOf (map (λ q. occupied (L q)) (from (suc (suc p)) n))
 
       low : ℕ → ℕ
-      low w = cond (eqb (w % 2) 1) (suc p) (lowestMark n (suc (suc p)) (w / 2))
+      low w = cond (eqb (w % 2) 1) (suc p) (lowestMark k (suc (suc p)) (w / 2))
 
       go : (l : List ℕ) → L (suc p) ≡ l → HeadOf (headAt b (suc p)) l
-          → cond (eqb (lowestMark n (suc (suc p)) W) 0) 0 (headAt b (lowestMark n (suc (suc p)) W)) ≡ first (nonempty (map L (from (suc (suc p)) n)))
-          → cond (eqb (low (cond (eqb (headAt b (suc p)) 0) 0 1 + 2 * W)) 0) 0 (headAt b (low (cond (eqb (headAt b (suc p)) 0) 0 1 + 2 * W))) ≡ first (nonempty (L (suc p) ∷ map L (from (suc (suc p)) n)))
-      go [] e v r = rw (e, eq-eqb (headAt b (suc p)) 0 v, ne-eqb ((0 + 2 * W) % 2) 1 (omega arith), half) r
+          → cond (eqb (lowestMark k (suc (suc p)) W) 0) 0 (headAt b (lowestMark k (suc (suc p)) W)) ≡ first (nonempty (map L (from (suc (suc p)) n)))
+          → cond (eqb (low (once (occupied (L (suc p))) + 2 * W)) 0) 0 (headAt b (low (once (occupied (L (suc p))) + 2 * W))) ≡ first (nonempty (L (suc p) ∷ map L (from (suc (suc p)) n)))
+      go [] e v r = rw (e, ne-eqb ((0 + 2 * W) % 2) 1 (omega arith), half) r
         where
           half : (0 + 2 * W) / 2 ≡ W
           half = omega arith
-      go (x ∷ l) e v r = rw (e, ne-eqb (headAt b (suc p)) 0 (λ z. omega (arith, v .0, v .1)), eq-eqb ((1 + 2 * W) % 2) 1 (omega arith), ne-eqb (suc p) 0 (λ z. omega arith)) (v .0)
+      go (x ∷ l) e v r = rw (e, eq-eqb ((1 + 2 * W) % 2) 1 (omega arith), ne-eqb (suc p) 0 (λ z. omega arith)) (v .0)
 
-  -- the marks of all priorities, searched for those from 1 to n
+  -- of priorities 1 to n
   pub lowest-first : (n : ℕ) → n ≤ maxPriorities → ((q : ℕ) → 1 ≤ q → q ≤ n → HeadOf (headAt b q) (L q))
-      → cond (eqb (lowestMark n 1 (marksOf maxPriorities 1 0 b)) 0) 0 (headAt b (lowestMark n 1 (marksOf maxPriorities 1 0 b))) ≡ first (nonempty (map L (from 1 n)))
-  lowest-first n h f = rw (marks-word b maxPriorities 0 0 (omega arith), one-mul (word b maxPriorities 1), zero-add (word b maxPriorities 1)) (lowest-word n maxPriorities 0 h (λ q a c. f q a (omega arith)))
+      → cond (eqb (lowestMark 32 1 (maskOf (map (λ q. occupied (L q)) (from 1 n)))) 0) 0 (headAt b (lowestMark 32 1 (maskOf (map (λ q. occupied (L q)) (from 1 n))))) ≡ first (nonempty (map L (from 1 n)))
+  lowest-first n h f = lowest-mask n 32 0 (omega arith) (λ q a c. f q a (omega arith))

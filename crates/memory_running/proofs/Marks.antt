@@ -13,9 +13,9 @@ use Rattle.rules.specs.State.{Handlers, no-handler, in-handler, isOpen}
 use Rattle.rules.specs.View.{reported}
 use Rattle.memory_rings.specs.Links.{firstOf}
 use Rattle.memory_columns.specs.Layout as Layout
-use Rattle.memory_columns.specs.Layout.{maxPriorities, words, entry, atMost}
+use Rattle.memory_columns.specs.Layout.{words, entry}
 use Rattle.memory_queues.specs.Moves.{readyAnchor}
-use Rattle.memory_objects.proofs.Steps.{one-bit}
+use Rattle.memory_columns.proofs.OneBit.{one-bit}
 use Rattle.memory_picture.specs.Picture.{openShown, handlersShown}
 use Rattle.memory_running.specs.Running.{headAt, marksOf, lowestMark, bestOf, runningOf}
 
@@ -64,9 +64,9 @@ module _ (p w : ℕ) (b : List ℕ) where
     marks-set zero h z k e = absurd (omega arith)
     marks-set (suc left) h z k e = rw (e, one-bit (p - 1) k, sub-one p, sub-one, add-one, ← head, ne-eqb r 0 z)
 
-module _ (b : List ℕ) {s n m p : ℕ} (es : s ≡ entry Layout.system b Layout.priorities) (en : n ≡ atMost s maxPriorities) (em : m ≡ marksOf maxPriorities 1 0 b) (ep : p ≡ lowestMark n 1 m) where
-  found : p ≡ lowestMark (atMost (entry Layout.system b Layout.priorities) maxPriorities) 1 (marksOf maxPriorities 1 0 b)
-  found = ep ∙ rw (em, en, es)
+module _ (b : List ℕ) {m p : ℕ} (em : m ≡ entry Layout.nonempty b 0) (ep : p ≡ lowestMark 32 1 m) where
+  found : p ≡ lowestMark 32 1 (entry Layout.nonempty b 0)
+  found = ep ∙ rw em
 
   pub best-none : p ≡ 0 → 0 ≡ bestOf b
   unfolding bestOf

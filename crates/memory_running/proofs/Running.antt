@@ -1,4 +1,5 @@
--- On an accepted memory the best task and the running task are the rules'. Assumes nothing.
+-- On an accepted memory the best task and the running task are the rules'; where the links are whole the word as the queues have it is the one
+-- that a whole memory has. Assumes nothing.
 use mathlib.Core.List.{List}
 use mathlib.Core.Path.{_≡_, ap, _∙_}
 use Prim.Native.Nat.{ℕ, _≤_}
@@ -8,27 +9,36 @@ use Rattle.rules.specs.Ids.{ids, first}
 use Rattle.rules.specs.Places.{readyAt, tabulate}
 use Rattle.rules.specs.View.{best, reported, running}
 use Rattle.memory_rings.specs.Links.{firstOf}
+use Rattle.memory_rings.specs.Rings.{lineOf, Linked}
 use Rattle.memory_rings.proofs.Laws.{first-law}
 use Rattle.memory_columns.specs.Layout as Layout
 use Rattle.memory_columns.specs.Layout.{maxPriorities, words, entry}
 use Rattle.memory_queues.specs.Moves.{readyAnchor}
-use Rattle.memory_picture.specs.Picture.{tasksShown, storeShown, handlersShown, bodyShown, anchor, lineShown, viewShown, ready-queue, Accepted}
-use Rattle.memory_running.specs.Running.{headAt, bestOf, runningOf}
-use Rattle.memory_running.proofs.Lowest.{HeadOf, head-of, lowest-first}
+use Rattle.memory_picture.specs.Picture.{tasksShown, storeShown, handlersShown, bodyShown, anchor, lineShown, viewShown, nonemptyShown, UsedByTasks, ready-queue, Accepted}
+use Rattle.memory_running.specs.Running.{headAt, readyMarks, bestOf, runningOf}
+use Rattle.memory_running.proofs.Lowest.{HeadOf, head-of, marks-mask, lowest-first}
+
+-- the head of a ready queue, where the links are whole
+module _ (b msgs : List ℕ) (W : Linked (tasksShown b) (UsedByTasks (storeShown b msgs)) (words Layout.next b) (words Layout.prev b) (lineOf (tasksShown b) (words Layout.next b)))
+    (few : entry Layout.system b Layout.priorities ≤ maxPriorities) where
+  head : (p : ℕ) → 1 ≤ p → p ≤ entry Layout.system b Layout.priorities → HeadOf (headAt b p) (lineShown b (readyAt p))
+  unfolding storeShown lineShown anchor
+  head p h k = head-of (tasksShown b) (headAt b p) (lineShown b (readyAt p)) (ap (firstOf (words Layout.next b)) at ∙ first-law W (anchor (readyAt p)) (ready-queue p (h, k))) (W .ring (anchor (readyAt p)) (ready-queue p (h, k)) .ids)
+    where
+      at : readyAnchor p ≡ anchor (readyAt p)
+      at = rw (le-leb p maxPriorities (omega (arith, few)))
+
+  -- the word that the check compares
+  pub marks-law : readyMarks b ≡ nonemptyShown b
+  unfolding readyMarks nonemptyShown ids
+  marks-law = rw (le-leb (entry Layout.system b Layout.priorities) maxPriorities few) (marks-mask b (λ p. lineShown b (readyAt p)) (entry Layout.system b Layout.priorities) head)
 
 pub best-law : (b msgs : List ℕ) → Accepted b msgs → bestOf b ≡ first (best (viewShown b msgs))
-unfolding bestOf viewShown tabulate ids storeShown bodyShown lineShown anchor
-best-law b msgs A = rw (le-leb (entry Layout.system b Layout.priorities) maxPriorities few) (lowest-first b (λ p. lineShown b (readyAt p)) (entry Layout.system b Layout.priorities) few head)
+unfolding bestOf nonemptyShown viewShown tabulate ids storeShown bodyShown
+best-law b msgs A = rw (A .whole .word) (lowest-first b (λ p. lineShown b (readyAt p)) (entry Layout.system b Layout.priorities) few (head b msgs (A .whole .tasks) few))
   where
     few : entry Layout.system b Layout.priorities ≤ maxPriorities
     few = A .sound .body .sizes .priorities .1
-
-    head : (p : ℕ) → 1 ≤ p → p ≤ entry Layout.system b Layout.priorities → HeadOf (headAt b p) (lineShown b (readyAt p))
-    head p h k = head-of (tasksShown b) (headAt b p) (lineShown b (readyAt p)) (ap (firstOf (words Layout.next b)) at ∙ first-law (A .whole .tasks) (anchor (readyAt p)) (ready-queue p (h, k)))
-        (A .whole .tasks .ring (anchor (readyAt p)) (ready-queue p (h, k)) .ids)
-      where
-        at : readyAnchor p ≡ anchor (readyAt p)
-        at = rw (le-leb p maxPriorities (omega (arith, few)))
 
 pub running-law : (b msgs : List ℕ) → Accepted b msgs → runningOf b ≡ running (viewShown b msgs)
 unfolding runningOf running viewShown bodyShown

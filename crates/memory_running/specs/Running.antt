@@ -1,5 +1,5 @@
--- The best task and the running task as the code finds them, for any words: a word of one-bit marks, one for each nonempty ready queue, is
--- searched for its lowest bit.
+-- The best task and the running task as the code finds them, for any words: the word of nonempty ready queues names the best one by its lowest
+-- bit. And that word as the queues have it, for the check.
 use mathlib.Core.Bool.{cond}
 use mathlib.Core.List.{List}
 use Prim.Native.Nat.{ℕ, zero, suc, pred, _/_, _%_, _^_}
@@ -21,15 +21,19 @@ unfoldable pub marksOf : ℕ → ℕ → ℕ → List ℕ → ℕ
 marksOf zero p w b = w
 marksOf (suc n) p w b = marksOf n (suc p) (cond (eqb (headAt b p) 0) w (bitOr w (2 ^ pred p))) b
 
+-- the word of nonempty ready queues as the queues have it; its bits above the priorities that the state has are 0
+unfoldable pub readyMarks : List ℕ → ℕ
+readyMarks b = marksOf (atMost (entry Layout.system b Layout.priorities) maxPriorities) 1 0 b
+
 -- the place of the lowest of k bits, the first of them being place p; 0 if none is set
 unfoldable pub lowestMark : ℕ → ℕ → ℕ → ℕ
 lowestMark zero p w = 0
 lowestMark (suc k) p w = cond (eqb (w % 2) 1) p (lowestMark k (suc p) (w / 2))
 
--- the head of the best ready queue: all priorities are marked, those that the state has are searched
+-- the head of the best ready queue, which the lowest bit of the word in the state names
 unfoldable pub bestOf : List ℕ → ℕ
 bestOf b =
-    let p : ℕ = lowestMark (atMost (entry Layout.system b Layout.priorities) maxPriorities) 1 (marksOf maxPriorities 1 0 b) in
+    let p : ℕ = lowestMark 32 1 (entry Layout.nonempty b 0) in
     cond (eqb p 0) 0 (headAt b p)
 
 -- the running task is the best; while a handler is open, the interrupted one

@@ -21,12 +21,19 @@ returns-2 : tie.Need-returns-2
 unfolding accepts
 returns-2 c = simp (failed (c .before .tasks-queued .ensures) (c .if2 .taken), and-false)
 
-mail-queued-requires : tie.Need-mail-queued-requires
-mail-queued-requires c κs = search needs
+ready-marked-requires : tie.Need-ready-marked-requires
+ready-marked-requires c κs = search needs
 
 returns-3 : tie.Need-returns-3
 unfolding accepts
-returns-3 c = simp (failed (c .before .mail-queued .ensures) (c .if3 .taken), and-false)
+returns-3 c = simp (failed (c .before .ready-marked .ensures) (c .if3 .taken), and-false)
+
+mail-queued-requires : tie.Need-mail-queued-requires
+mail-queued-requires c κs = search needs
+
+returns-4 : tie.Need-returns-4
+unfolding accepts
+returns-4 c = simp (failed (c .before .mail-queued .ensures) (c .if4 .taken), and-false)
 
 system-requires : tie.Need-system-requires
 system-requires c κs = search needs
@@ -37,18 +44,20 @@ at-most-requires c κs = search needs
 all-unserved-requires : tie.Need-all-unserved-requires
 all-unserved-requires c κs = search needs
 
-returns-4 : tie.Need-returns-4
+returns-5 : tie.Need-returns-5
 unfolding accepts
-returns-4 c =
+returns-5 c =
     let a = c .before in
-    let i3 = a .before .before in
+    let i4 = a .before .before in
+    let i3 = i4 .before .before in
     let i2 = i3 .before .before in
     let i1 = i2 .before .before in
     let r = passed (i1 .before .ranges-ok .ensures) (i1 .if1 .left) in
     also r
     (also (passed (i2 .before .tasks-queued .ensures) (i2 .if2 .left))
-    (also (passed (i3 .before .mail-queued .ensures) (i3 .if3 .left))
-    (loop-is _ (a .before .system .ensures) (a .at-most .ensures) (c .all-unserved .ensures) (few-ranges _ _ r .tasks))))
+    (also (passed (i3 .before .ready-marked .ensures) (i3 .if3 .left))
+    (also (passed (i4 .before .mail-queued .ensures) (i4 .if4 .left))
+    (loop-is _ (a .before .system .ensures) (a .at-most .ensures) (c .all-unserved .ensures) (few-ranges _ _ r .tasks)))))
 
 pub accepts-test-spec : {M : Type 1} → statement M
 accepts-test-spec =
@@ -58,9 +67,11 @@ accepts-test-spec =
     returns
     tasks-queued-requires
     returns-2
-    mail-queued-requires
+    ready-marked-requires
     returns-3
+    mail-queued-requires
+    returns-4
     system-requires
     at-most-requires
     all-unserved-requires
-    returns-4)
+    returns-5)
