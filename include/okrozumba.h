@@ -19,7 +19,7 @@ extern "C" {
 
 /* ---- the state */
 
-#define OKROZUMBA_STATE_WORDS 1182
+#define OKROZUMBA_STATE_WORDS 1183
 #define OKROZUMBA_MESSAGES 256
 
 /* The kernel's memory, 5752 bytes. Only the functions below give its words a meaning. A copy of it is a second kernel in the same state. */

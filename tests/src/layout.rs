@@ -1,7 +1,7 @@
 //! The kernel's memory as it is described: docs/ARCHITECTURE.md, the table of columns (crates/memory_columns/specs/Layout.antt) and what their words stand
 //! for (crates/memory_picture/specs/Picture.antt). What any two arrays show, and arrays that show a picture. An id is an index into a column; entry
 //! 0 is unused.
-use crate::picture::{Breach, Object, Picture, Queues, Standing, Task, Wait};
+use crate::picture::{Breach, Object, Picture, Queues, Standing, Task, Wait, NONEMPTY_RULE};
 use okrozumba::{State, MESSAGES, STATE_WORDS};
 
 /// Words of a column: where it begins. Its entries are found by id.
@@ -25,6 +25,7 @@ const FREE: Column = Column(607);
 const SIZE: Column = Column(616);
 const SYSTEM: Column = Column(1171);
 const HANDLING: Column = Column(1180);
+const NONEMPTY: Column = Column(1182);
 
 /// The two directions of links, and the number of their nodes.
 #[derive(Clone, Copy)]
@@ -70,6 +71,15 @@ const INTERRUPTED: u32 = 1;
 
 /// A cell's code as the memory has it.
 const CELL_CODES: [i32; 3] = [0, -3413, -3414];
+
+/// The word of nonempty ready queues: bit p - 1 is that of priority p.
+fn nonempty(ready: &Queues) -> u32 {
+    (0..)
+        .zip(ready)
+        .filter(|(_, queue)| !queue.is_empty())
+        .map(|(bit, _)| 1 << bit)
+        .sum()
+}
 
 struct Reader<'a> {
     words: &'a [u32; STATE_WORDS],
@@ -221,6 +231,9 @@ impl Reader<'_> {
             pool_waiters: of_tasks(POOL_ANCHORS, pools)?,
             mail: self.queues(MAIL_LINKS, MAIL_ANCHORS, mailboxes, messages)?,
         };
+        if self.at(NONEMPTY, 0) != nonempty(&shown.ready) {
+            return Err(NONEMPTY_RULE);
+        }
         self.rest_unlinked(TASK_LINKS, tasks, &shown.task_queues())?;
         self.rest_unlinked(MAIL_LINKS, messages, &[&shown.mail])?;
         Ok(shown)
@@ -343,6 +356,7 @@ impl Writer {
         for id in 1..=p.messages.len() as u32 {
             self.put(MAIL_LINKS.next, id, 0);
         }
+        self.put(NONEMPTY, 0, nonempty(&p.ready));
         self.queues(TASK_LINKS, READY_ANCHORS, &p.ready);
         self.queues(TASK_LINKS, SEMAPHORE_ANCHORS, &p.semaphore_waiters);
         self.queues(TASK_LINKS, FLAG_ANCHORS, &p.flag_waiters);
@@ -371,6 +385,13 @@ pub fn drawn(p: &Picture, mut any: impl FnMut() -> u32) -> State {
     messages[..p.messages.len()].copy_from_slice(&p.messages);
     w.links(p);
     State::of(w.words, messages)
+}
+
+/// The memory with one bit of the word of nonempty ready queues changed.
+pub fn with_ready_bit_changed(state: &State, bit: u32) -> State {
+    let mut words = *state.words();
+    words[NONEMPTY.0] ^= 1 << bit;
+    State::of(words, *state.messages())
 }
 
 /// The memory with any depth and interrupted task.

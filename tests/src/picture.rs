@@ -91,6 +91,7 @@ pub struct Picture {
 pub type Breach = &'static str;
 pub const DEPTH_RULE: Breach = "depth of handlers";
 pub const INTERRUPTED_RULE: Breach = "interrupted task";
+pub const NONEMPTY_RULE: Breach = "word of nonempty ready queues";
 
 pub const TICKS_MOST: u32 = 2_147_483_647;
 pub const CLOCK_END: u64 = 1 << 48;

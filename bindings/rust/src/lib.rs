@@ -42,7 +42,7 @@ pub mod code;
 pub mod playback;
 
 /// Words of a state, without the marks of the messages.
-pub const STATE_WORDS: usize = 1182;
+pub const STATE_WORDS: usize = 1183;
 /// Messages that a state has room for.
 pub const MESSAGES: usize = 256;
 /// Words of an event in [`State::events`]: kind, number, a, b, c.

@@ -4,7 +4,7 @@ use crate::pair::{serve, Pair};
 use crate::Verdict;
 use okrozumba::{code, Answer, State, MESSAGES, STATE_WORDS};
 use second::layout;
-use second::picture::{Breach, Picture, DEPTH_RULE, INTERRUPTED_RULE};
+use second::picture::{Breach, Picture, DEPTH_RULE, INTERRUPTED_RULE, NONEMPTY_RULE};
 use second::plain::{Event, Plain};
 use second::random::Random;
 use second::script::{self, Author, SIZES};
@@ -21,13 +21,13 @@ struct Tally {
     damaged: u64,
     sound: u64,
     events: u64,
-    /// Damaged by a rule on handlers.
-    handlers: [u64; HANDLER_RULES.len()],
+    /// Damaged by a rule on handlers, or by the word of nonempty ready queues.
+    named: [u64; NAMED_RULES.len()],
     /// Sound, with a handler open.
     open: u64,
 }
 
-const HANDLER_RULES: [Breach; 2] = [DEPTH_RULE, INTERRUPTED_RULE];
+const NAMED_RULES: [Breach; 3] = [DEPTH_RULE, INTERRUPTED_RULE, NONEMPTY_RULE];
 
 // ---- what a memory must answer
 
@@ -119,7 +119,7 @@ impl Tally {
         match layout::shown(state) {
             Err(rule) => {
                 self.damaged += 1;
-                for (times, named) in self.handlers.iter_mut().zip(HANDLER_RULES) {
+                for (times, named) in self.named.iter_mut().zip(NAMED_RULES) {
                     *times += u64::from(named == rule);
                 }
                 answers_damage(state, rule, &events)
@@ -209,6 +209,18 @@ fn each_word(tally: &mut Tally, random: &mut Random, base: &State) -> Result<(),
                 tally.judge(&with_word(base, at, word))?;
             }
         }
+    }
+    Ok(())
+}
+
+/// Each bit of the word of nonempty ready queues by itself, above the priorities too.
+fn each_ready_bit(tally: &mut Tally, base: &State) -> Result<(), String> {
+    for bit in 0..u32::BITS {
+        let state = layout::with_ready_bit_changed(base, bit);
+        if layout::shown(&state) != Err(NONEMPTY_RULE) {
+            return Err(format!("bit {bit} of the word changed, and no other rule"));
+        }
+        tally.judge(&state)?;
     }
     Ok(())
 }
@@ -335,6 +347,7 @@ pub fn check() -> Verdict {
         let base = base(random, seed)?;
         let named = |d| format!("base {seed}: {d}");
         each_word(&mut tally, random, &base).map_err(named)?;
+        each_ready_bit(&mut tally, &base).map_err(named)?;
         for _ in 0..SETS {
             tally.judge(&random_set(random, &base)).map_err(named)?;
         }
@@ -343,12 +356,12 @@ pub fn check() -> Verdict {
     for seed in 0..MISPLACED {
         misplaced(&mut tally, seed).map_err(|d| format!("misplaced {seed}: {d}"))?;
     }
-    let [depth, interrupted] = tally.handlers;
+    let [depth, interrupted, nonempty] = tally.named;
     if [depth, interrupted, tally.open].contains(&0) {
         return Err("too little tested of handlers".to_string());
     }
     Ok(format!(
-        "{} damaged memories refused, {depth} of them for the depth of handlers, {interrupted} for the interrupted task; {} still sound accepted, {} of them with a handler open; {} events",
+        "{} damaged memories refused, {depth} of them for the depth of handlers, {interrupted} for the interrupted task, {nonempty} for the word of nonempty ready queues; {} still sound accepted, {} of them with a handler open; {} events",
         tally.damaged, tally.sound, tally.open, tally.events
     ))
 }
