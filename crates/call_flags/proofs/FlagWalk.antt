@@ -22,11 +22,13 @@ use Rattle.rules.specs.Places.{waiters, aTask, waitsOn, awaits, belongs, popula
 use Rattle.rules.specs.Acts.{Act, release, pattern, after, move, releasedMove}
 use Rattle.rules.specs.Releases.{releases}
 use Rattle.rules.specs.View.{View, line, moved, act}
-use Rattle.rules.specs.Objects.{left, serve-flag, set-flg}
+use Rattle.rules.specs.Objects.{clears, set-flg}
+use Rattle.rules.specs.FlagWalk.{serve-until-clear}
 use Rattle.rules.proofs.Ids.{length-put, of-put-other, times-append, times-head}
 use Rattle.rules.proofs.Lines.{line-act}
 use Rattle.rules.proofs.Queues.{stands-belongs, stands-known, body-act}
-use Rattle.rules.proofs.Calls.{left-small, released-self}
+use Rattle.rules.proofs.Calls.{released-self}
+use Rattle.rules.proofs.FlagWalk.{walk-stops}
 use Rattle.memory_rings.specs.Rings.{Out, Stands, Distinct, headOf, without, lineOf, Ring}
 use Rattle.memory_rings.proofs.Lists.{stands-out, out-rest, without-mid, few}
 use Rattle.memory_rings.proofs.Ways.{head-link}
@@ -47,7 +49,8 @@ use Rattle.call_words.proofs.Verdicts.{gives-acts}
 use Rattle.call_words.proofs.Tasks.{tasks-count, task-shown, few-tasks}
 use Rattle.call_words.proofs.Performing.{shows, accepts}
 use Rattle.call_objects.proofs.Waiters.{there, anchor-is, line-is}
-use Rattle.call_flags.specs.Serving.{Walk, made, metAt, servedAt, lookedAt, walked, served}
+use Rattle.call_flags.specs.Serving.{Walk, made, metAt, lookedAt, walked, served, leftBy}
+use Rattle.call_flags.proofs.FlagSteps.{walk-cleared}
 use Rattle.call_flags.proofs.FlagCalls.{pattern-read}
 
 -- ---- what a waiter on a flag asks for
@@ -85,7 +88,7 @@ released-line k o x c w b l h = go (task b x .state) h
 
 -- ---- a moment of the walk
 
--- `seen` were looked at and wait on, `rest` are to come; they wait as in the state b before the call
+-- `seen` were looked at and wait on, `rest` are to come; they wait as in the state b before the call. `have` is the pattern.
 record At (b : Body) (m : List ℕ) (i n : ℕ) (c : List ℕ) (have : ℕ) (seen rest : List ℕ) : Type 0 where
   accepted : Accepted c m
   exists : In i (objects (viewShown c m .body .store) flag)
@@ -141,33 +144,32 @@ module _ {b : Body} {m : List ℕ} {i n : ℕ} {c : List ℕ} {have : ℕ} {seen
   distinct = subst Distinct shown (once-law (P .accepted .whole .tasks) (anchor (waiters flag i)) used)
 
   -- it is released
-  module _ (k : ℕ) where
-    A′ : Accepted (released x 0 have c) m
-    unfolding performed performedMarks viewShown
-    A′ = accepts (release x OK have) c m (P .accepted) (inl (refl, P .small)) known
+  A′ : Accepted (released x 0 have c) m
+  unfolding performed performedMarks viewShown
+  A′ = accepts (release x OK have) c m (P .accepted) (inl (refl, P .small)) known
 
-    view : viewShown (released x 0 have c) m ≡ act (release x OK have) v
-    unfolding performed performedMarks
-    view = shows (release x OK have) c m (P .accepted) (inl (refl, P .small)) (unfold viewShown in known) .view
+  view : viewShown (released x 0 have c) m ≡ act (release x OK have) v
+  unfolding performed performedMarks
+  view = shows (release x OK have) c m (P .accepted) (inl (refl, P .small)) (unfold viewShown in known) .view
 
-    body : viewShown (released x 0 have c) m .body ≡ after (release x OK have) (v .body)
-    body = ap (λ (w : View). w .body) view ∙ body-act (release x OK have) v
+  body : viewShown (released x 0 have c) m .body ≡ after (release x OK have) (v .body)
+  body = ap (λ (w : View). w .body) view ∙ body-act (release x OK have) v
 
-    freed : At b m i n (released x 0 have c) (left have k) seen rest
-    unfolding after
-    freed = record {
-      accepted = A′;
-      exists = rw body (P .exists);
-      count = ap (λ (d : Body). length (d .tasks)) body ∙ length-put (v .body .tasks) x _ ∙ P .count;
-      queue =
-          ap (λ (w : View). line w (waiters flag i)) view ∙ line-act (release x OK have) v (waiters flag i) (P .exists)
-          ∙ released-line flag i x OK have (v .body) _ belongs-there ∙ ap (without x) (P .queue) ∙ without-mid x seen rest distinct;
-      same = λ y s. ap (λ (d : Body). task d y) body ∙ of-put-other (v .body .tasks) x y _ nobody (ne-eqb x y (other y s)) ∙ P .same y (inr s);
-      small = left-small have k (P .small);
-    }
-      where
-        other : (y : ℕ) → Stands y rest → x ≢ y
-        other y s e = stands-out y rest s (subst (λ (z : ℕ). Out z rest) e (out-rest seen x rest distinct))
+  freed : At b m i n (released x 0 have c) have seen rest
+  unfolding after
+  freed = record {
+    accepted = A′;
+    exists = rw body (P .exists);
+    count = ap (λ (d : Body). length (d .tasks)) body ∙ length-put (v .body .tasks) x _ ∙ P .count;
+    queue =
+        ap (λ (w : View). line w (waiters flag i)) view ∙ line-act (release x OK have) v (waiters flag i) (P .exists)
+        ∙ released-line flag i x OK have (v .body) _ belongs-there ∙ ap (without x) (P .queue) ∙ without-mid x seen rest distinct;
+    same = λ y s. ap (λ (d : Body). task d y) body ∙ of-put-other (v .body .tasks) x y _ nobody (ne-eqb x y (other y s)) ∙ P .same y (inr s);
+    small = P .small;
+  }
+    where
+      other : (y : ℕ) → Stands y rest → x ≢ y
+      other y s e = stands-out y rest s (subst (λ (z : ℕ). Out z rest) e (out-rest seen x rest distinct))
 
 -- ---- the walk performs the acts of the rule
 
@@ -176,40 +178,41 @@ past-tasks : (i n : ℕ) → n ≤ 32 → leb (anchor (waiters flag i)) n ≡ fa
 unfolding anchor
 past-tasks i n h = lt-leb _ n (omega arith)
 
--- what the walk has made in the end from the memory c on, where k were released before: the acts l, of which none touches a message
-abbrev Serves : ℕ → List ℕ → Walk → List ℕ → ℕ → List Act → Type 0
-Serves i m w c k l = (Layout.put Layout.flag i (w .have) (w .words) ≡ performs l c) × (w .released ≡ k + releases l) × (performsMarks l m ≡ m)
+-- what the walk with the pattern p has made in the end from the memory c on, where k were released before: the acts l, of which none touches a
+-- message
+abbrev Serves : ℕ → ℕ → List ℕ → Walk → List ℕ → ℕ → List Act → Type 0
+Serves i p m w c k l = (Layout.put Layout.flag i (leftBy p (w .cleared)) (w .words) ≡ performs l c) × (w .released ≡ k + releases l) × (performsMarks l m ≡ m)
 
-none-left : (i : ℕ) (m c : List ℕ) (have k : ℕ) → Serves i m (made c have k) c k (pattern i have ∷ [])
+none-left : (i : ℕ) (m c : List ℕ) (have k : ℕ) → Serves i have m (made c k false) c k (pattern i have ∷ [])
 unfolding performs performed performsMarks performedMarks
 none-left i m c have k = (refl, sym (add-zero k), refl)
 
 module _ (b : Body) (m : List ℕ) (i n : ℕ) where
   walk-serves : (s : ℕ) (seen rest c : List ℕ) (have k : ℕ) → At b m i n c have seen rest → length rest ≤ s
-      → Serves i m (walked s n (headOf rest (anchor (waiters flag i))) (made c have k)) c k (serve-flag b i have rest)
+      → Serves i have m (walked s n have (headOf rest (anchor (waiters flag i))) (made c k false)) c k (serve-until-clear b i have rest)
   unfolding walked lookedAt performs performed performsMarks performedMarks
   walk-serves zero seen [] c have k P h = none-left i m c have k
   walk-serves zero seen (x ∷ rest) c have k P h = absurd (omega arith)
   walk-serves (suc s) seen [] c have k P h = rw (past-tasks i n (omega (arith, P .count, P .accepted .sound .body .sizes .tasks .1))) (none-left i m c have k)
   walk-serves (suc s) seen (x ∷ rest) c have k P h =
       rw (le-leb x n (omega (arith, known P .1, P .count)), behind P, asks P)
-      (go (metAt x (made c have k)) (walk-serves s seen rest (released x 0 have c) _ (suc k) (freed P (entry Layout.mode c x)) (omega arith))
+      (go (metAt have x c) (clears (entry Layout.mode c x)) (walk-serves s seen rest (released x 0 have c) have (suc k) (freed P) (omega arith))
       (walk-serves s (seen ++ x ∷ []) rest c have k (skipped P) (omega arith)))
     where
-      -- the acts if x is released, and if it is not
+      -- the acts of those behind x
       A : List Act
-      A = serve-flag b i (left have (entry Layout.mode c x)) rest
-
-      B : List Act
-      B = serve-flag b i have rest
+      A = serve-until-clear b i have rest
 
       next : Walk → Walk
-      next w = walked s n (headOf rest (anchor (waiters flag i))) w
+      next w = walked s n have (headOf rest (anchor (waiters flag i))) w
 
-      go : (t : Bool) → Serves i m (next (servedAt x (made c have k))) (released x 0 have c) (suc k) A → Serves i m (next (made c have k)) c k B
-          → Serves i m (next (cond t (servedAt x (made c have k)) (made c have k))) c k (cond t (release x OK have ∷ A) B)
-      go true f g = (f .0, f .1 ∙ omega arith, f .2)
-      go false f g = g
+      -- whether x is released, and whether that clears the pattern
+      go : (t e : Bool) → Serves i have m (next (made (released x 0 have c) (suc k) false)) (released x 0 have c) (suc k) A → Serves i have m (next (made c k false)) c k A
+          → Serves i have m (next (cond t (made (released x 0 have c) (suc k) e) (made c k false))) c k (cond t (release x OK have ∷ cond e (pattern i 0 ∷ []) A) A)
+      go true true f g = subst (λ (w : Walk). Serves i have m w c k (release x OK have ∷ pattern i 0 ∷ [])) (walk-cleared n have (headOf rest (anchor (waiters flag i))) (made (released x 0 have c) (suc k) true) s refl)
+          (refl, omega arith, refl)
+      go true false f g = (f .0, f .1 ∙ omega arith, f .2)
+      go false e f g = g
 
 -- ---- the call
 
@@ -228,7 +231,7 @@ module _ (b m : List ℕ) (A : Accepted b m) (i : ℕ) (h : NamesObject flag i (
       (A .whole .tasks .ring (anchor (waiters flag i)) (wait-queue flag i (there flag i b m A h)), once-law (A .whole .tasks) (anchor (waiters flag i)) (wait-queue flag i (there flag i b m A h)))
 
   flag-serves : (have : ℕ) → have < 2 ^ 32
-      → Serves i m (served i have b) b 0 (serve-flag (viewShown b m .body) i have (line (viewShown b m) (waiters flag i)))
+      → Serves i have m (served i have b) b 0 (serve-until-clear (viewShown b m .body) i have (line (viewShown b m) (waiters flag i)))
   unfolding queue served
   flag-serves have r =
       rw (le-leb (tasksShown b) 32 (few-tasks b m A), anchor-is flag i b m A h, head-link (words Layout.next b) (anchor (waiters flag i)) queue (anchor (waiters flag i)) (ring .0 .forth))
@@ -236,17 +239,17 @@ module _ (b m : List ℕ) (A : Accepted b m) (i : ℕ) (h : NamesObject flag i (
 
 -- ---- at the return of the code the rule's verdict is what was answered and done
 
-module _ (i p : ℕ) (r : p < 2 ^ 32) {b : List ℕ} {old : ℕ} (eo : old ≡ entry Layout.flag b i) {b₁ : List ℕ} {have n : ℕ} (ew : made b₁ have n ≡ served i (bitOr old p) b) where
-  serves : (m : List ℕ) → Accepted b m → NamesObject flag i (viewShown b m) → Serves i m (made b₁ have n) b 0 (set-flg (viewShown b m) (pos i) (pos p) .acts)
+module _ (i p : ℕ) (r : p < 2 ^ 32) {b : List ℕ} {old : ℕ} (eo : old ≡ entry Layout.flag b i) {b₁ : List ℕ} {n : ℕ} {e : Bool} (ew : made b₁ n e ≡ served i (bitOr old p) b) where
+  serves : (m : List ℕ) → Accepted b m → NamesObject flag i (viewShown b m) → Serves i (bitOr old p) m (made b₁ n e) b 0 (set-flg (viewShown b m) (pos i) (pos p) .acts)
   unfolding set-flg
-  serves m A k = subst (λ (w : Walk). Serves i m w b 0 (set-flg (viewShown b m) (pos i) (pos p) .acts)) (sym ew)
-      (rw (pattern-read i m A k, ← eo) (flag-serves b m A i k (bitOr old p) (or-lt 32 old p small r)))
+  serves m A k = subst (λ (w : Walk). Serves i (bitOr old p) m w b 0 (set-flg (viewShown b m) (pos i) (pos p) .acts)) (sym ew)
+      (rw (pattern-read i m A k, ← eo) (subst (Serves i (bitOr old p) m (served i (bitOr old p) b) b 0) (sym (walk-stops (viewShown b m) (A .sound) i k (bitOr old p))) (flag-serves b m A i k (bitOr old p) (or-lt 32 old p small r))))
     where
       small : old < 2 ^ 32
       small = rw (eo, ← pattern-read i m A k) (A .sound .body .store .flags i k)
 
-  pub set-done : {b′ : List ℕ} → b′ ≡ Layout.put Layout.flag i have b₁ → {s : Outcome} → s ≡ outcome (pos 0) 0 0 n → DoesOnWords (NamesObject flag i) (λ v. set-flg v (pos i) (pos p)) s b b′
+  pub set-done : {left : ℕ} → left ≡ leftBy (bitOr old p) e → {b′ : List ℕ} → b′ ≡ Layout.put Layout.flag i left b₁ → {s : Outcome} → s ≡ outcome (pos 0) 0 0 n → DoesOnWords (NamesObject flag i) (λ v. set-flg v (pos i) (pos p)) s b b′
   unfolding set-flg
-  set-done g e m A k =
+  set-done f g e m A k =
       let w = serves m A k in
-      gives-acts (set-flg (viewShown b m) (pos i) (pos p) .acts) (w .2) (e ∙ ap (λ (x : ℕ). outcome (pos 0) 0 0 x) (w .1 ∙ zero-add _)) (g ∙ w .0)
+      gives-acts (set-flg (viewShown b m) (pos i) (pos p) .acts) (w .2) (e ∙ ap (λ (x : ℕ). outcome (pos 0) 0 0 x) (w .1 ∙ zero-add _)) (g ∙ rw f (w .0))

@@ -25,6 +25,7 @@ use memory_queues::follow;
 use memory_queues::wait_anchor;
 use memory_tasks::release;
 use memory_tasks::wait;
+ghost use mathlib.Core.Bool.{false};
 ghost use mathlib.Core.Path.{_≡_};
 ghost use Prim.Native.Nat.{_≤_, _+_};
 ghost use lib.IntN.{pos};
@@ -34,81 +35,92 @@ ghost use Rattle.rules.specs.Verdicts as Verdicts;
 ghost use Rattle.rules.specs.Objects.{polls, left, obj-sts, patternOf, set-flg, clr-flg, take-flg};
 ghost use Rattle.call_words.specs.Doing.{DoesOnWords};
 ghost use Rattle.call_words.specs.Naming.{NamesObject};
-ghost use Rattle.call_flags.specs.Serving.{made, lookedAt, served};
+ghost use Rattle.call_flags.specs.Serving.{made, lookedAt, served, leftBy};
+
+// The modes from which on the pattern is cleared on success.
+const CLEARING: u32 = 2;
 
 // What is left of a pattern that has met a wish.
 fn left_of(have: u32, mode: u32) -> u32
     ensures { λ r. ⌜ r ≡ left have mode ⌝ }
 {
-    if 2 <= mode { 0 } else { have }
+    if CLEARING <= mode { 0 } else { have }
 }
 
-// ---- set_flg: the waiters are looked at in order, in one walk along their queue
+// ---- set_flg: the waiters are looked at in order, in one walk along their queue, up to the first that is released with clearing
 
-// The pattern of this moment, and how many tasks are released so far.
+// How many tasks are released so far, and whether the last one cleared the pattern.
 struct Walked {
-    have: u32,
     released: u32,
+    cleared: bool,
 }
 
-// Task x is released if the pattern of this moment meets what it asks for.
-fn look(words: &mut [u32; STATE_WORDS], x: u32, have: u32, count: u32) -> Walked
+// Task x is released if the pattern meets what it asks for.
+fn look(words: &mut [u32; STATE_WORDS], x: u32, pattern: u32, count: u32) -> Walked
     requires { ⌜ count ≤ 32 ⌝ }
-    ensures { λ r. ⌜ made (now (words .exit)) (r .have) (r .released) ≡ lookedAt x (made (now (words .entry)) have count) ⌝ }
+    ensures { λ r. ⌜ made (now (words .exit)) (r .released) (r .cleared) ≡ lookedAt pattern x (made (now (words .entry)) count false) ⌝ }
     ensures { λ r. ⌜ r .released ≤ count + 1 ⌝ }
 {
     let want = wish(words, x);
     let how = mode(words, x);
-    if !meets(have, want, how) {
+    if !meets(pattern, want, how) {
         return Walked {
-            have: have,
             released: count,
+            cleared: false,
         };
     }
-    release(words, x, CELL_OK, have);
+    release(words, x, CELL_OK, pattern);
     Walked {
-        have: left_of(have, how),
         released: count + 1,
+        cleared: CLEARING <= how,
     }
 }
 
-// The waiters on flag i, in order. More steps than there are tasks only a damaged memory would take.
+// The waiters on flag i, in order. Behind a clearing nobody would be released. More steps than there are tasks only a damaged memory would take.
 fn serve(words: &mut [u32; STATE_WORDS], i: u32, pattern: u32) -> Walked
-    ensures { λ r. ⌜ made (now (words .exit)) (r .have) (r .released) ≡ served i pattern (now (words .entry)) ⌝ }
+    ensures { λ r. ⌜ made (now (words .exit)) (r .released) (r .cleared) ≡ served i pattern (now (words .entry)) ⌝ }
 {
     let n = at_most(system(words, TASKS), MAX_TASKS);
     let mut x = follow(words, wait_anchor(FLAG, i));
-    let mut have = pattern;
     let mut count: u32 = 0;
     let mut left = n;
     while 0 < left {
         if n < x {
             return Walked {
-                have: have,
                 released: count,
+                cleared: false,
             };
         }
         // A release changes the links of x.
         let behind = follow(words, x);
-        let w = look(words, x, have, count);
-        have = w.have;
+        let w = look(words, x, pattern, count);
+        if w.cleared {
+            return w;
+        }
         count = w.released;
         x = behind;
         left -= 1;
     }
     Walked {
-        have: have,
         released: count,
+        cleared: false,
     }
+}
+
+// What is left of the pattern after the walk.
+fn left_by(pattern: u32, cleared: bool) -> u32
+    ensures { λ r. ⌜ r ≡ leftBy pattern cleared ⌝ }
+{
+    if cleared { 0 } else { pattern }
 }
 
 // 16 set_flg: p is ORed in, then each waiter whose condition holds is released, in order. The pattern is written last.
 pub fn set_flg(words: &mut [u32; STATE_WORDS], i: u32, p: u32) -> Outcome
     ensures { λ r. ⌜ DoesOnWords (NamesObject Kind.flag i) (λ v. set-flg v (pos i) (pos p)) r (now (words .entry)) (now (words .exit)) ⌝ }
 {
-    let old = flag(words, i);
-    let w = serve(words, i, old | p);
-    set_flag(words, i, w.have);
+    let pattern = flag(words, i) | p;
+    let w = serve(words, i, pattern);
+    set_flag(words, i, left_by(pattern, w.cleared));
     releases(w.released)
 }
 

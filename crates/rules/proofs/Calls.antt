@@ -153,7 +153,8 @@ met-less h c p m e = go (eqb (m % 2) 1) e
     go true e = ap not (eq-eqb (bitAnd (bitAnd h c) p) 0 (zero-below (eqb-true (bitAnd h p) 0 (not-false (eqb (bitAnd h p) 0) e)) le))
     go false e = ne-eqb (bitAnd (bitAnd h c) p) p (λ d. eqb-false (bitAnd h p) p e (squeeze d le (and-le-r h p)))
 
-met-zero : (p m : ℕ) → p ≢ 0 → met 0 p m ≡ false
+-- nobody who asks for something is met by an empty pattern
+pub met-zero : (p m : ℕ) → p ≢ 0 → met 0 p m ≡ false
 met-zero p m z = go (eqb (m % 2) 1)
   where
     go : (t : Bool) → cond t (not (eqb 0 0)) (eqb 0 p) ≡ false

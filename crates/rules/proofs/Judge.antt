@@ -100,7 +100,7 @@ module _ (P : ℤ → Verdict → Type 0) (no-way : (n : ℤ) (c : Code) → bad
   -- ---- a row, and all rows from number k on
 
   module _ (v : View) (h : Bool) (me : ℕ) where
-    by-row : (k : ℕ) (r : Row) → all-bad (r .words) ≡ true → (Passes v h me r → P (pos k) (r .rule)) → P (pos k) (judged v h me r)
+    pub by-row : (k : ℕ) (r : Row) → all-bad (r .words) ≡ true → (Passes v h me r → P (pos k) (r .rule)) → P (pos k) (judged v h me r)
     unfolding judged bad
     by-row k r b g =
         by-refusals (pos k) (r .words) _ b

@@ -13,6 +13,7 @@ pub mod Keeps
 pub mod Queues
 pub mod Handling
 pub mod Calls
+pub mod FlagWalk
 pub mod Accepted
 pub mod Spelled
 pub mod Setups

@@ -12,6 +12,7 @@ pub mod View
 pub mod Verdicts
 pub mod Tasks
 pub mod Objects
+pub mod FlagWalk
 pub mod Time
 pub mod Handling
 pub mod Rows

@@ -59,8 +59,11 @@ abbrev pub met : ℕ → ℕ → ℕ → Bool
 met have want mode = cond (eqb (mode % 2) 1) (not (eqb (bitAnd have want) 0)) (eqb (bitAnd have want) want)
 
 -- Mode 2-bit set means clear the whole pattern on success.
+abbrev pub clears : ℕ → Bool
+clears mode = leb 2 mode
+
 abbrev pub left : ℕ → ℕ → ℕ
-left have mode = cond (leb 2 mode) 0 have
+left have mode = cond (clears mode) 0 have
 
 -- Goes through the waiters in order; each whose condition holds is released with the pattern of that moment, and if it asked for
 -- clearing the pattern becomes 0 before the next is looked at.
@@ -69,6 +72,14 @@ serve-flag b f have [] = pattern f have ∷ []
 serve-flag b f have (x ∷ l) =
     let w : ℕ × ℕ = wish (waitOf (task b x .state)) in
     cond (met have (w .0) (w .1)) (release x OK have ∷ serve-flag b f (left have (w .1)) l) (serve-flag b f have l)
+
+-- the pattern meets what waiter x asks for
+abbrev pub meets : Body → ℕ → ℕ → Bool
+meets b have x = let w : ℕ × ℕ = wish (waitOf (task b x .state)) in met have (w .0) (w .1)
+
+-- waiter x asks for clearing
+abbrev pub asksClear : Body → ℕ → Bool
+asksClear b x = clears (wish (waitOf (task b x .state)) .1)
 
 -- 16 set_flg(a, b): ORs b in, then goes through the waiters.
 unfoldable pub set-flg : View → ℤ → ℤ → Verdict

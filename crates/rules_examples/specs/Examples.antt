@@ -527,6 +527,21 @@ objectExamples = record {
       ∷ step (X flg-sts 1 0 0) (pos 0) 1 0 5 0
       ∷ [])
       2 (pos 0) 1
+      -- After a waiter released with clearing nobody is released. In the queue: 3, released; 1, not met; 2, released with clearing; 5 and 4,
+      -- who ask for the bit too and stay.
+      ∷ case 0 1
+      (step (X sta-tsk 3 0 0) (pos 0) 0 0 3 0
+      ∷ step (X wai-flg 1 1 0) (pos 1) 0 0 1 0
+      ∷ step (X wai-flg 1 4 0) (pos 1) 0 0 2 0
+      ∷ step (X wai-flg 1 1 2) (pos 1) 0 0 5 0
+      ∷ step (X wai-flg 1 1 0) (pos 1) 0 0 4 0
+      ∷ step (X wai-flg 1 3 3) (pos 1) 0 0 0 0
+      ∷ step (H set-flg 1 1 0) (pos 0) 0 0 3 2
+      ∷ step (X flg-sts 1 0 0) (pos 0) 1 0 3 0
+      ∷ step (X tsk-sts 5 0 0) (pos 0) 3 2 3 0
+      ∷ step (X tsk-sts 4 0 0) (pos 0) 3 3 3 0
+      ∷ [])
+      2 (pos 0) 1
       -- A waiter keeps its pattern and its mode while it is suspended and resumed and time goes by.
       ∷ case 0 1
       (step (X wai-flg 1 6 3) (pos 1) 0 0 2 0

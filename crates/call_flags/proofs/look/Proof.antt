@@ -23,19 +23,15 @@ returns c =
 release-requires : tie.Need-release-requires
 release-requires c κs = search needs
 
-left-of-requires : tie.Need-left-of-requires
-left-of-requires c κs = search needs
-
-add-t14 : tie.Need-add-t14
-add-t14 c = search needs
+add-t13 : tie.Need-add-t13
+add-t13 c = search needs
 
 returns-2 : tie.Need-returns-2
 returns-2 c =
-    let r = c .before in
-    let i = r .before .before in
+    let i = c .before .before in
     let m = i .before in
     let h = m .before in
-    (look-serves _ _ _ _ (h .before .before .wish .ensures) (h .mode .ensures) (m .meets .ensures) (i .if1 .left) (r .release .ensures) (c .left-of .ensures), omega arith)
+    (look-serves _ _ _ _ (h .before .before .wish .ensures) (h .mode .ensures) (m .meets .ensures) (i .if1 .left) (c .release .ensures), omega arith)
 
 pub look-spec : {M : Type 1} → statement M
-look-spec = tie.close (tie.spec wish-requires mode-requires meets-requires returns release-requires left-of-requires add-t14 returns-2)
+look-spec = tie.close (tie.spec wish-requires mode-requires meets-requires returns release-requires add-t13 returns-2)

@@ -1,18 +1,19 @@
 -- `call_flags::serve` meets its contract. What is left of the walk is the same at each turn. Assumes nothing.
+use mathlib.Core.Bool.{false}
 use Prim.Native.Nat.{_+_, _≤_}
 use mathlib.Core.Path.{_≡_, _∙_}
 use native.Mathlib.Omega.{arith}
 use borrow.Author.Needs.{needs}
 use Rattle.call_flags.specs.Serving.{made, walked, served}
-use Rattle.call_flags.proofs.FlagSteps.{walk-none, walk-ends, walk-on, serve-starts}
+use Rattle.call_flags.proofs.FlagSteps.{walk-none, walk-ends, walk-cleared, walk-on, serve-starts}
 use Rattle.call_flags.proofs.serve.Statement.{statement}
 use Rattle.call_flags.proofs.serve.Tie as tie
 
 abbrev Inv-loop : tie.InvT-loop
-Inv-loop words₀ i pattern n x₀ have₀ count₀ left₀ words x have count left = (walked left n x (made words have count) ≡ served i pattern words₀) × (count + left ≤ 32)
+Inv-loop words₀ i pattern n x₀ count₀ left₀ words x count left = (walked left n pattern x (made words count false) ≡ served i pattern words₀) × (count + left ≤ 32)
 
 abbrev μ-loop : tie.MeasureT-loop
-μ-loop words₀ i pattern n x₀ have₀ count₀ left₀ words x have count left = left
+μ-loop words₀ i pattern n x₀ count₀ left₀ words x count left = left
 
 system-requires : tie.Need-system-requires Inv-loop μ-loop
 system-requires c κs = search needs
@@ -33,13 +34,21 @@ loop-holds c =
     (serve-starts _ _ _ (n .before .system .ensures) (n .at-most .ensures .0) (y .wait-anchor .ensures) (c .follow .ensures), omega (arith, n .at-most .ensures .1))
 
 returns : tie.Need-returns Inv-loop μ-loop
-returns c = walk-ends _ _ _ _ (c .if1 .taken) ∙ c .before .before .loop .inv .0
+returns c = walk-ends _ _ _ _ _ (c .if1 .taken) ∙ c .before .before .loop .inv .0
 
 follow-requires-2 : tie.Need-follow-requires-2 Inv-loop μ-loop
 follow-requires-2 c κs = search needs
 
 look-requires : tie.Need-look-requires Inv-loop μ-loop
 look-requires c κs = search needs
+
+returns-2 : tie.Need-returns-2 Inv-loop μ-loop
+returns-2 c =
+    let a = c .before in
+    let f = a .before .before in
+    let i = f .before .before in
+    let t = i .before in
+    walk-cleared _ _ _ _ _ (c .if2 .taken) ∙ walk-on _ _ _ _ _ _ (let g = t .loop-test .taken in omega (arith, g)) (i .if1 .left) (f .follow2 .ensures) (a .look .ensures .0) ∙ t .before .loop .inv .0
 
 sub-left : tie.Need-sub-left Inv-loop μ-loop
 sub-left c = search needs
@@ -49,15 +58,16 @@ loop-less c = search needs
 
 loop-again : tie.Need-loop-again Inv-loop μ-loop
 loop-again c =
-    let f = c .before .before in
+    let a = c .before in
+    let f = a .before .before in
     let i = f .before .before in
     let t = i .before in
     let h = t .before .loop .inv in
-    let r = c .look .ensures in
-    (walk-on _ _ _ _ (t .loop-test .taken) (i .if1 .left) (f .follow2 .ensures) (r .0) ∙ h .0, omega (arith, r .1, t .loop-test .taken, h .1))
+    let r = a .look .ensures in
+    (walk-on _ _ _ _ _ _ (let g = t .loop-test .taken in omega (arith, g)) (i .if1 .left) (f .follow2 .ensures) (rw (c .if2 .left) at (r .0)) ∙ h .0, omega (arith, r .1, t .loop-test .taken, h .1))
 
-returns-2 : tie.Need-returns-2 Inv-loop μ-loop
-returns-2 c = walk-none _ _ _ _ (c .loop-test .left) ∙ c .before .loop .inv .0
+returns-3 : tie.Need-returns-3 Inv-loop μ-loop
+returns-3 c = walk-none _ _ _ _ _ (c .loop-test .left) ∙ c .before .loop .inv .0
 
 pub serve-spec : {M : Type 1} → statement M
 serve-spec =
@@ -73,7 +83,8 @@ serve-spec =
     returns
     follow-requires-2
     look-requires
+    returns-2
     sub-left
     loop-less
     loop-again
-    returns-2)
+    returns-3)

@@ -10,6 +10,9 @@ flag-requires c κs = search needs
 serve-requires : tie.Need-serve-requires
 serve-requires c κs = search needs
 
+left-by-requires : tie.Need-left-by-requires
+left-by-requires c κs = search needs
+
 set-flag-requires : tie.Need-set-flag-requires
 set-flag-requires c κs = search needs
 
@@ -19,10 +22,11 @@ releases-requires c κs = search needs
 returns : tie.Need-returns
 returns c =
     let at-set-flag = c .before in
-    let at-serve = at-set-flag .before .before in
+    let at-left-by = at-set-flag .before in
+    let at-serve = at-left-by .before .before in
     let at-flag = at-serve .before .before in
     let start = at-flag .before .before in
-    set-done _ _ ((start .fits .p) .fits) (at-flag .flag .ensures) (at-serve .serve .ensures) (at-set-flag .set-flag .ensures) (c .releases .ensures)
+    set-done _ _ ((start .fits .p) .fits) (at-flag .flag .ensures) (at-serve .serve .ensures) (at-left-by .left-by .ensures) (at-set-flag .set-flag .ensures) (c .releases .ensures)
 
 pub set-flg-spec : {M : Type 1} → statement M
-set-flg-spec = tie.close (tie.spec flag-requires serve-requires set-flag-requires releases-requires returns)
+set-flg-spec = tie.close (tie.spec flag-requires serve-requires left-by-requires set-flag-requires releases-requires returns)
