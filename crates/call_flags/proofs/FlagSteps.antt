@@ -14,17 +14,17 @@ use Rattle.memory_tasks.specs.Moves.{released}
 use Rattle.memory_columns.specs.Layout.{atMost}
 use Rattle.call_flags.specs.Serving.{Walk, made, metAt, lookedAt, walked, served}
 
-module _ (x p k : ℕ) (b : List ℕ) {want how : ℕ} {y : Bool} (ew : want ≡ entry Layout.wish b x) (eh : how ≡ entry Layout.mode b x) (ey : y ≡ met p want how) where
+module _ (x p k j : ℕ) (b : List ℕ) {want how : ℕ} {y : Bool} (ew : want ≡ entry Layout.wish b x) (eh : how ≡ entry Layout.mode b x) (ey : y ≡ met p want how) where
   met-is : metAt p x b ≡ y
   met-is = rw (← ew, ← eh) (sym ey)
 
-  pub look-skips : not y ≡ true → made b k false ≡ lookedAt p x (made b k false)
+  pub look-skips : not y ≡ true → made b k (j + 1) false ≡ lookedAt p x (made b k j false)
   unfolding lookedAt
-  look-skips t = rw (met-is, not-true y t)
+  look-skips t = rw (met-is, not-true y t, add-one)
 
-  pub look-serves : not y ≡ false → {b₁ : List ℕ} → b₁ ≡ released x 0 p b → made b₁ (k + 1) (clears how) ≡ lookedAt p x (made b k false)
+  pub look-serves : not y ≡ false → {b₁ : List ℕ} → b₁ ≡ released x 0 p b → made b₁ (k + 1) (j + 1) (clears how) ≡ lookedAt p x (made b k j false)
   unfolding lookedAt
-  look-serves t g = rw (met-is, not-false y t, add-one, ← eh, g)
+  look-serves t g = rw (met-is, not-false y t, add-one k, add-one j, ← eh, g)
 
 module _ (n p x : ℕ) (w : Walk) where
   pub walk-none : (l : ℕ) → l ≤ 0 → w ≡ walked l n p x w
@@ -42,11 +42,11 @@ module _ (n p x : ℕ) (w : Walk) where
   walk-cleared zero e = refl
   walk-cleared (suc l) e = rw (e, and-false)
 
-pub walk-on : (n p x : ℕ) (b : List ℕ) (c l : ℕ) {y : ℕ} {u : Walk} → 0 < l → x ≤ n → y ≡ entry Layout.next b x → u ≡ lookedAt p x (made b c false) → walked (l - 1) n p y u ≡ walked l n p x (made b c false)
+pub walk-on : (n p x : ℕ) (b : List ℕ) (c j l : ℕ) {y : ℕ} {u : Walk} → 0 < l → x ≤ n → y ≡ entry Layout.next b x → u ≡ lookedAt p x (made b c j false) → walked (l - 1) n p y u ≡ walked l n p x (made b c j false)
 unfolding walked
-walk-on n p x b c zero h k e f = absurd (omega arith)
-walk-on n p x b c (suc l) h k e f = rw (sub-one, le-leb x n k, e, f)
+walk-on n p x b c j zero h k e f = absurd (omega arith)
+walk-on n p x b c j (suc l) h k e f = rw (sub-one, le-leb x n k, e, f)
 
-pub serve-starts : (i p : ℕ) (b : List ℕ) {s n y x : ℕ} → s ≡ entry Layout.system b 1 → n ≡ atMost s 32 → y ≡ waitAnchor 3 i → x ≡ entry Layout.next b y → walked n n p x (made b 0 false) ≡ served i p b
+pub serve-starts : (i p : ℕ) (b : List ℕ) {s n y x : ℕ} → s ≡ entry Layout.system b 1 → n ≡ atMost s 32 → y ≡ waitAnchor 3 i → x ≡ entry Layout.next b y → walked n n p x (made b 0 0 false) ≡ served i p b
 unfolding served
 serve-starts i p b es en ey ex = rw (en, es, ex, ey)

@@ -1,6 +1,6 @@
 -- set_flg: on an accepted memory the walk along the links performs the acts of the rule. Each release leaves an accepted memory, whose line
 -- of waiters is the old one without the released task, so that the rest of the line is as it was. Assumes nothing.
-use mathlib.Core.Bool.{Bool, true, false, cond, false≢true}
+use mathlib.Core.Bool.{Bool, true, false, cond, _&&_, false≢true}
 use mathlib.Core.List.{List, [], _∷_, _++_, append-nil}
 use mathlib.Core.Logic.{inl, inr, _≢_}
 use mathlib.Core.Option.{Option, some}
@@ -22,13 +22,14 @@ use Rattle.rules.specs.Places.{waiters, aTask, waitsOn, awaits, belongs, popula
 use Rattle.rules.specs.Acts.{Act, release, pattern, after, move, releasedMove}
 use Rattle.rules.specs.Releases.{releases}
 use Rattle.rules.specs.View.{View, line, moved, act}
-use Rattle.rules.specs.Objects.{clears, set-flg}
-use Rattle.rules.specs.FlagWalk.{serve-until-clear}
+use Rattle.rules.specs.Objects.{clears, serve-flag, looks, set-flg}
+use Rattle.rules.specs.FlagWalk.{serve-until-clear, looked-at}
 use Rattle.rules.proofs.Ids.{length-put, of-put-other, times-append, times-head}
 use Rattle.rules.proofs.Lines.{line-act}
 use Rattle.rules.proofs.Queues.{stands-belongs, stands-known, body-act}
 use Rattle.rules.proofs.Calls.{released-self}
 use Rattle.rules.proofs.FlagWalk.{walk-stops}
+use Rattle.rules.proofs.Looks.{looks-counted}
 use Rattle.memory_rings.specs.Rings.{Out, Stands, Distinct, headOf, without, lineOf, Ring}
 use Rattle.memory_rings.proofs.Lists.{stands-out, out-rest, without-mid, few}
 use Rattle.memory_rings.proofs.Ways.{head-link}
@@ -178,41 +179,45 @@ past-tasks : (i n : ℕ) → n ≤ 32 → leb (anchor (waiters flag i)) n ≡ fa
 unfolding anchor
 past-tasks i n h = lt-leb _ n (omega arith)
 
--- what the walk with the pattern p has made in the end from the memory c on, where k were released before: the acts l, of which none touches a
--- message
-abbrev Serves : ℕ → ℕ → List ℕ → Walk → List ℕ → ℕ → List Act → Type 0
-Serves i p m w c k l = (Layout.put Layout.flag i (leftBy p (w .cleared)) (w .words) ≡ performs l c) × (w .released ≡ k + releases l) × (performsMarks l m ≡ m)
+-- what the walk with the pattern p has made in the end from the memory c on, where k were released and j looked at before: the acts l, of which none
+-- touches a message, and h looks
+abbrev Serves : ℕ → ℕ → List ℕ → Walk → List ℕ → ℕ → List Act → ℕ → ℕ → Type 0
+Serves i p m w c k l j h = (w .looked ≡ j + h) × (Layout.put Layout.flag i (leftBy p (w .cleared)) (w .words) ≡ performs l c) × (w .released ≡ k + releases l) × (performsMarks l m ≡ m)
 
-none-left : (i : ℕ) (m c : List ℕ) (have k : ℕ) → Serves i have m (made c k false) c k (pattern i have ∷ [])
+none-left : (i : ℕ) (m c : List ℕ) (have k j : ℕ) → Serves i have m (made c k j false) c k (pattern i have ∷ []) j 0
 unfolding performs performed performsMarks performedMarks
-none-left i m c have k = (refl, sym (add-zero k), refl)
+none-left i m c have k j = (sym (add-zero j), refl, sym (add-zero k), refl)
 
 module _ (b : Body) (m : List ℕ) (i n : ℕ) where
-  walk-serves : (s : ℕ) (seen rest c : List ℕ) (have k : ℕ) → At b m i n c have seen rest → length rest ≤ s
-      → Serves i have m (walked s n have (headOf rest (anchor (waiters flag i))) (made c k false)) c k (serve-until-clear b i have rest)
+  walk-serves : (s : ℕ) (seen rest c : List ℕ) (have k j : ℕ) → At b m i n c have seen rest → length rest ≤ s
+      → Serves i have m (walked s n have (headOf rest (anchor (waiters flag i))) (made c k j false)) c k (serve-until-clear b i have rest) j (looked-at b have rest)
   unfolding walked lookedAt performs performed performsMarks performedMarks
-  walk-serves zero seen [] c have k P h = none-left i m c have k
-  walk-serves zero seen (x ∷ rest) c have k P h = absurd (omega arith)
-  walk-serves (suc s) seen [] c have k P h = rw (past-tasks i n (omega (arith, P .count, P .accepted .sound .body .sizes .tasks .1))) (none-left i m c have k)
-  walk-serves (suc s) seen (x ∷ rest) c have k P h =
+  walk-serves zero seen [] c have k j P h = none-left i m c have k j
+  walk-serves zero seen (x ∷ rest) c have k j P h = absurd (omega arith)
+  walk-serves (suc s) seen [] c have k j P h = rw (past-tasks i n (omega (arith, P .count, P .accepted .sound .body .sizes .tasks .1))) (none-left i m c have k j)
+  walk-serves (suc s) seen (x ∷ rest) c have k j P h =
       rw (le-leb x n (omega (arith, known P .1, P .count)), behind P, asks P)
-      (go (metAt have x c) (clears (entry Layout.mode c x)) (walk-serves s seen rest (released x 0 have c) have (suc k) (freed P) (omega arith))
-      (walk-serves s (seen ++ x ∷ []) rest c have k (skipped P) (omega arith)))
+      (go (metAt have x c) (clears (entry Layout.mode c x)) (walk-serves s seen rest (released x 0 have c) have (suc k) (suc j) (freed P) (omega arith))
+      (walk-serves s (seen ++ x ∷ []) rest c have k (suc j) (skipped P) (omega arith)))
     where
       -- the acts of those behind x
       A : List Act
       A = serve-until-clear b i have rest
 
+      -- at how many of them it looks
+      H : ℕ
+      H = looked-at b have rest
+
       next : Walk → Walk
       next w = walked s n have (headOf rest (anchor (waiters flag i))) w
 
       -- whether x is released, and whether that clears the pattern
-      go : (t e : Bool) → Serves i have m (next (made (released x 0 have c) (suc k) false)) (released x 0 have c) (suc k) A → Serves i have m (next (made c k false)) c k A
-          → Serves i have m (next (cond t (made (released x 0 have c) (suc k) e) (made c k false))) c k (cond t (release x OK have ∷ cond e (pattern i 0 ∷ []) A) A)
-      go true true f g = subst (λ (w : Walk). Serves i have m w c k (release x OK have ∷ pattern i 0 ∷ [])) (walk-cleared n have (headOf rest (anchor (waiters flag i))) (made (released x 0 have c) (suc k) true) s refl)
-          (refl, omega arith, refl)
-      go true false f g = (f .0, f .1 ∙ omega arith, f .2)
-      go false e f g = g
+      go : (t e : Bool) → Serves i have m (next (made (released x 0 have c) (suc k) (suc j) false)) (released x 0 have c) (suc k) A (suc j) H → Serves i have m (next (made c k (suc j) false)) c k A (suc j) H
+          → Serves i have m (next (cond t (made (released x 0 have c) (suc k) (suc j) e) (made c k (suc j) false))) c k (cond t (release x OK have ∷ cond e (pattern i 0 ∷ []) A) A) j (suc (cond (t && e) 0 H))
+      go true true f g = subst (λ (w : Walk). Serves i have m w c k (release x OK have ∷ pattern i 0 ∷ []) j 1) (walk-cleared n have (headOf rest (anchor (waiters flag i))) (made (released x 0 have c) (suc k) (suc j) true) s refl)
+          (omega arith, refl, omega arith, refl)
+      go true false f g = (f .0 ∙ omega arith, f .1, f .2 ∙ omega arith, f .3)
+      go false e f g = (g .0 ∙ omega arith, g .1, g .2, g .3)
 
 -- ---- the call
 
@@ -231,25 +236,36 @@ module _ (b m : List ℕ) (A : Accepted b m) (i : ℕ) (h : NamesObject flag i (
       (A .whole .tasks .ring (anchor (waiters flag i)) (wait-queue flag i (there flag i b m A h)), once-law (A .whole .tasks) (anchor (waiters flag i)) (wait-queue flag i (there flag i b m A h)))
 
   flag-serves : (have : ℕ) → have < 2 ^ 32
-      → Serves i have m (served i have b) b 0 (serve-until-clear (viewShown b m .body) i have (line (viewShown b m) (waiters flag i)))
+      → Serves i have m (served i have b) b 0 (serve-until-clear (viewShown b m .body) i have (line (viewShown b m) (waiters flag i))) 0 (looked-at (viewShown b m .body) have (line (viewShown b m) (waiters flag i)))
   unfolding queue served
   flag-serves have r =
       rw (le-leb (tasksShown b) 32 (few-tasks b m A), anchor-is flag i b m A h, head-link (words Layout.next b) (anchor (waiters flag i)) queue (anchor (waiters flag i)) (ring .0 .forth))
-      (walk-serves (viewShown b m .body) m i (tasksShown b) (tasksShown b) [] queue b have 0 (start have r) (few (tasksShown b) queue (ring .1) (ring .0 .ids)))
+      (walk-serves (viewShown b m .body) m i (tasksShown b) (tasksShown b) [] queue b have 0 0 (start have r) (few (tasksShown b) queue (ring .1) (ring .0 .ids)))
 
 -- ---- at the return of the code the rule's verdict is what was answered and done
 
-module _ (i p : ℕ) (r : p < 2 ^ 32) {b : List ℕ} {old : ℕ} (eo : old ≡ entry Layout.flag b i) {b₁ : List ℕ} {n : ℕ} {e : Bool} (ew : made b₁ n e ≡ served i (bitOr old p) b) where
-  serves : (m : List ℕ) → Accepted b m → NamesObject flag i (viewShown b m) → Serves i (bitOr old p) m (made b₁ n e) b 0 (set-flg (viewShown b m) (pos i) (pos p) .acts)
+module _ (i p : ℕ) (r : p < 2 ^ 32) {b : List ℕ} {old : ℕ} (eo : old ≡ entry Layout.flag b i) {b₁ : List ℕ} {n j : ℕ} {e : Bool} (ew : made b₁ n j e ≡ served i (bitOr old p) b) where
+  -- the walk that ends early performs the acts of the whole one, and looks at as many as the rule says
+  walks : (m : List ℕ) (A : Accepted b m) → NamesObject flag i (viewShown b m) → bitOr old p < 2 ^ 32
+      → let q : List ℕ = line (viewShown b m) (waiters flag i) in
+      Serves i (bitOr old p) m (served i (bitOr old p) b) b 0 (serve-flag (viewShown b m .body) i (bitOr old p) q) 0 (looks (viewShown b m .body) (bitOr old p) q)
+  walks m A k small =
+      let v : View = viewShown b m in
+      let q : List ℕ = line v (waiters flag i) in
+      subst (λ (h : ℕ). Serves i (bitOr old p) m (served i (bitOr old p) b) b 0 (serve-flag (v .body) i (bitOr old p) q) 0 h) (sym (looks-counted (v .body) (bitOr old p) q))
+      (subst (λ (l : List Act). Serves i (bitOr old p) m (served i (bitOr old p) b) b 0 l 0 (looked-at (v .body) (bitOr old p) q)) (sym (walk-stops v (A .sound) i k (bitOr old p))) (flag-serves b m A i k (bitOr old p) small))
+
+  serves : (m : List ℕ) → Accepted b m → NamesObject flag i (viewShown b m)
+      → Serves i (bitOr old p) m (made b₁ n j e) b 0 (set-flg (viewShown b m) (pos i) (pos p) .acts) 0 (set-flg (viewShown b m) (pos i) (pos p) .w1)
   unfolding set-flg
-  serves m A k = subst (λ (w : Walk). Serves i (bitOr old p) m w b 0 (set-flg (viewShown b m) (pos i) (pos p) .acts)) (sym ew)
-      (rw (pattern-read i m A k, ← eo) (subst (Serves i (bitOr old p) m (served i (bitOr old p) b) b 0) (sym (walk-stops (viewShown b m) (A .sound) i k (bitOr old p))) (flag-serves b m A i k (bitOr old p) (or-lt 32 old p small r))))
+  serves m A k = subst (λ (w : Walk). Serves i (bitOr old p) m w b 0 (set-flg (viewShown b m) (pos i) (pos p) .acts) 0 (set-flg (viewShown b m) (pos i) (pos p) .w1)) (sym ew)
+      (rw (pattern-read i m A k, ← eo) (walks m A k (or-lt 32 old p small r)))
     where
       small : old < 2 ^ 32
       small = rw (eo, ← pattern-read i m A k) (A .sound .body .store .flags i k)
 
-  pub set-done : {left : ℕ} → left ≡ leftBy (bitOr old p) e → {b′ : List ℕ} → b′ ≡ Layout.put Layout.flag i left b₁ → {s : Outcome} → s ≡ outcome (pos 0) 0 0 n → DoesOnWords (NamesObject flag i) (λ v. set-flg v (pos i) (pos p)) s b b′
+  pub set-done : {left : ℕ} → left ≡ leftBy (bitOr old p) e → {b′ : List ℕ} → b′ ≡ Layout.put Layout.flag i left b₁ → {s : Outcome} → s ≡ outcome (pos 0) j 0 n → DoesOnWords (NamesObject flag i) (λ v. set-flg v (pos i) (pos p)) s b b′
   unfolding set-flg
   set-done f g e m A k =
       let w = serves m A k in
-      gives-acts (set-flg (viewShown b m) (pos i) (pos p) .acts) (w .2) (e ∙ ap (λ (x : ℕ). outcome (pos 0) 0 0 x) (w .1 ∙ zero-add _)) (g ∙ rw f (w .0))
+      gives-acts (set-flg (viewShown b m) (pos i) (pos p) .acts) (w .3) (e ∙ (λ z. outcome (pos 0) ((w .0 ∙ zero-add _) z) 0 ((w .2 ∙ zero-add _) z))) (g ∙ rw f (w .1))

@@ -11,14 +11,15 @@ use Rattle.memory_queues.specs.Moves.{waitAnchor}
 use Rattle.memory_tasks.specs.Moves.{released}
 use Rattle.memory_columns.specs.Layout.{atMost}
 
--- what it has made so far: the words, how many it has released, and whether the last one cleared the pattern
+-- what it has made so far: the words, how many it has released, at how many it has looked, and whether the last one cleared the pattern
 pub record Walk : Type 0 where
   pub words : List ℕ
   pub released : ℕ
+  pub looked : ℕ
   pub cleared : Bool
 
-abbrev pub made : List ℕ → ℕ → Bool → Walk
-made b n e = record { words = b; released = n; cleared = e }
+abbrev pub made : List ℕ → ℕ → ℕ → Bool → Walk
+made b n j e = record { words = b; released = n; looked = j; cleared = e }
 
 -- the pattern p meets what task x asks for
 abbrev pub metAt : ℕ → ℕ → List ℕ → Bool
@@ -26,10 +27,13 @@ metAt p x b = met p (entry Layout.wish b x) (entry Layout.mode b x)
 
 -- x is released with the pattern p; if it asked for clearing nothing is left of it
 abbrev pub servedAt : ℕ → ℕ → Walk → Walk
-servedAt p x w = made (released x 0 p (w .words)) (suc (w .released)) (clears (entry Layout.mode (w .words) x))
+servedAt p x w = made (released x 0 p (w .words)) (suc (w .released)) (suc (w .looked)) (clears (entry Layout.mode (w .words) x))
+
+abbrev pub passedBy : Walk → Walk
+passedBy w = made (w .words) (w .released) (suc (w .looked)) (w .cleared)
 
 unfoldable pub lookedAt : ℕ → ℕ → Walk → Walk
-lookedAt p x w = cond (metAt p x (w .words)) (servedAt p x w) w
+lookedAt p x w = cond (metAt p x (w .words)) (servedAt p x w) (passedBy w)
 
 -- at most k tasks, from node x on up to the first node above n; the next node is read before x is looked at, for a release unlinks x
 unfoldable pub walked : ℕ → ℕ → ℕ → ℕ → Walk → Walk
@@ -38,7 +42,7 @@ walked (suc k) n p x w = cond (leb x n && not (w .cleared)) (walked k n p (entry
 
 -- the waiters on flag i, from its anchor on, with the pattern p; as many steps as there are tasks are enough
 unfoldable pub served : ℕ → ℕ → List ℕ → Walk
-served i p b = let n : ℕ = atMost (entry Layout.system b 1) 32 in walked n n p (entry Layout.next b (waitAnchor 3 i)) (made b 0 false)
+served i p b = let n : ℕ = atMost (entry Layout.system b 1) 32 in walked n n p (entry Layout.next b (waitAnchor 3 i)) (made b 0 0 false)
 
 -- what is left of the pattern then
 abbrev pub leftBy : ℕ → Bool → ℕ

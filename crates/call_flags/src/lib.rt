@@ -7,7 +7,7 @@ use call_words::codes::H_POLL;
 use call_words::done;
 use call_words::gives;
 use call_words::refuse;
-use call_words::releases;
+use call_words::reports;
 use call_words::waits;
 use memory_columns::CELL_OK;
 use memory_columns::FLAG;
@@ -49,60 +49,67 @@ fn left_of(have: u32, mode: u32) -> u32
 
 // ---- set_flg: the waiters are looked at in order, in one walk along their queue, up to the first that is released with clearing
 
-// How many tasks are released so far, and whether the last one cleared the pattern.
+// How many tasks are released so far, how many were looked at, and whether the last one cleared the pattern.
 struct Walked {
     released: u32,
+    looked: u32,
     cleared: bool,
 }
 
 // Task x is released if the pattern meets what it asks for.
-fn look(words: &mut [u32; STATE_WORDS], x: u32, pattern: u32, count: u32) -> Walked
-    requires { ⌜ count ≤ 32 ⌝ }
-    ensures { λ r. ⌜ made (now (words .exit)) (r .released) (r .cleared) ≡ lookedAt pattern x (made (now (words .entry)) count false) ⌝ }
-    ensures { λ r. ⌜ r .released ≤ count + 1 ⌝ }
+fn look(words: &mut [u32; STATE_WORDS], x: u32, pattern: u32, count: u32, looked: u32) -> Walked
+    requires { ⌜ (count ≤ 32) × (looked ≤ 32) ⌝ }
+    ensures { λ r. ⌜ made (now (words .exit)) (r .released) (r .looked) (r .cleared) ≡ lookedAt pattern x (made (now (words .entry)) count looked false) ⌝ }
+    ensures { λ r. ⌜ (r .released ≤ count + 1) × (r .looked ≤ looked + 1) ⌝ }
 {
     let want = wish(words, x);
     let how = mode(words, x);
     if !meets(pattern, want, how) {
         return Walked {
             released: count,
+            looked: looked + 1,
             cleared: false,
         };
     }
     release(words, x, CELL_OK, pattern);
     Walked {
         released: count + 1,
+        looked: looked + 1,
         cleared: CLEARING <= how,
     }
 }
 
 // The waiters on flag i, in order. Behind a clearing nobody would be released. More steps than there are tasks only a damaged memory would take.
 fn serve(words: &mut [u32; STATE_WORDS], i: u32, pattern: u32) -> Walked
-    ensures { λ r. ⌜ made (now (words .exit)) (r .released) (r .cleared) ≡ served i pattern (now (words .entry)) ⌝ }
+    ensures { λ r. ⌜ made (now (words .exit)) (r .released) (r .looked) (r .cleared) ≡ served i pattern (now (words .entry)) ⌝ }
 {
     let n = at_most(system(words, TASKS), MAX_TASKS);
     let mut x = follow(words, wait_anchor(FLAG, i));
     let mut count: u32 = 0;
+    let mut looked: u32 = 0;
     let mut left = n;
     while 0 < left {
         if n < x {
             return Walked {
                 released: count,
+                looked: looked,
                 cleared: false,
             };
         }
         // A release changes the links of x.
         let behind = follow(words, x);
-        let w = look(words, x, pattern, count);
+        let w = look(words, x, pattern, count, looked);
         if w.cleared {
             return w;
         }
         count = w.released;
+        looked = w.looked;
         x = behind;
         left -= 1;
     }
     Walked {
         released: count,
+        looked: looked,
         cleared: false,
     }
 }
@@ -114,14 +121,15 @@ fn left_by(pattern: u32, cleared: bool) -> u32
     if cleared { 0 } else { pattern }
 }
 
-// 16 set_flg: p is ORed in, then each waiter whose condition holds is released, in order. The pattern is written last.
+// 16 set_flg: p is ORed in, then each waiter whose condition holds is released, in order. The pattern is written last; w1 is how many were looked
+// at.
 pub fn set_flg(words: &mut [u32; STATE_WORDS], i: u32, p: u32) -> Outcome
     ensures { λ r. ⌜ DoesOnWords (NamesObject Kind.flag i) (λ v. set-flg v (pos i) (pos p)) r (now (words .entry)) (now (words .exit)) ⌝ }
 {
     let pattern = flag(words, i) | p;
     let w = serve(words, i, pattern);
     set_flag(words, i, left_by(pattern, w.cleared));
-    releases(w.released)
+    reports(w.looked, w.released)
 }
 
 // ---- the others

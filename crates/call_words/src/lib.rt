@@ -71,9 +71,16 @@ pub fn done() -> Outcome
 pub fn releases(n: u32) -> Outcome
     ensures { λ r. ⌜ r ≡ outcome (pos 0) 0 0 n ⌝ }
 {
+    reports(0, n)
+}
+
+// Code 0 with one word, and n tasks released.
+pub fn reports(w1: u32, n: u32) -> Outcome
+    ensures { λ r. ⌜ r ≡ outcome (pos 0) w1 0 n ⌝ }
+{
     Outcome {
         code: codes::OK,
-        w1: 0,
+        w1: w1,
         w2: 0,
         released: n,
     }

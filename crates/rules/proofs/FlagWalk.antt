@@ -55,7 +55,8 @@ module _ (b : Body) (f i : ℕ) (d : Code) (w : ℕ) (after : List Act) where
   abbrev Releases : List Act → List Act → Type 0
   Releases l before = l ≡ before ++ release i d w ∷ after
 
-  pattern-alone : (n : ℕ) (before : List Act) → Releases (pattern f n ∷ []) before → ⊥
+  -- the walk over nobody releases nobody
+  pub pattern-alone : (n : ℕ) (before : List Act) → Releases (pattern f n ∷ []) before → ⊥
   pattern-alone n [] e = let z : _≡_ {A = ℕ} 0 1 = cc in omega arith
   pattern-alone n (a ∷ []) e = let z : _≡_ {A = ℕ} 0 1 = cc in omega arith
   pattern-alone n (a ∷ a′ ∷ before) e = let z : _≡_ {A = ℕ} 0 1 = cc in omega arith
@@ -106,15 +107,15 @@ module _ (v : View) (s : Sound v) (f : ℕ) (r : In f (objects (v .body .store) 
 -- ---- every set_flg, whatever its context and its words
 
 -- what holds of a refusal, and of set_flg's rule where its row's tests have passed, holds of each verdict of call 16
-module _ (P : Verdict → Type 0) (no-way : (c : Code) → bad c ≡ true → P (refuse c)) (v : View) (a b c : ℤ) where
-  pub by-set-flg : ((h : Bool) → Passes v (handles v h) (caller v h) (setFlg v a b) → P (set-flg v a b))
-      → (x : ℤ) → P (judge v (call x (pos 16) a b c))
+module _ (P : Verdict → Type 0) (no-way : (c : Code) → bad c ≡ true → P (refuse c)) (v : View) (x a b c : ℤ) where
+  pub by-set-flg : ((h : Bool) → handler x ≡ some h → Passes v (handles v h) (caller v h) (setFlg v a b) → P (set-flg v a b))
+      → P (judge v (call x (pos 16) a b c))
   unfolding judge called numbered looked-up table setFlg bad
-  by-set-flg rule x = go (handler x)
+  by-set-flg rule = go (handler x) refl
     where
-      go : (o : Option Bool) → P (called v o (pos 16) a b c)
-      go none = no-way H-CALL refl
-      go (some h) = by-row (λ n r. P r) (λ n c e. no-way c e) v (handles v h) (caller v h) 16 (setFlg v a b) refl (rule h)
+      go : (o : Option Bool) → handler x ≡ o → P (called v o (pos 16) a b c)
+      go none e = no-way H-CALL refl
+      go (some h) e = by-row (λ n r. P r) (λ n c e. no-way c e) v (handles v h) (caller v h) 16 (setFlg v a b) refl (rule h e)
 
 nothing-ends : (b : Body) (f : ℕ) → EndsAtClear b f []
 nothing-ends b f [] after i d w e = let z : _≡_ {A = ℕ} 0 1 = cc in absurd (omega arith)
@@ -130,5 +131,5 @@ module _ (v : View) (s : Sound v) (a b : ℤ) where
   pub clear-ends : (x c : ℤ) → EndsAtClear (v .body) (nat a) (judge v (call x (pos 16) a b c) .acts)
   unfolding setFlg
   clear-ends x c =
-      by-set-flg (λ r. EndsAtClear (v .body) (nat a) (r .acts)) (λ d e. nothing-ends (v .body) (nat a)) v a b c
-      (λ h t. rule-ends (in-by a _ (t .words .0))) x
+      by-set-flg (λ r. EndsAtClear (v .body) (nat a) (r .acts)) (λ d e. nothing-ends (v .body) (nat a)) v x a b c
+      (λ h o t. rule-ends (in-by a _ (t .words .0)))

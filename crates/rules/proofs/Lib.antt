@@ -19,6 +19,7 @@ pub mod Spelled
 pub mod Setups
 pub mod Faults
 pub mod Events
+pub mod Looks
 pub mod Cells
 pub mod Clean
 pub mod Refused

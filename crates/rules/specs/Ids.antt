@@ -55,6 +55,11 @@ abbrev pub first : List ℕ → ℕ
 first [] = 0
 first (x ∷ l) = x
 
+-- the place of x in a list, counted from 1
+abbrev pub place : ℕ → List ℕ → ℕ
+place x [] = 0
+place x (y ∷ l) = cond (eqb y x) 1 (suc (place x l))
+
 -- a list by rising number: x goes before the first that has a larger one
 abbrev pub insert : (ℕ → ℕ) → ℕ → List ℕ → List ℕ
 insert number x [] = x ∷ []

@@ -1,7 +1,7 @@
 -- Calls 13 to 25 and 28 to 31: semaphores, flags, mailboxes and pools. Wait queues are first come, first served.
 -- The kinds have one shape: a call that gives (sig, set, snd, rel) serves the first waiter, else stores; a call that takes is
 -- served at once, or else waits (wai, rcv, get) or is refused (the polls); a status call gives the first waiter and what is stored.
-use mathlib.Core.Bool.{Bool, true, false, not, cond, _||_}
+use mathlib.Core.Bool.{Bool, true, false, not, cond, _&&_, _||_}
 use mathlib.Core.List.{List, [], _∷_}
 use mathlib.Core.Option.{Option, none, some}
 use Prim.Native.Nat.{ℕ, suc, _%_}
@@ -9,7 +9,7 @@ use lib.Bits.{bitAnd, bitOr}
 use lib.Dec.{eqb, leb}
 use lib.IntN.{ℤ}
 use lib.ListN.{length}
-use Rattle.rules.specs.Ids.{of, first}
+use Rattle.rules.specs.Ids.{of, keep, first, place}
 use Rattle.rules.specs.Codes.{OK, E-QOVR, H-POLL, H-MSG, H-ILBLK}
 use Rattle.rules.specs.State.{Kind, semaphore, flag, mailbox, pool, on, Body, task, waitOf, wish}
 use Rattle.rules.specs.Places.{waiters, mail}
@@ -81,9 +81,26 @@ meets b have x = let w : ℕ × ℕ = wish (waitOf (task b x .state)) in met hav
 abbrev pub asksClear : Body → ℕ → Bool
 asksClear b x = clears (wish (waitOf (task b x .state)) .1)
 
--- 16 set_flg(a, b): ORs b in, then goes through the waiters.
+-- waiter x is released with clearing by the pattern
+abbrev pub clearedBy : Body → ℕ → ℕ → Bool
+clearedBy b have x = meets b have x && asksClear b x
+
+-- the place in a queue of the first of some, or the whole queue's length if there is none
+abbrev pub placeOrLength : List ℕ → List ℕ → ℕ
+placeOrLength [] l = length l
+placeOrLength (x ∷ m) l = place x l
+
+-- How many waiters set_flg looks at: the place in the queue, before the call, of the first waiter released with clearing, or the whole
+-- queue's length if there is none. Until that waiter the pattern is as it was set.
+unfoldable pub looks : Body → ℕ → List ℕ → ℕ
+looks b have l = placeOrLength (keep (clearedBy b have) l) l
+
+-- 16 set_flg(a, b): ORs b in, then goes through the waiters; w1 is how many it looks at.
 unfoldable pub set-flg : View → ℤ → ℤ → Verdict
-set-flg v a b = done (serve-flag (v .body) (nat a) (bitOr (patternOf v a) (bits b)) (line v (waiters flag (nat a))))
+set-flg v a b =
+    let have : ℕ = bitOr (patternOf v a) (bits b) in
+    let l : List ℕ = line v (waiters flag (nat a)) in
+    gives (looks (v .body) have l) 0 (serve-flag (v .body) (nat a) have l)
 
 -- 17 clr_flg(a, b): ANDs.
 unfoldable pub clr-flg : View → ℤ → ℤ → Verdict

@@ -1,13 +1,14 @@
 -- The worked examples hold on both kernels, damaged states are refused, and setups are read as the table says, by computation.
 -- Assumes nothing.
-use mathlib.Core.List.{[], _∷_, map}
+use mathlib.Core.List.{[], _∷_, _++_, map}
 use mathlib.Core.Path.{_≡_, refl}
 use lib.IntN.{ℤ, pos}
 use Rattle.rules.specs.Codes.{minus}
-use Rattle.rules.specs.Events.{Event}
+use Rattle.rules.specs.Setup.{got}
+use Rattle.rules.specs.Events.{Event, enter}
 use Rattle.rules.specs.Runs.{play, plainPlay}
-use Rattle.rules_examples.specs.BenchSheet.{slp-tsk, wai-tsk, get-tid, taskCall, handlerCall, ran, plainRan, expected, Holds}
-use Rattle.rules_examples.specs.Examples.{taskExamples, objectExamples, handlerExamples, leaves, runBytes, runWords, runAnswers, damages, repairs, openRepairs, touched, unchanged, readings, read}
+use Rattle.rules_examples.specs.BenchSheet.{set-flg, slp-tsk, wai-tsk, get-tid, taskCall, handlerCall, ran, plainRan, expected, Holds}
+use Rattle.rules_examples.specs.Examples.{taskExamples, objectExamples, waitInTurn, fullSays, handlerExamples, leaves, runBytes, runWords, runAnswers, damages, repairs, openRepairs, touched, unchanged, readings, read}
 
 pub task-examples-hold : Holds taskExamples
 unfolding ran plainRan expected
@@ -16,6 +17,20 @@ task-examples-hold = (refl, refl)
 pub object-examples-hold : Holds objectExamples
 unfolding ran plainRan expected
 object-examples-hold = (refl, refl)
+
+-- In task context set_flg looks at 31 waiters, while the 32nd task runs: it releases nobody, or the last in the queue with clearing.
+pub looks-at-31 :
+    (fullSays (waitInTurn 30) (taskCall set-flg (pos 1) (pos 0) (pos 0)) ≡ got (pos 0 ∷ pos 31 ∷ pos 0 ∷ pos 32 ∷ pos 0 ∷ []) 288)
+    × (fullSays (waitInTurn 30) (taskCall set-flg (pos 1) (pos 1) (pos 0)) ≡ got (pos 0 ∷ pos 31 ∷ pos 0 ∷ pos 32 ∷ pos 1 ∷ []) 288)
+unfolding fullSays
+looks-at-31 = (refl, refl)
+
+-- From a handler it looks at 32, while nobody runs.
+pub looks-at-32 :
+    (fullSays (waitInTurn 31 ++ (enter ∷ [])) (handlerCall set-flg (pos 1) (pos 0) (pos 0)) ≡ got (pos 0 ∷ pos 32 ∷ pos 0 ∷ pos 0 ∷ pos 0 ∷ []) 288)
+    × (fullSays (waitInTurn 31 ++ (enter ∷ [])) (handlerCall set-flg (pos 1) (pos 1) (pos 0)) ≡ got (pos 0 ∷ pos 32 ∷ pos 0 ∷ pos 0 ∷ pos 1 ∷ []) 288)
+unfolding fullSays
+looks-at-32 = (refl, refl)
 
 pub handler-examples-hold : Holds handlerExamples
 unfolding ran plainRan expected

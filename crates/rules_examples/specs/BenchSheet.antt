@@ -226,10 +226,11 @@ benchSheet = record {
       -- B11 H>wup_tsk(1): 0 fifteen times, then -2889.
       ∷ case 0 1 (replicate 15 (step (H wup-tsk 1 0 0) (pos 0) 0 0 1 0) ++ step (H wup-tsk 1 0 0) (minus 2889) 0 0 1 0 ∷ []) 1 (pos 0) 0
       -- B12 X>wai_flg(1,3,2); X>set_flg(1,1): released 0; X>set_flg(1,6): released 1, cell word 7, pattern 0.
+      -- (Each set_flg looks at the one waiter: w1 1.)
       ∷ case 0 1
       (step (X wai-flg 1 3 2) (pos 1) 0 0 2 0
-      ∷ step (X set-flg 1 1 0) (pos 0) 0 0 2 0
-      ∷ step (X set-flg 1 6 0) (pos 0) 0 0 2 1
+      ∷ step (X set-flg 1 1 0) (pos 0) 1 0 2 0
+      ∷ step (X set-flg 1 6 0) (pos 0) 1 0 2 1
       ∷ step (X flg-sts 1 0 0) (pos 0) 0 0 2 0
       ∷ [])
       1 (pos 0) 7

@@ -15,8 +15,8 @@ use Rattle.rules.specs.Acts.{with-state, with-priority, with-wakeups, with-cell
 use Rattle.rules.specs.View.{View}
 use Rattle.rules.specs.Answers.{numbers}
 use Rattle.rules.specs.Kernel.{fresh, event, cell}
-use Rattle.rules.specs.Runs.{answers}
-use Rattle.rules_examples.specs.BenchSheet.{alone, step, sta-tsk, ext-tsk, ter-tsk, chg-pri, rot-rdq, rel-wai, sus-tsk, rsm-tsk, slp-tsk, wai-tsk, wup-tsk, can-wup, sig-sem, wai-sem, preq-sem, set-flg, clr-flg, wai-flg, pol-flg, snd-msg, rcv-msg, prcv-msg, get-blk, pget-blk, rel-blk, get-tid, tsk-sts, sem-sts, flg-sts, mbx-sts, mpl-sts, get-tim, X, H, I, X±, H±, case, Sheet, at-clock, benchBytes}
+use Rattle.rules.specs.Runs.{answers, states}
+use Rattle.rules_examples.specs.BenchSheet.{taskCall, alone, step, sta-tsk, ext-tsk, ter-tsk, chg-pri, rot-rdq, rel-wai, sus-tsk, rsm-tsk, slp-tsk, wai-tsk, wup-tsk, can-wup, sig-sem, wai-sem, preq-sem, set-flg, clr-flg, wai-flg, pol-flg, snd-msg, rcv-msg, prcv-msg, get-blk, pget-blk, rel-blk, get-tid, tsk-sts, sem-sts, flg-sts, mbx-sts, mpl-sts, get-tim, X, H, I, X±, H±, case, Sheet, at-clock, benchBytes}
 
 -- a word as four bytes, least significant first
 abbrev pub bytes : List ℕ → List ℕ
@@ -506,7 +506,7 @@ objectExamples = record {
       ∷ case 0 1
       (step (X wai-flg 1 1 3) (pos 1) 0 0 2 0
       ∷ step (X wai-flg 1 1 0) (pos 1) 0 0 5 0
-      ∷ step (X set-flg 1 1 0) (pos 0) 0 0 5 1
+      ∷ step (X set-flg 1 1 0) (pos 0) 1 0 5 1
       ∷ step (X flg-sts 1 0 0) (pos 0) 2 0 5 0
       ∷ step (X tsk-sts 2 0 0) (pos 0) 3 2 5 0
       ∷ [])
@@ -515,7 +515,7 @@ objectExamples = record {
       ∷ case 0 1
       (step (X wai-flg 1 1 0) (pos 1) 0 0 2 0
       ∷ step (X wai-flg 1 6 1) (pos 1) 0 0 5 0
-      ∷ step (X set-flg 1 3 0) (pos 0) 0 0 5 2
+      ∷ step (X set-flg 1 3 0) (pos 0) 2 0 5 2
       ∷ step (X flg-sts 1 0 0) (pos 0) 0 3 5 0
       ∷ [])
       2 (pos 0) 3
@@ -523,7 +523,7 @@ objectExamples = record {
       ∷ case 0 1
       (step (X wai-flg 1 4 0) (pos 1) 0 0 2 0
       ∷ step (X wai-flg 1 1 2) (pos 1) 0 0 5 0
-      ∷ step (X set-flg 1 1 0) (pos 0) 0 0 5 1
+      ∷ step (X set-flg 1 1 0) (pos 0) 2 0 5 1
       ∷ step (X flg-sts 1 0 0) (pos 0) 1 0 5 0
       ∷ [])
       2 (pos 0) 1
@@ -536,7 +536,7 @@ objectExamples = record {
       ∷ step (X wai-flg 1 1 2) (pos 1) 0 0 5 0
       ∷ step (X wai-flg 1 1 0) (pos 1) 0 0 4 0
       ∷ step (X wai-flg 1 3 3) (pos 1) 0 0 0 0
-      ∷ step (H set-flg 1 1 0) (pos 0) 0 0 3 2
+      ∷ step (H set-flg 1 1 0) (pos 0) 3 0 3 2
       ∷ step (X flg-sts 1 0 0) (pos 0) 1 0 3 0
       ∷ step (X tsk-sts 5 0 0) (pos 0) 3 2 3 0
       ∷ step (X tsk-sts 4 0 0) (pos 0) 3 3 3 0
@@ -551,7 +551,7 @@ objectExamples = record {
       ∷ step (X rsm-tsk 1 0 0) (pos 0) 0 0 5 0
       ∷ step (alone tick) (pos 0) 0 0 5 0
       ∷ step (X sus-tsk 1 0 0) (pos 0) 0 0 5 0
-      ∷ step (X set-flg 1 2 0) (pos 0) 0 0 5 1
+      ∷ step (X set-flg 1 2 0) (pos 0) 1 0 5 1
       ∷ step (X flg-sts 1 0 0) (pos 0) 2 0 5 0
       ∷ step (X tsk-sts 1 0 0) (pos 0) 4 2 5 0
       ∷ [])
@@ -559,8 +559,8 @@ objectExamples = record {
       -- A waiter's pattern is the unsigned number with the same bits too: here bit 31.
       ∷ case 0 1
       (step (X± wai-flg (pos 1) (minus 2147483648) (pos 0)) (pos 1) 0 0 2 0
-      ∷ step (X set-flg 1 1 0) (pos 0) 0 0 2 0
-      ∷ step (X± set-flg (pos 1) (minus 2147483648) (pos 0)) (pos 0) 0 0 2 1
+      ∷ step (X set-flg 1 1 0) (pos 0) 1 0 2 0
+      ∷ step (X± set-flg (pos 1) (minus 2147483648) (pos 0)) (pos 0) 1 0 2 1
       ∷ [])
       1 (pos 0) 2147483649
       -- 20 snd_msg(a, b): to the first waiter, else last in the mailbox. 21 rcv_msg(a), 22 prcv_msg(a): w1 the first message. A received
@@ -664,7 +664,7 @@ objectExamples = record {
       ∷ step (H flg-sts 2 0 0) (pos 0) 5 5 0 0
       ∷ step (H mpl-sts 2 0 0) (pos 0) 4 0 0 0
       ∷ step (H rel-blk 2 1 0) (pos 0) 0 0 4 1
-      ∷ step (H set-flg 2 8 0) (pos 0) 0 0 5 1
+      ∷ step (H set-flg 2 8 0) (pos 0) 1 0 5 1
       ∷ step (H snd-msg 2 3 0) (pos 0) 0 0 5 1
       ∷ step (H sig-sem 2 0 0) (pos 0) 0 0 5 1
       ∷ step (X sem-sts 2 0 0) (pos 0) 0 0 5 0
@@ -806,6 +806,19 @@ objectExamples = record {
       6 (minus 2100) 0
       ∷ [];
 }
+
+-- How many waiters set_flg can look at. One priority, 32 tasks of it, all started; one flag.
+abbrev pub fullBytes : List ℕ
+fullBytes = bytes (1 ∷ 32 ∷ (replicate 64 1 ++ (0 ∷ 1 ∷ 0 ∷ 0 ∷ 0 ∷ 0 ∷ [])))
+
+-- the first n tasks and one more wait on the flag in turn, that one for bit 1 with clearing, the others for bit 2
+abbrev pub waitInTurn : ℕ → List Event
+waitInTurn n = replicate n (taskCall wai-flg (pos 1) (pos 2) (pos 0)) ++ (taskCall wai-flg (pos 1) (pos 1) (pos 2) ∷ [])
+
+-- what comes back of an event after others, from the kernel with queues (the plain one would compute too long with 32 waiters)
+unfoldable pub fullSays : List Event → Event → Read (List ℤ)
+unfolding states
+fullSays l e = and-then (setup fullBytes) (λ u i. got (numbers (event (states (fresh u) l) e .answer)) i)
 
 -- Handlers: entry and return as events, over the same setup. Each case has the request's words above it.
 abbrev pub handlerExamples : Sheet

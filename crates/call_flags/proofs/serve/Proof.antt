@@ -10,10 +10,10 @@ use Rattle.call_flags.proofs.serve.Statement.{statement}
 use Rattle.call_flags.proofs.serve.Tie as tie
 
 abbrev Inv-loop : tie.InvT-loop
-Inv-loop words₀ i pattern n x₀ count₀ left₀ words x count left = (walked left n pattern x (made words count false) ≡ served i pattern words₀) × (count + left ≤ 32)
+Inv-loop words₀ i pattern n x₀ count₀ looked₀ left₀ words x count looked left = (walked left n pattern x (made words count looked false) ≡ served i pattern words₀) × (count + left ≤ 32) × (looked + left ≤ 32)
 
 abbrev μ-loop : tie.MeasureT-loop
-μ-loop words₀ i pattern n x₀ count₀ left₀ words x count left = left
+μ-loop words₀ i pattern n x₀ count₀ looked₀ left₀ words x count looked left = left
 
 system-requires : tie.Need-system-requires Inv-loop μ-loop
 system-requires c κs = search needs
@@ -31,7 +31,7 @@ loop-holds : tie.Need-loop-holds Inv-loop μ-loop
 loop-holds c =
     let y = c .before in
     let n = y .before .before in
-    (serve-starts _ _ _ (n .before .system .ensures) (n .at-most .ensures .0) (y .wait-anchor .ensures) (c .follow .ensures), omega (arith, n .at-most .ensures .1))
+    (serve-starts _ _ _ (n .before .system .ensures) (n .at-most .ensures .0) (y .wait-anchor .ensures) (c .follow .ensures), omega (arith, n .at-most .ensures .1), omega (arith, n .at-most .ensures .1))
 
 returns : tie.Need-returns Inv-loop μ-loop
 returns c = walk-ends _ _ _ _ _ (c .if1 .taken) ∙ c .before .before .loop .inv .0
@@ -48,7 +48,7 @@ returns-2 c =
     let f = a .before .before in
     let i = f .before .before in
     let t = i .before in
-    walk-cleared _ _ _ _ _ (c .if2 .taken) ∙ walk-on _ _ _ _ _ _ (let g = t .loop-test .taken in omega (arith, g)) (i .if1 .left) (f .follow2 .ensures) (a .look .ensures .0) ∙ t .before .loop .inv .0
+    walk-cleared _ _ _ _ _ (c .if2 .taken) ∙ walk-on _ _ _ _ _ _ _ (let g = t .loop-test .taken in omega (arith, g)) (i .if1 .left) (f .follow2 .ensures) (a .look .ensures .0) ∙ t .before .loop .inv .0
 
 sub-left : tie.Need-sub-left Inv-loop μ-loop
 sub-left c = search needs
@@ -64,7 +64,7 @@ loop-again c =
     let t = i .before in
     let h = t .before .loop .inv in
     let r = a .look .ensures in
-    (walk-on _ _ _ _ _ _ (let g = t .loop-test .taken in omega (arith, g)) (i .if1 .left) (f .follow2 .ensures) (rw (c .if2 .left) at (r .0)) ∙ h .0, omega (arith, r .1, t .loop-test .taken, h .1))
+    (walk-on _ _ _ _ _ _ _ (let g = t .loop-test .taken in omega (arith, g)) (i .if1 .left) (f .follow2 .ensures) (rw (c .if2 .left) at (r .0)) ∙ h .0, omega (arith, r .1 .0, t .loop-test .taken, h .1), omega (arith, r .1 .1, t .loop-test .taken, h .2))
 
 returns-3 : tie.Need-returns-3 Inv-loop μ-loop
 returns-3 c = walk-none _ _ _ _ _ (c .loop-test .left) ∙ c .before .loop .inv .0

@@ -16,8 +16,8 @@ left-by-requires c κs = search needs
 set-flag-requires : tie.Need-set-flag-requires
 set-flag-requires c κs = search needs
 
-releases-requires : tie.Need-releases-requires
-releases-requires c κs = search needs
+reports-requires : tie.Need-reports-requires
+reports-requires c κs = search needs
 
 returns : tie.Need-returns
 returns c =
@@ -26,7 +26,7 @@ returns c =
     let at-serve = at-left-by .before .before in
     let at-flag = at-serve .before .before in
     let start = at-flag .before .before in
-    set-done _ _ ((start .fits .p) .fits) (at-flag .flag .ensures) (at-serve .serve .ensures) (at-left-by .left-by .ensures) (at-set-flag .set-flag .ensures) (c .releases .ensures)
+    set-done _ _ ((start .fits .p) .fits) (at-flag .flag .ensures) (at-serve .serve .ensures) (at-left-by .left-by .ensures) (at-set-flag .set-flag .ensures) (c .reports .ensures)
 
 pub set-flg-spec : {M : Type 1} → statement M
-set-flg-spec = tie.close (tie.spec flag-requires serve-requires left-by-requires set-flag-requires releases-requires returns)
+set-flg-spec = tie.close (tie.spec flag-requires serve-requires left-by-requires set-flag-requires reports-requires returns)
