@@ -56,7 +56,7 @@ enum {
     OKROZUMBA_SIG_SEM = 13,  /* semaphore */
     OKROZUMBA_WAI_SEM = 14,  /* T, semaphore */
     OKROZUMBA_PREQ_SEM = 15, /* semaphore */
-    OKROZUMBA_SET_FLG = 16,  /* flag, pattern */
+    OKROZUMBA_SET_FLG = 16,  /* flag, pattern; w1 how many waiters were looked at: to the first released with clearing, else all */
     OKROZUMBA_CLR_FLG = 17,  /* flag, pattern */
     OKROZUMBA_WAI_FLG = 18,  /* T, flag, pattern, mode; w1 the pattern before clearing */
     OKROZUMBA_POL_FLG = 19,  /* flag, pattern, mode; w1 the same */

@@ -1,4 +1,4 @@
-//! The bench sheet of the paper, its further cases and those of request K2, as data: what a kernel must answer, word by word.
+//! The bench sheet of the paper, its further cases and those of requests K2 and K5, as data: what a kernel must answer, word by word.
 use crate::plain::{Answer, Event};
 use crate::setup::{self, Setup};
 
@@ -10,7 +10,7 @@ const ANY: i64 = i64::MIN;
 /// What comes back: code, w1, w2, running, released.
 type Wanted = [i64; 5];
 
-pub enum Step {
+enum Step {
     /// The running task calls.
     X(i32, [i32; 3], Wanted),
     /// Entry, a handler's call, return: running is read at the return, all else at the call.
@@ -47,7 +47,15 @@ const fn only(code: i64, running: i64) -> Wanted {
     [code, 0, 0, running, 0]
 }
 
-pub const CASES: [(&str, &[Step]); 29] = [
+/// The running task waits for the flag.
+const fn waits(wish: i32, mode: i32) -> Step {
+    X(18, [1, wish, mode], code(1))
+}
+
+const START_3: Step = X(1, [3, 0, 0], runs(0, 3));
+
+/// On the sheet's setup.
+const CASES: [(&str, &[Step]); 38] = [
     ("B1", &[Running(1)]),
     ("B2", &[X(1, [3, 0, 0], runs(0, 3))]),
     (
@@ -273,6 +281,112 @@ pub const CASES: [(&str, &[Step]); 29] = [
             Leave(only(0, 1)),
         ],
     ),
+    (
+        "set_flg looks at nobody in an empty queue",
+        &[
+            X(16, [1, 0, 0], only(0, 1)),
+            X(16, [1, 1, 0], only(0, 1)),
+            H(16, [1, -1, 0], only(0, 1)),
+        ],
+    ),
+    (
+        "it looks at all if it releases nobody",
+        &[
+            START_3,
+            waits(4, 0),
+            waits(4, 2),
+            X(16, [1, 0, 0], [0, 2, 0, 2, 0]),
+            X(16, [1, 3, 0], [0, 2, 0, 2, 0]),
+            waits(8, 3),
+            H(16, [1, 0, 0], [0, 3, 0, 0, 0]),
+            H(16, [1, 3, 0], [0, 3, 0, 0, 0]),
+        ],
+    ),
+    (
+        "it looks at all if it releases nobody with clearing",
+        &[
+            START_3,
+            waits(1, 0),
+            waits(3, 1),
+            waits(2, 0),
+            H(16, [1, 3, 0], [0, 3, 0, 3, 3]),
+        ],
+    ),
+    (
+        "the first released with clearing stands first",
+        &[
+            START_3,
+            waits(1, 2),
+            waits(1, 0),
+            waits(1, 3),
+            H(16, [1, 1, 0], [0, 1, 0, 3, 1]),
+            X(29, [1, 0, 0], words(1, 0)),
+            // the queue before this call is shorter
+            X(16, [1, 1, 0], [0, 2, 0, 3, 2]),
+        ],
+    ),
+    (
+        "it stands second",
+        &[
+            START_3,
+            waits(1, 0),
+            waits(1, 2),
+            waits(1, 1),
+            H(16, [1, 1, 0], [0, 2, 0, 3, 2]),
+            X(29, [1, 0, 0], words(2, 0)),
+        ],
+    ),
+    (
+        "it stands third",
+        &[
+            START_3,
+            waits(1, 0),
+            waits(1, 1),
+            waits(1, 2),
+            H(16, [1, 1, 0], [0, 3, 0, 3, 3]),
+        ],
+    ),
+    (
+        "who asked for clearing and stays ends nothing",
+        &[
+            START_3,
+            waits(2, 2),
+            waits(1, 0),
+            waits(1, 3),
+            H(16, [1, 1, 0], [0, 3, 0, 1, 2]),
+        ],
+    ),
+    (
+        "a suspended waiter is looked at",
+        &[
+            START_3,
+            waits(1, 2),
+            waits(1, 0),
+            X(7, [3, 0, 0], code(0)),
+            X(7, [1, 0, 0], code(0)),
+            X(16, [1, 2, 0], [0, 2, 0, 2, 0]),
+            X(16, [1, 1, 0], [0, 1, 0, 2, 1]),
+            X(27, [3, 0, 0], words(4, 1)),
+            X(16, [1, 1, 0], [0, 1, 0, 2, 1]),
+            X(16, [1, 1, 0], [0, 0, 0, 2, 0]),
+        ],
+    ),
+    (
+        "a refused set_flg tells of no waiter",
+        &[
+            START_3,
+            waits(1, 0),
+            waits(1, 2),
+            X(16, [0, 1, 0], only(-2100, 2)),
+            H(16, [2, 1, 0], only(-2100, 2)),
+            Call(16, [1, 1, 0], only(-2629, 2)),
+            Enter(only(0, 2)),
+            X(16, [1, 1, 0], only(-2629, 2)),
+            Leave(only(0, 2)),
+            X(9, [0, 0, 0], runs(1, 0)),
+            X(16, [1, 1, 0], only(-2629, 0)),
+        ],
+    ),
 ];
 
 const WAKE: Step = H(11, [1, 0, 0], runs(0, 1));
@@ -334,6 +448,59 @@ const NEST: [Step; 34] = [
     OUT,
     Leave(only(-2629, 1)),
 ];
+
+// ---- long queues
+
+const TASKS: usize = 32;
+
+/// All tasks run in turn, and there is one flag.
+fn crowd() -> Setup {
+    Setup {
+        priorities: 1,
+        tasks: vec![(1, true); TASKS],
+        semaphores: vec![],
+        flags: vec![0],
+        mailboxes: 0,
+        messages: 0,
+        pools: vec![],
+    }
+}
+
+/// set_flg on a queue of so many; the first released with clearing stands at the place `clearing`, 0 if there is none.
+fn queue(set_flg: fn(i32, [i32; 3], Wanted) -> Step, waiters: i64, clearing: i64) -> Vec<Step> {
+    let (looked, ahead) = match clearing {
+        0 => (waiters, waiters),
+        _ => (clearing, clearing - 1),
+    };
+    let wait = |place| match place % 2 {
+        _ if place > ahead => waits(1, 2),
+        // asks for clearing and stays
+        1 => waits(2, 2),
+        _ => waits(1, 0),
+    };
+    let released = ahead / 2 + i64::from(clearing > 0);
+    let set = set_flg(16, [1, 1, 0], [0, looked, 0, ANY, released]);
+    (1..=waiters).map(wait).chain([set]).collect()
+}
+
+/// On the crowd: every queue that a task and a handler can meet, with the clearing anywhere and nowhere.
+fn queues() -> Vec<(String, Vec<Step>)> {
+    let mut waiting: Vec<Step> = (0..TASKS).map(|_| waits(1, 0)).collect();
+    waiting.push(X(16, [1, 1, 0], only(-2629, 0)));
+    let mut all = vec![("no task is left to call".to_string(), waiting)];
+    for waiters in 0..=TASKS as i64 {
+        for clearing in 0..=waiters {
+            let name = |by: &str| format!("{by}: {waiters} waiters, clearing at {clearing}");
+            all.push((name("a handler"), queue(H, waiters, clearing)));
+            if waiters < TASKS as i64 {
+                all.push((name("a task"), queue(X, waiters, clearing)));
+            }
+        }
+    }
+    all
+}
+
+// ---- playing
 
 /// What the cases are played on: one kernel, or several that must agree.
 pub trait Bench {
@@ -422,6 +589,19 @@ fn step(bench: &mut impl Bench, step: &Step) -> Result<(), String> {
     }
 }
 
-pub fn play(bench: &mut impl Bench, steps: &[Step]) -> Result<(), String> {
-    steps.iter().try_for_each(|each| step(bench, each))
+fn play(bench: &mut impl Bench, name: &str, steps: &[Step]) -> Result<(), String> {
+    let played = steps.iter().try_for_each(|each| step(bench, each));
+    played.map_err(|d| format!("{name}: {d}"))
+}
+
+/// Plays each case on a bench of its own; gives how many there are.
+pub fn check<B: Bench>(fresh: impl Fn(&Setup) -> Result<B, String>) -> Result<usize, String> {
+    let (sheet, crowd, queues) = (setup()?, crowd(), queues());
+    for (name, steps) in CASES {
+        play(&mut fresh(&sheet)?, name, steps)?;
+    }
+    for (name, steps) in &queues {
+        play(&mut fresh(&crowd)?, name, steps)?;
+    }
+    Ok(CASES.len() + queues.len())
 }

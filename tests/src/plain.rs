@@ -84,6 +84,13 @@ pub struct Plain {
     numbers: u64,
 }
 
+/// Who waits for a flag, and for what.
+pub struct FlagWaiter {
+    pub task: u32,
+    pub wish: u32,
+    pub mode: u32,
+}
+
 /// How many there are of each.
 pub struct Counts {
     pub priorities: u32,
@@ -113,6 +120,11 @@ fn refuse_if(bad: bool, code: i32) -> Result<(), i32> {
 
 fn at(id: u32) -> usize {
     id as usize - 1
+}
+
+/// Whether a wait for a flag asks for clearing.
+fn clears(mode: u32) -> bool {
+    mode & 2 != 0
 }
 
 /// Ids by rising number.
@@ -252,6 +264,25 @@ impl Plain {
 
     fn waiters(&self, object: Object) -> Vec<u32> {
         self.queue(|t| matches!(t.standing.wait(), Some(Wait::On(on, _, _)) if on == object))
+    }
+
+    /// A flag's queue.
+    pub fn flag_waiters(&self, id: u32) -> Vec<FlagWaiter> {
+        let asks = |task| match self.task(task).standing.wait() {
+            Some(Wait::On(_, wish, mode)) => FlagWaiter { task, wish, mode },
+            _ => unreachable!("a waiter waits"),
+        };
+        let queue = self.waiters(Object::Flag(id));
+        queue.into_iter().map(asks).collect()
+    }
+
+    /// The place, from 1, of the first of a queue as it was that waits no more and had asked for clearing.
+    pub fn place_of_clearing(&self, queue: &[FlagWaiter]) -> Option<usize> {
+        let released = |task| self.task(task).standing.wait().is_none();
+        let first = queue
+            .iter()
+            .position(|waiter| released(waiter.task) && clears(waiter.mode));
+        first.map(|ahead| ahead + 1)
     }
 
     fn first_waiter(&self, object: Object) -> Option<u32> {
@@ -716,22 +747,21 @@ impl Plain {
     }
 
     fn set_flg(&mut self, id: u32, bits: u32) -> Said {
+        let queue = self.flag_waiters(id);
         self.flags[at(id)] |= bits;
-        for waiter in self.waiters(Object::Flag(id)) {
-            let Some(Wait::On(_, wish, mode)) = self.task(waiter).standing.wait() else {
-                unreachable!("a waiter waits");
-            };
+        for waiter in &queue {
             let pattern = self.flags[at(id)];
-            if meets(pattern, wish, mode) {
-                self.release(waiter, 0, pattern);
-                self.clear_if_asked(id, mode);
+            if meets(pattern, waiter.wish, waiter.mode) {
+                self.release(waiter.task, 0, pattern);
+                self.clear_if_asked(id, waiter.mode);
             }
         }
-        DONE
+        let place = self.place_of_clearing(&queue);
+        (0, place.unwrap_or(queue.len()) as u32, 0)
     }
 
     fn clear_if_asked(&mut self, id: u32, mode: u32) {
-        if mode & 2 != 0 {
+        if clears(mode) {
             self.flags[at(id)] = 0;
         }
     }

@@ -1,4 +1,4 @@
-//! The kernel of paper 01 and request K2 once more, unproved and written for speed: what `bench` measures the proved one against.
+//! The kernel of paper 01 and requests K2 and K5 once more, unproved and written for speed: what `bench` measures the proved one against.
 //!
 //! Queues are doubly linked rings in arrays: nodes 1 to 32 are tasks (1 to 256 messages), the nodes behind them anchors, one for each queue.
 //! Bit masks say which ready queues are nonempty and which tasks wait for a time. Nothing is allocated. Numbers that a sound state keeps in
@@ -639,22 +639,31 @@ impl Kernel {
         by.any()?;
         let anchor = wait_anchor(FLAG, f);
         let mut have = self.pattern[f as usize] | b as u32;
+        let mut looked = 0;
         let mut n = 0;
         let mut t = self.queue.next(anchor);
         while t != anchor {
             let next = self.queue.next(t);
             let Task { wish, mode, .. } = *self.at(t);
+            looked += 1;
             if meets(have, wish, mode) {
                 self.release(t, 0, have);
                 n += 1;
                 if mode & 2 != 0 {
+                    // a cleared pattern meets no wish
                     have = 0;
+                    break;
                 }
             }
             t = next;
         }
         self.pattern[f as usize] = have;
-        released(n)
+        Ok(Said {
+            code: 0,
+            w1: looked,
+            w2: 0,
+            released: n,
+        })
     }
 
     fn clr_flg(&mut self, by: Caller, a: i32, b: i32) -> Result<Said, i32> {

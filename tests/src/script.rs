@@ -130,7 +130,7 @@ const ALL: [i32; 32] = [
     27, 28, 29, 30, 31, 32,
 ];
 
-const MOODS: [Mood; 15] = [
+const MOODS: [Mood; 16] = [
     // of everything, right and wrong
     mood(&ALL, 10, 35, 10, 30),
     mood(&ALL, 5, 50, 50, 30),
@@ -138,6 +138,8 @@ const MOODS: [Mood; 15] = [
     mood(&[9, 10, 14, 18, 21, 23], 2, 2, 2, 50),
     mood(&[14, 18, 21, 23], 0, 0, 0, 99),
     mood(&[18], 0, 0, 0, 99),
+    // queues of a flag, with waiters of every mode, are served
+    mood(&[1, 7, 16, 17, 17, 18, 18, 18], 0, 20, 2, 20),
     // handlers serve
     mood(&[6, 8, 11, 13, 16, 20, 25], 10, 80, 3, 50),
     // tasks come and go
@@ -145,10 +147,10 @@ const MOODS: [Mood; 15] = [
     mood(&[1, 1, 1, 2, 3], 5, 60, 0, 0),
     // waits end while tasks are suspended
     mood(&[7, 8, 6, 10, 9, 14], 20, 50, 3, 40),
-    // counts rise and mailboxes fill
+    // counts rise and mailboxes fill; the last is short of events to fill one with all messages if it does anything else
     mood(&[11], 0, 90, 2, 90),
     mood(&[20, 20, 20, 22], 1, 50, 2, 60),
-    mood(&[20], 0, 95, 0, 95),
+    nested(0, mood(&[20], 0, 100, 0, 95)),
     // handlers in handlers, and what they do to the interrupted task
     nested(60, mood(&ALL, 10, 90, 5, 30)),
     nested(30, mood(&[4, 5, 7, 8, 26, 27], 5, 80, 3, 30)),

@@ -30,7 +30,7 @@ pub const SIG_SEM: i32 = 13;
 pub const WAI_SEM: i32 = 14;
 /// Semaphore.
 pub const PREQ_SEM: i32 = 15;
-/// Flag, pattern.
+/// Flag, pattern; w1 how many waiters were looked at: to the first released with clearing, else all.
 pub const SET_FLG: i32 = 16;
 /// Flag, pattern.
 pub const CLR_FLG: i32 = 17;

@@ -2,6 +2,7 @@
 use crate::pair::Pair;
 use crate::reach::Reached;
 use crate::Verdict;
+use second::looks::Looks;
 use second::picture::{Picture, Queues, Standing};
 use second::plain::{Event, Plain, DEPTH_MOST};
 use second::random::Random;
@@ -22,6 +23,7 @@ struct Tally {
     longest_mail: usize,
     deepest: u32,
     corners: [u64; CORNERS.len()],
+    looks: Looks,
 }
 
 /// What an open handler can meet.
@@ -82,6 +84,7 @@ impl Tally {
         self.events += 1;
         self.reached.answer(event, before.depth() > 0, answer.code);
         self.handlers(&before, event, &pair.plain);
+        self.looks.event(&before, event, &pair.plain, &answer);
         self.released_most = self.released_most.max(answer.released);
         pair.same_running()?;
         self.cells(pair)?;
@@ -141,9 +144,10 @@ pub fn check() -> Verdict {
             .map_err(|d| format!("seed {seed}: {d}"))?;
     }
     let table = tally.reached.table()?;
+    let looks = tally.looks.lines()?;
     tally.deep_enough()?;
     Ok(format!(
-        "{RUNS} runs, {} events, {} cells, {} states\n  longest queues: ready {}, waiters {}, messages {}; most released at once {}; handlers {} deep\n{}{table}",
+        "{RUNS} runs, {} events, {} cells, {} states\n  longest queues: ready {}, waiters {}, messages {}; most released at once {}; handlers {} deep\n{}{looks}{table}",
         tally.events,
         tally.cells,
         tally.pictures,

@@ -1,7 +1,7 @@
-//! The paper's bench sheet, its further cases and those of request K2, on both kernels.
+//! The paper's bench sheet, its further cases and those of requests K2 and K5, on both kernels.
 use crate::pair::Pair;
 use crate::Verdict;
-use second::cases::{self, Bench, CASES};
+use second::cases::{self, Bench};
 use second::plain::{Answer, Event};
 
 impl Bench for Pair {
@@ -25,10 +25,6 @@ impl Bench for Pair {
 }
 
 pub fn check() -> Verdict {
-    let setup = cases::setup()?;
-    for (name, steps) in CASES {
-        let mut pair = Pair::fresh(&setup)?;
-        cases::play(&mut pair, steps).map_err(|d| format!("{name}: {d}"))?;
-    }
-    Ok(format!("{} cases, both kernels", CASES.len()))
+    let cases = cases::check(Pair::fresh)?;
+    Ok(format!("{cases} cases, both kernels"))
 }

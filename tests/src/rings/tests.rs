@@ -1,7 +1,8 @@
 //! The rings beside the proved kernel, and beside the plain one, which no archive is needed for.
 use super::*;
-use crate::cases::{self, Bench, CASES};
+use crate::cases::{self, Bench};
 use crate::layout;
+use crate::looks::Looks;
 use crate::picture::{self, Object, Picture, Queues, Standing, Wait};
 use crate::plain::{Event, Plain};
 use crate::random::Random;
@@ -271,28 +272,30 @@ impl Bench for Both {
 /// What the papers say of single events.
 #[test]
 fn cases_hold() {
-    for (name, steps) in CASES {
-        let mut both = Both::fresh(&cases::setup().unwrap());
-        cases::play(&mut both, steps).unwrap_or_else(|d| panic!("{name}: {d}"));
-    }
+    cases::check(|setup| Ok(Both::fresh(setup))).unwrap();
 }
 
-/// Random runs in which handlers are nested: the same answers, and after each event the same state.
+/// Random runs in which handlers are nested and set_flg meets queues of each kind: the same answers, and after each event the same state.
 #[test]
 fn answers_are_the_plain_kernels() {
     let mut deepest = 0;
+    let mut looks = Looks::default();
     for seed in 0..RUNS {
         let (mut random, setup) = drawn(40_000 + seed);
         let mut both = Both::fresh(&setup);
         let mut author = Author::default();
         for _ in 0..EVENTS {
-            let event = author.event(&mut random, &both.plain);
-            both.event(event)
+            let before = both.plain.clone();
+            let event = author.event(&mut random, &before);
+            let answer = both
+                .event(event)
                 .unwrap_or_else(|d| panic!("seed {seed}: {d}"));
             deepest = deepest.max(both.plain.depth());
+            looks.event(&before, event, &both.plain, &answer);
         }
     }
     assert_eq!(deepest, 15);
+    looks.lines().unwrap();
 }
 
 /// From sound states that no short run reaches, too; and each has a memory that shows it.
