@@ -107,8 +107,12 @@ enum {
     OKROZUMBA_H_POLL = -5,        /* a poll that can't be served at once */
     OKROZUMBA_H_MSG = -6,         /* the message already lies in a mailbox */
     OKROZUMBA_H_NEST = -7,        /* an entry while 15 handlers are open */
-    OKROZUMBA_H_STATE = -9,       /* the state is damaged */
     OKROZUMBA_H_ILBLK = -10,      /* block number outside the pool, or free */
+    /* The state is damaged; the first of these that applies. */
+    OKROZUMBA_H_NUMBER = -20,     /* a number out of range anywhere, or any breach but the next three; w1 0 */
+    OKROZUMBA_H_QUEUE = -21,      /* a task missing from, doubled in or foreign to a queue; w1 the smallest such task */
+    OKROZUMBA_H_SERVED = -22,     /* a waiter on an object, first in line or not, beside what would serve it; w1 the smallest such waiter */
+    OKROZUMBA_H_TWICE = -23,      /* a message held twice; w1 the smallest such message */
     OKROZUMBA_E_TPRI = -1830,     /* priority outside 1..P (rot_rdq: 0..P) */
     OKROZUMBA_E_ILTIME = -1831,   /* wai_tsk time below -1 */
     OKROZUMBA_E_SELF = -2097,     /* ter_tsk, sus_tsk or wup_tsk on oneself, task context */
@@ -125,7 +129,7 @@ enum {
 
 /* ---- answers */
 
-/* What comes back of an event. w1 and w2 are 0 unless a call names them. */
+/* What comes back of an event. w1 and w2 are 0 unless a call or a code names them. */
 typedef struct okrozumba_answer {
     int32_t code;
     uint32_t w1;
@@ -181,23 +185,22 @@ okrozumba_outcome okrozumba_start(const uint8_t *setup, size_t setup_bytes, uint
                                   uint32_t messages[OKROZUMBA_MESSAGES]);
 
 /* A call from a context (OKROZUMBA_TASK, OKROZUMBA_HANDLER) by its number; words that the call does not take are ignored. On a damaged
-   state: H_STATE, all else 0, and the state as it was. It looks for damage itself. */
+   state: H_NUMBER to H_TWICE with its w1, all else 0, and the state as it was. It looks for damage itself. */
 okrozumba_answer okrozumba_call(uint32_t words[OKROZUMBA_STATE_WORDS], uint32_t messages[OKROZUMBA_MESSAGES], int32_t context,
                                 int32_t number, int32_t a, int32_t b, int32_t c);
 
-/* A tick: the clock rises, and timed waits that run out end. On a damaged state: H_STATE, all else 0, and the state as it was. It looks
-   for damage itself. */
+/* A tick: the clock rises, and timed waits that run out end. On a damaged state: as okrozumba_call. It looks for damage itself. */
 okrozumba_answer okrozumba_tick(uint32_t words[OKROZUMBA_STATE_WORDS], const uint32_t messages[OKROZUMBA_MESSAGES]);
 
 /* A handler is entered, up to 15 in each other. While one is open no task is switched: the running task reported is the one at the
-   outermost entry. On a damaged state: H_STATE, all else 0, and the state as it was. It looks for damage itself. */
+   outermost entry. On a damaged state: as okrozumba_call. It looks for damage itself. */
 okrozumba_answer okrozumba_enter(uint32_t words[OKROZUMBA_STATE_WORDS], const uint32_t messages[OKROZUMBA_MESSAGES]);
 
-/* A handler returns; behind the outermost the best ready task runs. On a damaged state: H_STATE, all else 0, and the state as it was. It
-   looks for damage itself. */
+/* A handler returns; behind the outermost the best ready task runs. On a damaged state: as okrozumba_call. It looks for damage itself. */
 okrozumba_answer okrozumba_leave(uint32_t words[OKROZUMBA_STATE_WORDS], const uint32_t messages[OKROZUMBA_MESSAGES]);
 
-/* Reads the answer cell of a task. On a damaged state H_STATE, then for a bad id E_NOEXS, each with word 0. It looks for damage itself. */
+/* Reads the answer cell of a task. On a damaged state H_NUMBER to H_TWICE, then for a bad id E_NOEXS, each with word 0. It looks for damage
+   itself. */
 okrozumba_reading okrozumba_cell(const uint32_t words[OKROZUMBA_STATE_WORDS], const uint32_t messages[OKROZUMBA_MESSAGES], int32_t task);
 
 /* The running task, while a handler is open the one at the outermost entry; 0 if there is none, and on a damaged state. It looks for damage
@@ -206,9 +209,8 @@ uint32_t okrozumba_running(const uint32_t words[OKROZUMBA_STATE_WORDS], const ui
 
 /* Events one after the other, five words each: kind, number, a, b, c (of what is no call only the kind counts). The code of event i goes to
    codes[i], its w1, w2, running and released to answers[4 i] and the next three; what lies behind the last is left. The answers are those
-   of one call after the other, and it is quicker: the state is looked at for damage once. On a damaged state every event is answered with
-   H_STATE and zeros. Returns OKROZUMBA_DONE, or OKROZUMBA_RAGGED, _FEW_CODES or _FEW_WORDS, the first that applies, with nothing
-   written. */
+   of one call after the other, and it is quicker: the state is looked at for damage once. On a damaged state every event is answered as by
+   okrozumba_call. Returns OKROZUMBA_DONE, or OKROZUMBA_RAGGED, _FEW_CODES or _FEW_WORDS, the first that applies, with nothing written. */
 uint32_t okrozumba_events(uint32_t words[OKROZUMBA_STATE_WORDS], uint32_t messages[OKROZUMBA_MESSAGES], const int32_t *events,
                           size_t event_words, int32_t *codes, size_t code_places, uint32_t *answers, size_t answer_words);
 

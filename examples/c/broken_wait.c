@@ -19,7 +19,7 @@
        tick: code 0, runs 2, released 1
        cell of task 1: code -3413, word 0
        task 2 sta_tsk(3): code 0, runs 3, released 0
-       memory overwritten, tick: code -9, runs 0, released 0 */
+       memory overwritten, tick: code -20, runs 0, released 0 */
 #include "okrozumba.h"
 
 #include <inttypes.h>

@@ -1,7 +1,10 @@
 //! The kernel's memory as it is described: docs/ARCHITECTURE.md, the table of columns (crates/memory_columns/specs/Layout.antt) and what their words stand
 //! for (crates/memory_picture/specs/Picture.antt). What any two arrays show, and arrays that show a picture. An id is an index into a column; entry
 //! 0 is unused.
-use crate::picture::{Breach, Object, Picture, Queues, Standing, Task, Wait, NONEMPTY_RULE};
+use crate::picture::{
+    Breach, Object, Picture, Queues, Standing, Task, Wait, BACKWARD_RULE, NONEMPTY_RULE,
+    UNLINKED_RULE,
+};
 use okrozumba::{State, MESSAGES, STATE_WORDS};
 
 /// Words of a column: where it begins. Its entries are found by id.
@@ -27,23 +30,20 @@ const SYSTEM: Column = Column(1171);
 const HANDLING: Column = Column(1180);
 const NONEMPTY: Column = Column(1182);
 
-/// The two directions of links, and the number of their nodes.
+/// The two directions of links.
 #[derive(Clone, Copy)]
-struct Links {
+pub struct Links {
     next: Column,
     prev: Column,
-    nodes: u32,
 }
 
-const TASK_LINKS: Links = Links {
+pub const TASK_LINKS: Links = Links {
     next: Column(363),
     prev: Column(468),
-    nodes: 105,
 };
-const MAIL_LINKS: Links = Links {
+pub const MAIL_LINKS: Links = Links {
     next: Column(625),
     prev: Column(898),
-    nodes: 273,
 };
 
 /// Anchors: the node before the first of each kind of queue.
@@ -53,6 +53,11 @@ const FLAG_ANCHORS: u32 = 64;
 const MAILBOX_ANCHORS: u32 = 80;
 const POOL_ANCHORS: u32 = 96;
 const MAIL_ANCHORS: u32 = 256;
+
+/// The node from which a mailbox's list begins.
+pub const fn mail_anchor(mailbox: u32) -> u32 {
+    MAIL_ANCHORS + mailbox
+}
 
 /// Entries of the system's column, and the greatest number of each thing.
 const PRIORITIES: (u32, u32) = (0, 16);
@@ -97,7 +102,7 @@ impl Reader<'_> {
         if count <= most {
             Ok(count)
         } else {
-            Err("a count")
+            Err(Breach::number("a count"))
         }
     }
 
@@ -119,7 +124,7 @@ impl Reader<'_> {
             )),
             4 => Ok(Wait::On(Object::Mailbox(object), 0, 0)),
             5 => Ok(Wait::On(Object::Pool(object), 0, 0)),
-            _ => Err("a wait's kind"),
+            _ => Err(Breach::number("a wait's kind")),
         }
     }
 
@@ -130,14 +135,14 @@ impl Reader<'_> {
             3 => Ok(Standing::Wait(self.wait(id)?)),
             4 => Ok(Standing::Suspend),
             5 => Ok(Standing::WaitSuspend(self.wait(id)?)),
-            _ => Err("a task's state"),
+            _ => Err(Breach::number("a task's state")),
         }
     }
 
     fn task(&self, id: u32) -> Result<Task, Breach> {
         let code = *CELL_CODES
             .get(self.at(CODE, id) as usize)
-            .ok_or("a cell's code")?;
+            .ok_or(Breach::number("a cell's code"))?;
         Ok(Task {
             start: self.at(START, id),
             priority: self.at(PRIORITY, id),
@@ -151,48 +156,30 @@ impl Reader<'_> {
     fn pool(&self, id: u32) -> Result<Vec<bool>, Breach> {
         let (size, free) = (self.at(SIZE, id), u64::from(self.at(FREE, id)));
         if size > 32 || free >> size != 0 {
-            return Err("a pool's blocks");
+            return Err(Breach::number("a pool's blocks"));
         }
         Ok((0..size).map(|block| free >> block & 1 == 1).collect())
     }
 
-    /// The ids from an anchor on, back to it; each node's links must be each other's inverse. Ids go up to `count`.
-    fn queue(&self, links: Links, anchor: u32, count: u32) -> Result<Vec<u32>, Breach> {
-        let mut ids = Vec::new();
-        let mut before = anchor;
-        loop {
-            let node = self.at(links.next, before);
-            if node >= links.nodes || self.at(links.prev, node) != before {
-                return Err("a link");
+    /// What the forward links list from an anchor on, back to it. A node that is no id of 1 to `count` is the last one listed, and so is
+    /// entry `count` + 1: a walk that does not come back lists somebody twice.
+    fn queue(&self, links: Links, anchor: u32, count: u32) -> Vec<u32> {
+        let mut listed = Vec::new();
+        let mut node = self.at(links.next, anchor);
+        while node != anchor && listed.len() <= count as usize {
+            listed.push(node);
+            if node == 0 || node > count {
+                break;
             }
-            if node == anchor {
-                return Ok(ids);
-            }
-            if node == 0 || node > count || ids.len() as u32 == count {
-                return Err("a queue");
-            }
-            ids.push(node);
-            before = node;
+            node = self.at(links.next, node);
         }
+        listed
     }
 
-    fn queues(&self, links: Links, anchors: u32, many: u32, count: u32) -> Result<Queues, Breach> {
+    fn queues(&self, links: Links, anchors: u32, many: u32, count: u32) -> Queues {
         (1..=many)
             .map(|id| self.queue(links, anchors + id, count))
             .collect()
-    }
-
-    /// An id that stands in no queue leads nowhere; its backward link is no part of the state.
-    fn rest_unlinked(&self, links: Links, count: u32, queues: &[&Queues]) -> Result<(), Breach> {
-        for id in 1..=count {
-            let stands = queues
-                .iter()
-                .any(|kind| kind.iter().any(|queue| queue.contains(&id)));
-            if !stands && self.at(links.next, id) != 0 {
-                return Err("a link of who stands nowhere");
-            }
-        }
-        Ok(())
     }
 
     /// With no handler open the word is no part of the state.
@@ -201,6 +188,7 @@ impl Reader<'_> {
         (self.at(HANDLING, DEPTH) > 0 && task != 0).then_some(task)
     }
 
+    /// What the memory shows, unless a number says nothing at all.
     fn picture(&self) -> Result<Picture, Breach> {
         let tasks = self.count(TASKS)?;
         let messages = self.count(MAILS)?;
@@ -208,7 +196,7 @@ impl Reader<'_> {
         let (semaphores, flags) = (self.count(SEMAPHORES)?, self.count(FLAGS)?);
         let (mailboxes, pools) = (self.count(MAILBOXES)?, self.count(POOLS)?);
         let of_tasks = |anchors, many| self.queues(TASK_LINKS, anchors, many, tasks);
-        let shown = Picture {
+        Ok(Picture {
             priorities,
             tasks: (1..=tasks)
                 .map(|id| self.task(id))
@@ -224,30 +212,88 @@ impl Reader<'_> {
                 | u64::from(self.at(SYSTEM, CLOCK_LOW)),
             depth: self.at(HANDLING, DEPTH),
             interrupted: self.interrupted(),
-            ready: of_tasks(READY_ANCHORS, priorities)?,
-            semaphore_waiters: of_tasks(SEMAPHORE_ANCHORS, semaphores)?,
-            flag_waiters: of_tasks(FLAG_ANCHORS, flags)?,
-            mailbox_waiters: of_tasks(MAILBOX_ANCHORS, mailboxes)?,
-            pool_waiters: of_tasks(POOL_ANCHORS, pools)?,
-            mail: self.queues(MAIL_LINKS, MAIL_ANCHORS, mailboxes, messages)?,
-        };
-        if self.at(NONEMPTY, 0) != nonempty(&shown.ready) {
-            return Err(NONEMPTY_RULE);
-        }
-        self.rest_unlinked(TASK_LINKS, tasks, &shown.task_queues())?;
-        self.rest_unlinked(MAIL_LINKS, messages, &[&shown.mail])?;
-        Ok(shown)
+            ready: of_tasks(READY_ANCHORS, priorities),
+            semaphore_waiters: of_tasks(SEMAPHORE_ANCHORS, semaphores),
+            flag_waiters: of_tasks(FLAG_ANCHORS, flags),
+            mailbox_waiters: of_tasks(MAILBOX_ANCHORS, mailboxes),
+            pool_waiters: of_tasks(POOL_ANCHORS, pools),
+            mail: self.queues(MAIL_LINKS, MAIL_ANCHORS, mailboxes, messages),
+        })
     }
 }
 
-/// The sound state that a kernel's memory shows, or a rule that it breaks.
-pub fn shown(state: &State) -> Result<Picture, Breach> {
-    let picture = Reader {
+// ---- where the layout can disagree with itself
+
+impl Reader<'_> {
+    /// Backwards the links lead through a queue as they do forwards, from its anchor and back to it.
+    fn goes_back(&self, links: Links, anchor: u32, queue: &[u32]) -> bool {
+        let nodes = queue.iter().copied().chain([anchor]);
+        let before = [anchor].into_iter().chain(queue.iter().copied());
+        nodes
+            .zip(before)
+            .all(|(node, before)| self.at(links.prev, node) == before)
+    }
+
+    fn go_back(&self, links: Links, anchors: u32, queues: &Queues) -> bool {
+        (anchors + 1..)
+            .zip(queues)
+            .all(|(anchor, queue)| self.goes_back(links, anchor, queue))
+    }
+
+    /// An id that stands in no queue leads nowhere; its backward link is no part of the state.
+    fn rest_unlinked(&self, links: Links, count: u32, queues: &[&Queues]) -> bool {
+        (1..=count).all(|id| {
+            let stands = queues
+                .iter()
+                .any(|kind| kind.iter().any(|queue| queue.contains(&id)));
+            stands || self.at(links.next, id) == 0
+        })
+    }
+
+    /// Of a picture that is sound: what of the memory says once more what its queues say.
+    fn agrees(&self, p: &Picture) -> Result<(), Breach> {
+        let kinds = [
+            (TASK_LINKS, READY_ANCHORS, &p.ready),
+            (TASK_LINKS, SEMAPHORE_ANCHORS, &p.semaphore_waiters),
+            (TASK_LINKS, FLAG_ANCHORS, &p.flag_waiters),
+            (TASK_LINKS, MAILBOX_ANCHORS, &p.mailbox_waiters),
+            (TASK_LINKS, POOL_ANCHORS, &p.pool_waiters),
+            (MAIL_LINKS, MAIL_ANCHORS, &p.mail),
+        ];
+        let back = kinds
+            .iter()
+            .all(|(links, anchors, queues)| self.go_back(*links, *anchors, queues));
+        let (tasks, messages) = (p.tasks.len() as u32, p.messages.len() as u32);
+        let rest = self.rest_unlinked(TASK_LINKS, tasks, &p.task_queues())
+            && self.rest_unlinked(MAIL_LINKS, messages, &[&p.mail]);
+        let marked = self.at(NONEMPTY, 0) == nonempty(&p.ready);
+        match (back, rest, marked) {
+            (false, _, _) => Err(Breach::number(BACKWARD_RULE)),
+            (_, false, _) => Err(Breach::number(UNLINKED_RULE)),
+            (_, _, false) => Err(Breach::number(NONEMPTY_RULE)),
+            _ => Ok(()),
+        }
+    }
+}
+
+fn reader(state: &State) -> Reader<'_> {
+    Reader {
         words: state.words(),
         messages: state.messages(),
     }
-    .picture()?;
+}
+
+/// What a memory shows, sound or not, unless a number says nothing at all.
+pub fn seen(state: &State) -> Result<Picture, Breach> {
+    reader(state).picture()
+}
+
+/// The sound state that a kernel's memory shows; else the first rule broken, at the smallest id: numbers, tasks in queues, waiters,
+/// messages, and then what the layout says twice.
+pub fn shown(state: &State) -> Result<Picture, Breach> {
+    let picture = seen(state)?;
     picture.sound()?;
+    reader(state).agrees(&picture)?;
     Ok(picture)
 }
 
@@ -392,6 +438,15 @@ pub fn with_ready_bit_changed(state: &State, bit: u32) -> State {
     let mut words = *state.words();
     words[NONEMPTY.0] ^= 1 << bit;
     State::of(words, *state.messages())
+}
+
+/// The memory with the forward link of a node leading elsewhere.
+pub fn with_next(state: &State, links: Links, node: u32, to: u32) -> State {
+    let mut w = Writer {
+        words: *state.words(),
+    };
+    w.put(links.next, node, to);
+    State::of(w.words, *state.messages())
 }
 
 /// The memory with any depth and interrupted task.

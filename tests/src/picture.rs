@@ -1,5 +1,6 @@
 //! A state as the paper's picture: what is kept of each task and object, and the queues as lists. Whether a picture is a sound state is
-//! decided here by "A sound state" of the paper alone.
+//! decided here by "A sound state" of the paper alone, and what is told of one that is not by request K6 alone.
+use std::fmt;
 
 /// What a task can wait on, by id.
 #[derive(Clone, Copy, PartialEq, Eq, Debug)]
@@ -87,22 +88,91 @@ pub struct Picture {
     pub mail: Queues,
 }
 
-/// The rule that is broken.
-pub type Breach = &'static str;
-pub const DEPTH_RULE: Breach = "depth of handlers";
-pub const INTERRUPTED_RULE: Breach = "interrupted task";
-pub const NONEMPTY_RULE: Breach = "word of nonempty ready queues";
+/// A rule in words.
+pub type Rule = &'static str;
+pub const DEPTH_RULE: Rule = "depth of handlers";
+pub const INTERRUPTED_RULE: Rule = "interrupted task";
+pub const MARK_RULE: Rule = "message's mark against its list";
+/// These three only a memory can break, no picture.
+pub const BACKWARD_RULE: Rule = "backward link";
+pub const UNLINKED_RULE: Rule = "link of who stands nowhere";
+pub const NONEMPTY_RULE: Rule = "word of nonempty ready queues";
+
+/// A number out of range anywhere, or any breach but those of the other three; its id is 0.
+pub const H_NUMBER: i32 = -20;
+/// A task missing from, doubled in or foreign to a queue.
+pub const H_QUEUE: i32 = -21;
+/// A waiter on an object, first in line or not, beside what would serve it.
+pub const H_SERVED: i32 = -22;
+/// A message held twice.
+pub const H_TWICE: i32 = -23;
+pub const DAMAGE_CODES: [i32; 4] = [H_NUMBER, H_QUEUE, H_SERVED, H_TWICE];
+
+/// What is told of a state that is not sound: the first rule broken, by its code, and the smallest id that breaks it.
+#[derive(Clone, Copy, PartialEq, Eq, Debug)]
+pub struct Breach {
+    pub code: i32,
+    pub id: u32,
+    pub rule: Rule,
+}
+
+impl Breach {
+    pub const fn number(rule: Rule) -> Breach {
+        Breach {
+            code: H_NUMBER,
+            id: 0,
+            rule,
+        }
+    }
+}
+
+impl fmt::Display for Breach {
+    fn fmt(&self, f: &mut fmt::Formatter) -> fmt::Result {
+        write!(f, "{} ({}, {})", self.rule, self.code, self.id)
+    }
+}
+
+/// A rule that an id breaks: its code, how many ids there are, and whether one breaks it.
+struct IdRule {
+    code: i32,
+    rule: Rule,
+    ids: fn(&Picture) -> usize,
+    broken: fn(&Picture, u32) -> bool,
+}
+
+/// In the order in which they are tried, where every number is in its range.
+const ID_RULES: [IdRule; 3] = [
+    IdRule {
+        code: H_QUEUE,
+        rule: "who stands in a queue",
+        ids: |p| p.tasks.len(),
+        broken: Picture::stands_wrong,
+    },
+    IdRule {
+        code: H_SERVED,
+        rule: "waiter beside what would serve it",
+        ids: |p| p.tasks.len(),
+        broken: Picture::overlooked,
+    },
+    IdRule {
+        code: H_TWICE,
+        rule: "message held twice",
+        ids: |p| p.messages.len(),
+        broken: Picture::held_twice,
+    },
+];
 
 pub const TICKS_MOST: u32 = 2_147_483_647;
 pub const CLOCK_END: u64 = 1 << 48;
 const DEPTH_MOST: u32 = 15;
 const CELL_CODES: [i32; 3] = [0, -3413, -3414];
 
-fn keep(holds: bool, rule: Breach) -> Result<(), Breach> {
+/// A rule on numbers, or one that has no code of its own.
+fn keep(holds: bool, rule: Rule) -> Result<(), Breach> {
     if holds {
         Ok(())
     } else {
-        Err(rule)
+        Err(Breach::number(rule))
     }
 }
 
@@ -119,24 +189,85 @@ pub fn meets(pattern: u32, wish: u32, mode: u32) -> bool {
     }
 }
 
-impl Picture {
-    pub fn task(&self, id: u32) -> &Task {
-        &self.tasks[id as usize - 1]
+/// Where a task can stand.
+#[derive(Clone, Copy, PartialEq, Eq, Debug)]
+enum Place {
+    Ready(u32),
+    On(Object),
+}
+
+/// Whether a task belongs anywhere, how often it stands there, and how often elsewhere.
+pub struct Stands {
+    belongs: bool,
+    at_home: usize,
+    elsewhere: usize,
+}
+
+impl Stands {
+    pub fn missing(&self) -> bool {
+        self.belongs && self.at_home == 0
     }
 
-    /// Whether it is a sound state.
+    pub fn doubled(&self) -> bool {
+        self.at_home > 1
+    }
+
+    pub fn foreign(&self) -> bool {
+        self.elsewhere > 0
+    }
+}
+
+fn times(queue: &[u32], id: u32) -> usize {
+    queue.iter().filter(|stands| **stands == id).count()
+}
+
+/// Of what stands in id order from 1 on.
+fn at<T>(all: &[T], id: u32) -> &T {
+    &all[id as usize - 1]
+}
+
+impl Picture {
+    pub fn task(&self, id: u32) -> &Task {
+        at(&self.tasks, id)
+    }
+
+    /// Whether it is a sound state; else the first rule broken, at the smallest id.
     pub fn sound(&self) -> Result<(), Breach> {
+        self.numbers_in_range()?;
+        match self.breaches().next() {
+            Some(first) => Err(first),
+            None => self.marks_agree(),
+        }
+    }
+
+    /// Whether every number is in its range; the rules behind it rely on that.
+    fn numbers_in_range(&self) -> Result<(), Breach> {
         self.counts_in_range()?;
         self.objects_in_range()?;
         for task in &self.tasks {
-            self.task_sound(task)?;
+            self.task_in_range(task)?;
         }
-        self.handlers_sound()?;
-        self.task_queues_sound()?;
-        self.mail_sound()?;
-        self.nobody_overlooked()
+        self.handlers_in_range()?;
+        self.entries_in_range()
     }
 
+    /// Each id that breaks a rule with a code of its own, by rule and then by id. Asked only of numbers in their ranges.
+    pub fn breaches(&self) -> impl Iterator<Item = Breach> + '_ {
+        ID_RULES.iter().flat_map(move |rule| {
+            let ids = 1..=(rule.ids)(self) as u32;
+            let broken = ids.filter(move |id| (rule.broken)(self, *id));
+            broken.map(move |id| Breach {
+                code: rule.code,
+                id,
+                rule: rule.rule,
+            })
+        })
+    }
+}
+
+// ---- numbers
+
+impl Picture {
     fn counts_in_range(&self) -> Result<(), Breach> {
         keep((1..=16).contains(&self.priorities), "number of priorities")?;
         keep((1..=32).contains(&self.tasks.len()), "number of tasks")?;
@@ -168,7 +299,7 @@ impl Picture {
     }
 
     /// The interrupted task is none, or one that is ready, running or suspended.
-    fn handlers_sound(&self) -> Result<(), Breach> {
+    fn handlers_in_range(&self) -> Result<(), Breach> {
         keep(self.depth <= DEPTH_MOST, DEPTH_RULE)?;
         let Some(id) = self.interrupted else {
             return Ok(());
@@ -181,7 +312,7 @@ impl Picture {
         keep(stands, INTERRUPTED_RULE)
     }
 
-    fn task_sound(&self, task: &Task) -> Result<(), Breach> {
+    fn task_in_range(&self, task: &Task) -> Result<(), Breach> {
         keep(
             (1..=self.priorities).contains(&task.start),
             "starting priority",
@@ -201,11 +332,11 @@ impl Picture {
         match task.standing.wait() {
             None | Some(Wait::Asleep) => Ok(()),
             Some(Wait::Timed(left)) => keep((1..=TICKS_MOST).contains(&left), "ticks left"),
-            Some(Wait::On(object, wish, mode)) => self.wait_sound(object, wish, mode),
+            Some(Wait::On(object, wish, mode)) => self.wait_in_range(object, wish, mode),
         }
     }
 
-    fn wait_sound(&self, object: Object, wish: u32, mode: u32) -> Result<(), Breach> {
+    fn wait_in_range(&self, object: Object, wish: u32, mode: u32) -> Result<(), Breach> {
         let there = match object {
             Object::Semaphore(id) => numbered(id, self.semaphores.len()),
             Object::Flag(id) => numbered(id, self.flags.len()),
@@ -220,95 +351,17 @@ impl Picture {
         Ok(())
     }
 
-    /// Each task with the number of times that it must stand in a queue: once in its own, never in another.
-    fn queue_holds(&self, queue: &[u32], member: impl Fn(&Task) -> bool) -> Result<(), Breach> {
-        keep(
-            queue.iter().all(|id| numbered(*id, self.tasks.len())),
-            "id in a queue",
-        )?;
-        for (at, task) in self.tasks.iter().enumerate() {
-            let id = at as u32 + 1;
-            let times = queue.iter().filter(|stands| **stands == id).count();
-            keep(times == usize::from(member(task)), "who stands in a queue")?;
+    /// What stands in a queue is an id.
+    fn entries_in_range(&self) -> Result<(), Breach> {
+        let ids = |queues: &Queues, count| queues.iter().flatten().all(|id| numbered(*id, count));
+        for queues in self.task_queues() {
+            keep(ids(queues, self.tasks.len()), "id in a queue")?;
         }
-        Ok(())
-    }
-
-    fn waiters_hold(&self, queues: &Queues, object: fn(u32) -> Object) -> Result<(), Breach> {
-        for (at, queue) in queues.iter().enumerate() {
-            let here = object(at as u32 + 1);
-            self.queue_holds(
-                queue,
-                |task| matches!(task.standing.wait(), Some(Wait::On(on, _, _)) if on == here),
-            )?;
-        }
-        Ok(())
-    }
-
-    fn task_queues_sound(&self) -> Result<(), Breach> {
-        for (at, queue) in self.ready.iter().enumerate() {
-            let priority = at as u32 + 1;
-            self.queue_holds(queue, |task| {
-                task.standing == Standing::Ready && task.priority == priority
-            })?;
-        }
-        self.waiters_hold(&self.semaphore_waiters, Object::Semaphore)?;
-        self.waiters_hold(&self.flag_waiters, Object::Flag)?;
-        self.waiters_hold(&self.mailbox_waiters, Object::Mailbox)?;
-        self.waiters_hold(&self.pool_waiters, Object::Pool)
-    }
-
-    /// A message lies in one mailbox at most, once.
-    fn mail_sound(&self) -> Result<(), Breach> {
-        for (at, mail) in self.mail.iter().enumerate() {
-            let mailbox = at as u32 + 1;
-            keep(
-                mail.iter().all(|id| numbered(*id, self.messages.len())),
-                "id in a mailbox",
-            )?;
-            for (at, lies_in) in self.messages.iter().enumerate() {
-                let times = mail.iter().filter(|id| **id == at as u32 + 1).count();
-                keep(
-                    times == usize::from(*lies_in == mailbox),
-                    "what lies in a mailbox",
-                )?;
-            }
-        }
-        Ok(())
-    }
-
-    /// No waiter beside what would serve it.
-    fn nobody_overlooked(&self) -> Result<(), Breach> {
-        for (count, waiters) in self.semaphores.iter().zip(&self.semaphore_waiters) {
-            keep(
-                *count == 0 || waiters.is_empty(),
-                "waiter beside a nonzero semaphore",
-            )?;
-        }
-        for (mail, waiters) in self.mail.iter().zip(&self.mailbox_waiters) {
-            keep(
-                mail.is_empty() || waiters.is_empty(),
-                "waiter beside a message",
-            )?;
-        }
-        for (free, waiters) in self.pools.iter().zip(&self.pool_waiters) {
-            keep(
-                !free.contains(&true) || waiters.is_empty(),
-                "waiter beside a free block",
-            )?;
-        }
-        for (pattern, waiters) in self.flags.iter().zip(&self.flag_waiters) {
-            let served = waiters
-                .iter()
-                .any(|id| match self.task(*id).standing.wait() {
-                    Some(Wait::On(_, wish, mode)) => meets(*pattern, wish, mode),
-                    _ => false,
-                });
-            keep(!served, "waiter beside a pattern that meets its condition")?;
-        }
-        Ok(())
+        keep(ids(&self.mail, self.messages.len()), "id in a mailbox")
     }
 }
+
+// ---- rules that an id breaks
 
 impl Picture {
     /// All queues of tasks, kind by kind.
@@ -320,5 +373,101 @@ impl Picture {
             &self.mailbox_waiters,
             &self.pool_waiters,
         ]
+    }
+
+    /// Each place of tasks with its queue.
+    fn places(&self) -> impl Iterator<Item = (Place, &Vec<u32>)> {
+        let kinds: [fn(u32) -> Place; 5] = [
+            Place::Ready,
+            |id| Place::On(Object::Semaphore(id)),
+            |id| Place::On(Object::Flag(id)),
+            |id| Place::On(Object::Mailbox(id)),
+            |id| Place::On(Object::Pool(id)),
+        ];
+        let kinds = kinds.into_iter().zip(self.task_queues());
+        kinds.flat_map(|(place, queues)| (1..).map(place).zip(queues))
+    }
+
+    /// Where a task belongs; a sleeper, a suspended and a dormant one nowhere.
+    fn home(&self, id: u32) -> Option<Place> {
+        let task = self.task(id);
+        match (task.standing, task.standing.wait()) {
+            (Standing::Ready, _) => Some(Place::Ready(task.priority)),
+            (_, Some(Wait::On(object, _, _))) => Some(Place::On(object)),
+            _ => None,
+        }
+    }
+
+    pub fn stands(&self, id: u32) -> Stands {
+        let home = self.home(id);
+        let mut stands = Stands {
+            belongs: home.is_some(),
+            at_home: 0,
+            elsewhere: 0,
+        };
+        for (place, queue) in self.places() {
+            let counted = if home == Some(place) {
+                &mut stands.at_home
+            } else {
+                &mut stands.elsewhere
+            };
+            *counted += times(queue, id);
+        }
+        stands
+    }
+
+    /// A task stands once where it belongs and nowhere else.
+    fn stands_wrong(&self, id: u32) -> bool {
+        let stands = self.stands(id);
+        stands.missing() || stands.doubled() || stands.foreign()
+    }
+
+    /// Whether a task waits for an object and is the first in line.
+    pub fn first_in_line(&self, id: u32) -> bool {
+        let waiters = self
+            .places()
+            .filter(|(place, _)| matches!(place, Place::On(_)));
+        let mut firsts = waiters.filter_map(|(_, queue)| queue.first());
+        firsts.any(|first| *first == id)
+    }
+
+    /// It need not be the first in line.
+    fn overlooked(&self, id: u32) -> bool {
+        let Some(Wait::On(object, wish, mode)) = self.task(id).standing.wait() else {
+            return false;
+        };
+        match object {
+            Object::Semaphore(on) => *at(&self.semaphores, on) > 0,
+            Object::Flag(on) => meets(*at(&self.flags, on), wish, mode),
+            Object::Mailbox(on) => !at(&self.mail, on).is_empty(),
+            Object::Pool(on) => at(&self.pools, on).contains(&true),
+        }
+    }
+
+    /// How often each mailbox holds a message.
+    pub fn held(&self, message: u32) -> impl Iterator<Item = usize> + '_ {
+        self.mail.iter().map(move |list| times(list, message))
+    }
+
+    /// All mailboxes taken together.
+    fn held_twice(&self, message: u32) -> bool {
+        self.held(message).sum::<usize>() > 1
+    }
+}
+
+// ---- what has no code of its own
+
+impl Picture {
+    /// A message's mark names the mailbox that holds it, or none.
+    fn marks_agree(&self) -> Result<(), Breach> {
+        let holder = |message| {
+            let mut mailboxes = (1..).zip(&self.mail);
+            let found = mailboxes.find(|(_, list)| list.contains(&message));
+            found.map_or(0, |(mailbox, _)| mailbox)
+        };
+        let agree = (1..)
+            .zip(&self.messages)
+            .all(|(id, mark)| *mark == holder(id));
+        keep(agree, MARK_RULE)
     }
 }

@@ -1,8 +1,10 @@
-//! The kernel of paper 01 and requests K2 and K5 once more, unproved and written for speed: what `bench` measures the proved one against.
+//! The kernel of paper 01 and requests K2, K5 and K6 once more, unproved and written for speed: what `bench` measures the proved one against.
 //!
 //! Queues are doubly linked rings in arrays: nodes 1 to 32 are tasks (1 to 256 messages), the nodes behind them anchors, one for each queue.
 //! Bit masks say which ready queues are nonempty and which tasks wait for a time. Nothing is allocated. Numbers that a sound state keeps in
 //! their ranges are trusted; `Kernel::is_sound` looks at all of them, and `Kernel::checked_event` does so before the event.
+
+mod damage;
 
 use crate::setup::{self, Fault};
 use okrozumba::code::*;
@@ -955,11 +957,13 @@ impl Kernel {
         }
     }
 
-    /// The same on a state that may be damaged: H_STATE if it is.
+    /// The same on a state that may be damaged: the first rule broken if it is, and the smallest id.
     pub fn checked_event(&mut self, e: &[i32; 5]) -> Answer {
         if !self.is_sound() {
+            let (code, id) = self.breach();
             return Answer {
-                code: H_STATE,
+                code,
+                w1: id,
                 ..Answer::default()
             };
         }
@@ -1095,7 +1099,8 @@ impl Kernel {
         let mut marks = [0u32; MESSAGES + 1];
         let home = |j: u32| match self.mailbox[j as usize] {
             0 => 0,
-            m => mail_anchor(m),
+            // a mark too large for a mailbox stays no anchor
+            m => mail_anchor(0).saturating_add(m),
         };
         self.mail
             .walk(self.messages, mail_anchor(1), self.mailboxes, &mut marks)

@@ -90,13 +90,14 @@ pub mod task_state {
     pub const WAIT_SUSPEND: u32 = 5;
 }
 
-/// What comes back of an event. `w1` and `w2` are 0 unless a call names them.
+/// What comes back of an event. `w1` and `w2` are 0 unless a call or a code names them. On a damaged state the code says the first rule
+/// broken, `w1` the smallest id that breaks it, and all else is 0.
 #[repr(C)]
 #[derive(Clone, Copy, PartialEq, Eq, Debug, Default)]
 pub struct Answer {
     /// One of [`code`].
     pub code: i32,
-    /// The call's first word.
+    /// The call's first word; of [`code::H_QUEUE`], [`code::H_SERVED`] and [`code::H_TWICE`] the task, waiter or message.
     pub w1: u32,
     /// The call's second word.
     pub w2: u32,
@@ -111,7 +112,7 @@ pub struct Answer {
 #[repr(C)]
 #[derive(Clone, Copy, PartialEq, Eq, Debug, Default)]
 pub struct Cell {
-    /// [`code::E_OK`], [`code::E_TMOUT`] or [`code::E_RLWAI`]; [`code::H_STATE`] or [`code::E_NOEXS`] if there was nothing to read.
+    /// [`code::E_OK`], [`code::E_TMOUT`] or [`code::E_RLWAI`]; if there was nothing to read, [`code::E_NOEXS`] or the code of the damage.
     pub code: i32,
     /// 0 unless a wait was served with a pattern, a message or a block.
     pub word: u32,
@@ -214,7 +215,7 @@ impl State {
     }
 
     /// A kernel from its words, as [`State::words`] and [`State::messages`] gave them or any others. If they are no sound state, every
-    /// event is answered with [`code::H_STATE`].
+    /// event is refused with what is damaged, [`code::H_NUMBER`] to [`code::H_TWICE`].
     pub fn of(words: [u32; STATE_WORDS], messages: [u32; MESSAGES]) -> State {
         State { words, messages }
     }
@@ -265,7 +266,7 @@ impl State {
         unsafe { archive::okrozumba_leave(&mut self.words, &self.messages) }
     }
 
-    /// The answer cell of a task: [`code::H_STATE`] on a damaged state, then [`code::E_NOEXS`] for a bad id, each with word 0.
+    /// The answer cell of a task: on a damaged state the code that an event gets, then [`code::E_NOEXS`] for a bad id, each with word 0.
     pub fn cell(&self, task: i32) -> Cell {
         // SAFETY: as in `call`.
         unsafe { archive::okrozumba_cell(&self.words, &self.messages, task) }

@@ -123,7 +123,7 @@ module _ (n : ℕ) (nx pv : List ℕ) where
   -- the line that the tour of an anchor has found
   found : (a : ℕ) (m m′ : List ℕ) → n < a → (w : Way n nx pv a a m m′) → lineOf n nx a ≡ w .xs
   unfolding lineOf
-  found a m m′ na w = walk-way nx n n a (w .xs) a (few n (w .xs) (distinct nx n a (w .xs) a na (w .ids) (w .forth)) (w .ids)) na (w .ids) (w .forth)
+  found a m m′ na w = walk-way nx (suc n) n a (w .xs) a (omega (arith, few n (w .xs) (distinct nx n a (w .xs) a na (w .ids) (w .forth)) (w .ids))) na (w .ids) (w .forth)
 
   tour-ring : (a : ℕ) (m : List ℕ) → n < a → Ring n nx pv a (lineOf n nx a) → All (Open m) (lineOf n nx a)
       → toured (suc n) n nx pv a a m ≡ passed (painted a (lineOf n nx a) m)

@@ -115,14 +115,19 @@ times-one i (x ∷ l) d (inr s) = rw (ne-eqb x i (λ e. stands-out i l s (subst 
 
 -- ---- the law
 
-module _ (n : ℕ) (nx pv qs m : List ℕ) (Q : Place → Type 0) (B : Place → ℕ → Bool) (H : ℕ → Option Place) (K : Homes n qs Q B H) (home : ℕ → ℕ)
-    (is : (i : ℕ) → In i n → home i ≡ anchorOf (H i)) (clean : (i : ℕ) → IsId n i → (i < length m) × (getD m i 0 ≡ 0)) (same : length pv ≡ length nx) where
-  belongs-home : (q : Place) → Q q → (i : ℕ) → In i n → Decides (B q i) (home i ≡ anchor q)
+-- one belongs to a place just where its anchor is the home
+module _ (n : ℕ) (qs : List ℕ) (Q : Place → Type 0) (B : Place → ℕ → Bool) (H : ℕ → Option Place) (K : Homes n qs Q B H) (home : ℕ → ℕ) (is : (i : ℕ) → In i n → home i ≡ anchorOf (H i)) where
+  pub belongs-home : (q : Place) → Q q → (i : ℕ) → In i n → Decides (B q i) (home i ≡ anchor q)
   belongs-home q u i h = ((λ e. is i h ∙ ap anchorOf (K .only q u i e)), back (H i) refl (K .holds i h))
     where
       back : (x : Option Place) → H i ≡ x → Belongs Q B i x → home i ≡ anchor q → B q i ≡ true
       back none e k z = let o : home i ≡ 0 = is i h ∙ ap anchorOf e in absurd (omega (arith, K .anchored (anchor q) (K .to q u)))
       back (some r) e k z = subst (λ (p : Place). B p i ≡ true) (K .one r q (k .0) u (sym (is i h ∙ ap anchorOf e) ∙ z)) (k .1)
+
+module _ (n : ℕ) (nx pv qs m : List ℕ) (Q : Place → Type 0) (B : Place → ℕ → Bool) (H : ℕ → Option Place) (K : Homes n qs Q B H) (home : ℕ → ℕ)
+    (is : (i : ℕ) → In i n → home i ≡ anchorOf (H i)) (clean : (i : ℕ) → IsId n i → (i < length m) × (getD m i 0 ≡ 0)) (same : length pv ≡ length nx) where
+  belongs : (q : Place) → Q q → (i : ℕ) → In i n → Decides (B q i) (home i ≡ anchor q)
+  belongs = belongs-home n qs Q B H K home is
 
   abbrev S : Survey
   S = surveyed n nx pv qs m
@@ -140,9 +145,9 @@ module _ (n : ℕ) (nx pv qs m : List ℕ) (Q : Place → Type 0) (B : Place →
       mark i = getD (S .marks) i 0
 
       counts : ((i : ℕ) → In i n → mark i ≡ home i) → (q : Place) → Q q → (i : ℕ) → In i n → (t : Bool) → B q i ≡ t → times i (L q) ≡ once t
-      counts f q u i h true e = times-one i (L q) (once-law W (anchor q) (K .to q u)) (M .stands (anchor q) i (K .to q u) h .0 (f i h ∙ belongs-home q u i h .0 e))
+      counts f q u i h true e = times-one i (L q) (once-law W (anchor q) (K .to q u)) (M .stands (anchor q) i (K .to q u) h .0 (f i h ∙ belongs q u i h .0 e))
       counts f q u i h false e = times-none i (L q) (elim (stands-or-out i (L q)) [
-        | inl s ↦ absurd (false≢true (sym e ∙ belongs-home q u i h .1 (sym (f i h) ∙ M .stands (anchor q) i (K .to q u) h .1 s)))
+        | inl s ↦ absurd (false≢true (sym e ∙ belongs q u i h .1 (sym (f i h) ∙ M .stands (anchor q) i (K .to q u) h .1 s)))
         | inr o ↦ o
       ])
 
@@ -150,7 +155,7 @@ module _ (n : ℕ) (nx pv qs m : List ℕ) (Q : Place → Type 0) (B : Place →
       homes g i h = elim (M .known i h) [
         | inl z ↦ z ∙ sym (away z (H i) refl (K .holds i h))
         | inr s ↦ let r = K .from (mark i) s in
-            sym (belongs-home (r .0) (r .1) i h .0 (there (r .0) (r .1) (subst (λ (a : ℕ). Stands i (lineOf n nx a)) (sym (r .2)) (M .stands (mark i) i s h .0 refl)) (B (r .0) i) refl) ∙ r .2)
+            sym (belongs (r .0) (r .1) i h .0 (there (r .0) (r .1) (subst (λ (a : ℕ). Stands i (lineOf n nx a)) (sym (r .2)) (M .stands (mark i) i s h .0 refl)) (B (r .0) i) refl) ∙ r .2)
       ]
         where
           there : (q : Place) → Q q → Stands i (L q) → (t : Bool) → B q i ≡ t → t ≡ true

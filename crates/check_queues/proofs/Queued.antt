@@ -70,15 +70,15 @@ module _ (b msgs : List ℕ) where
 module _ (b msgs : List ℕ) (size : length b ≡ stateWords) (R : Ranges b msgs) where
   -- ---- how many there are
 
-  tasks-few : tasksShown b ≤ maxTasks
+  pub tasks-few : tasksShown b ≤ maxTasks
   unfolding bodyShown
   tasks-few = omega (arith, R .sizes .tasks .1, length-ids (taskShown b) (tasksShown b))
 
-  messages-few : messagesShown b ≤ maxMessages
+  pub messages-few : messagesShown b ≤ maxMessages
   unfolding bodyShown storeShown
   messages-few = omega (arith, R .sizes .messages, length-ids (λ j. messageShown (of msgs j 0)) (messagesShown b))
 
-  priorities-few : many b Layout.priorities ≤ maxPriorities
+  pub priorities-few : many b Layout.priorities ≤ maxPriorities
   unfolding bodyShown storeShown
   priorities-few = R .sizes .priorities .1
 
@@ -110,7 +110,7 @@ module _ (b msgs : List ℕ) (size : length b ≡ stateWords) (R : Ranges b msgs
   )
 
   -- the home of a task
-  abbrev taskHomeOf : ℕ → Option Place
+  abbrev pub taskHomeOf : ℕ → Option Place
   taskHomeOf i = Form.taskHome (task (bodyShown b msgs) i .state) (task (bodyShown b msgs) i .priority)
 
   task-anchor : (q : Place) → TaskQueue (storeShown b msgs) q → Stands (anchor q) (anchorsOf (taskRanges b))
@@ -143,7 +143,7 @@ module _ (b msgs : List ℕ) (size : length b ≡ stateWords) (R : Ranges b msgs
       go (inr (inr (inr (inr (inl h))))) = (waiters pool (a - waitNode Layout.pools 0), there pool (a - waitNode Layout.pools 0) (omega (arith, h .0), omega (arith, h .1)), omega (arith, h .0))
       go (inr (inr (inr (inr (inr h))))) = absurd h
 
-  task-homes : Homes (tasksShown b) (anchorsOf (taskRanges b)) (TaskQueue (storeShown b msgs)) (belongs (bodyShown b msgs)) taskHomeOf
+  pub task-homes : Homes (tasksShown b) (anchorsOf (taskRanges b)) (TaskQueue (storeShown b msgs)) (belongs (bodyShown b msgs)) taskHomeOf
   unfolding belongs bodyShown
   task-homes = record {
     anchored = λ a s. omega (arith, tasks-few, rising-from (readyNode 1) (taskRanges b) task-rising a s);
@@ -167,7 +167,7 @@ module _ (b msgs : List ℕ) (size : length b ≡ stateWords) (R : Ranges b msgs
       only (waiters k o) h i e = wait-home (task (bodyShown b msgs) i .state) (task (bodyShown b msgs) i .priority) k o e
       only (mail m) h i e = absurd h
 
-  task-home-is : (i : ℕ) → In i (tasksShown b) → home b i ≡ anchorOf (taskHomeOf i)
+  pub task-home-is : (i : ℕ) → In i (tasksShown b) → home b i ≡ anchorOf (taskHomeOf i)
   unfolding home taskShown storeShown
   task-home-is i h = rw (task-is b msgs i h) (state-home (storeShown b msgs) shown-few (entry Layout.status b i) (entry Layout.priority b i) _ _ (omega (arith, R .tasks i h .priority .1, priorities-few))
       (wait-home-is (storeShown b msgs) shown-few (entry Layout.kind b i) (entry Layout.object b i) (entry Layout.wish b i) (entry Layout.mode b i) (entry Layout.ticks b i)) (R .tasks i h .wait))

@@ -54,7 +54,7 @@ fn wait_home(kind: u32, object: u32) -> u32
 }
 
 // The anchor of the queue to which a task belongs, 0 if to none.
-fn home(words: &[u32; STATE_WORDS], t: u32) -> u32
+pub fn home(words: &[u32; STATE_WORDS], t: u32) -> u32
     ensures { λ r. ⌜ r ≡ Queues.home (now (words .entry)) t ⌝ }
 {
     let s = status(words, t);

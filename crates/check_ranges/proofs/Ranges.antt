@@ -11,7 +11,7 @@ use lib.Dec.{eqb, leb}
 use lib.ListN.{length}
 use borrow.Author.Tests.{eqb-true, eqb-false, ne-eqb}
 use Rattle.rules.specs.Ids.{of, ids, In}
-use Rattle.rules.specs.Codes.{Code, OK, H-STATE, E-TMOUT, E-RLWAI}
+use Rattle.rules.specs.Codes.{Code, OK, H-NUMBER, E-TMOUT, E-RLWAI}
 use Rattle.rules.specs.State.{Kind, semaphore, flag, mailbox, pool, Wait, on, State, dormant, waiting, waiting-suspended, Task, Store, nobody, objects, waitOf, isDormant, isFreed, sleeps}
 use Rattle.rules.specs.Sound.{Sizes, LiesWell, StoreNumbers, CellNumbers, WishNumbers, WaitNumbers, SoundTask, HandlersFit}
 use Rattle.rules.proofs.Ids.{tested, of-ids, length-ids}
@@ -46,7 +46,7 @@ cell-law c w = decides-cond P (eqb c 0) served (decides-cond P (eqb c 1) (ended 
         back (inl h) = absurd (ne (h .0))
         back (inr h) = h .1
 
-    unknown : P H-STATE → ⊥
+    unknown : P H-NUMBER → ⊥
     unknown (inl h) = omega (arith, ap codeKept (h .0))
     unknown (inr (inl e, h)) = omega (arith, ap codeKept e)
     unknown (inr (inr e, h)) = omega (arith, ap codeKept e)

@@ -60,7 +60,7 @@ ghost use Rattle.check_ranges.specs.Ranges as Ranges;
 ghost use Rattle.check_ranges.specs.Ranges.{every};
 
 // One of 1 to n.
-fn within(i: u32, n: u32) -> bool
+pub fn within(i: u32, n: u32) -> bool
     ensures { λ r. ⌜ r ≡ Ranges.within i n ⌝ }
 {
     if i == 0 { false } else { i <= n }

@@ -37,11 +37,11 @@ of-queue c q n l e k = subst (λ (x : ℕ). Keeps x (belongs c q) l) e (k .known
 module _ (b msgs : List ℕ) where
   -- ---- what is shown
 
-  tasks-many : (q : Place) → TaskQueue (storeShown b msgs) q → many (bodyShown b msgs) q ≡ tasksShown b
+  pub tasks-many : (q : Place) → TaskQueue (storeShown b msgs) q → many (bodyShown b msgs) q ≡ tasksShown b
   unfolding bodyShown
   tasks-many q h = task-many (bodyShown b msgs) q h ∙ length-ids (taskShown b) (tasksShown b)
 
-  mails-many : (q : Place) → MailQueue (storeShown b msgs) q → many (bodyShown b msgs) q ≡ messagesShown b
+  pub mails-many : (q : Place) → MailQueue (storeShown b msgs) q → many (bodyShown b msgs) q ≡ messagesShown b
   unfolding bodyShown storeShown
   mails-many q h = mail-many (bodyShown b msgs) q h ∙ length-ids _ (messagesShown b)
 
@@ -49,7 +49,7 @@ module _ (b msgs : List ℕ) where
   unfolding viewShown
   line-is q h = line-tabulate (storeShown b msgs) (lineShown b) q h
 
-  task-line : (q : Place) → TaskQueue (storeShown b msgs) q → line (viewShown b msgs) q ≡ lineOf (tasksShown b) (words Layout.next b) (anchor q)
+  pub task-line : (q : Place) → TaskQueue (storeShown b msgs) q → line (viewShown b msgs) q ≡ lineOf (tasksShown b) (words Layout.next b) (anchor q)
   task-line q h = line-is q (task-exists (storeShown b msgs) q h) ∙ go q h
     where
       go : (q : Place) → TaskQueue (storeShown b msgs) q → lineShown b q ≡ lineOf (tasksShown b) (words Layout.next b) (anchor q)
@@ -57,7 +57,7 @@ module _ (b msgs : List ℕ) where
       go (waiters k o) h = unfold lineShown in refl
       go (mail m) h = absurd h
 
-  mail-line : (q : Place) → MailQueue (storeShown b msgs) q → line (viewShown b msgs) q ≡ lineOf (messagesShown b) (words Layout.mailNext b) (anchor q)
+  pub mail-line : (q : Place) → MailQueue (storeShown b msgs) q → line (viewShown b msgs) q ≡ lineOf (messagesShown b) (words Layout.mailNext b) (anchor q)
   mail-line q h = line-is q (mail-exists (storeShown b msgs) q h) ∙ go q h
     where
       go : (q : Place) → MailQueue (storeShown b msgs) q → lineShown b q ≡ lineOf (messagesShown b) (words Layout.mailNext b) (anchor q)
@@ -89,15 +89,15 @@ module _ (b msgs : List ℕ) where
   abbrev NobodyServed : Type 0
   NobodyServed = (i : ℕ) → In i (tasksShown b) → Unserved (storeShown b msgs) (waitOf (taskShown b i .state))
 
-  count : (i : ℕ) → In i (length (bodyShown b msgs .tasks)) → In i (tasksShown b)
+  pub count : (i : ℕ) → In i (length (bodyShown b msgs .tasks)) → In i (tasksShown b)
   unfolding bodyShown
   count i h = subst (In i) (length-ids (taskShown b) (tasksShown b)) h
 
-  recount : (i : ℕ) → In i (tasksShown b) → In i (length (bodyShown b msgs .tasks))
+  pub recount : (i : ℕ) → In i (tasksShown b) → In i (length (bodyShown b msgs .tasks))
   unfolding bodyShown
   recount i h = subst (In i) (sym (length-ids (taskShown b) (tasksShown b))) h
 
-  body-sound : Ranges b msgs → SoundBody (bodyShown b msgs)
+  pub body-sound : Ranges b msgs → SoundBody (bodyShown b msgs)
   unfolding bodyShown
   body-sound R = record {
     sizes = R .sizes;
@@ -106,7 +106,7 @@ module _ (b msgs : List ℕ) where
     handlers = R .handlers;
   }
 
-  sound-shown : SoundBody (bodyShown b msgs) → (i : ℕ) → In i (tasksShown b) → SoundTask (storeShown b msgs) (taskShown b i)
+  pub sound-shown : SoundBody (bodyShown b msgs) → (i : ℕ) → In i (tasksShown b) → SoundTask (storeShown b msgs) (taskShown b i)
   unfolding bodyShown
   sound-shown S i h = subst (SoundTask (storeShown b msgs)) (task-is b msgs i h) (S .tasks i (recount i h))
 

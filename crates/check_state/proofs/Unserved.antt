@@ -11,9 +11,9 @@ use lib.Dec.{eqb}
 use lib.ListN.{length}
 use borrow.Author.Tests.{eqb-true, eqb-false, eq-eqb, le-leb}
 use Rattle.rules.specs.Ids.{of, In, once, times}
-use Rattle.rules.specs.State.{Kind, semaphore, flag, mailbox, pool, Wait, Store, waitOf}
+use Rattle.rules.specs.State.{Kind, semaphore, flag, mailbox, pool, Wait, asleep, timed, on, Store, waitOf}
 use Rattle.rules.specs.Places.{Place, mail, lies, belongs}
-use Rattle.rules.specs.Objects.{free}
+use Rattle.rules.specs.Objects.{met, free}
 use Rattle.rules.specs.Sound.{WaitNumbers, anyLies, would-serve, Unserved}
 use Rattle.rules.proofs.Ids.{of-ids, length-ids}
 use Rattle.rules.proofs.Waits.{neither}
@@ -87,19 +87,58 @@ unfolding times
 none-belongs n f [] k = ((λ e j h. once-false (f j) (k .1 j h)), (λ g. refl))
 none-belongs n f (x ∷ l) k = ((λ e. absurd (omega (arith, k .0 .0 .0))), (λ g. absurd (omega (arith, k .1 x (k .0 .0), ap once (g x (k .0 .0)), ap once (eq-eqb x x refl)))))
 
--- ---- a waiter
+-- ---- objects
+
+module _ (b msgs : List ℕ) (R : Ranges b msgs) where
+  pub semaphore-law : (o : ℕ) → In o (many b Layout.semaphores) → Decides (eqb (entry Layout.semaphore b o) 0) (not (eqb (of (storeShown b msgs .semaphores) o 0) 0) ≡ false)
+  unfolding storeShown
+  semaphore-law o h = rw (of-ids (entry Layout.semaphore b) (many b Layout.semaphores) o 0 h) (decides-not-not _)
+
+  pub flag-law : (o p m : ℕ) → In o (many b Layout.flags) → Decides (not (met (entry Layout.flag b o) p m)) (met (of (storeShown b msgs .flags) o 0) p m ≡ false)
+  unfolding storeShown
+  flag-law o p m h = rw (of-ids (entry Layout.flag b) (many b Layout.flags) o 0 h) (decides-not _)
+
+  pub pool-law : (o : ℕ) → In o (many b Layout.pools) → Decides (eqb (entry Layout.free b o) 0) (not (eqb (free (of (storeShown b msgs .pools) o [])) 0) ≡ false)
+  unfolding storeShown
+  pool-law o h = decides-as (decides-eq (entry Layout.free b o) 0) (λ e. decides-not-not _ .0 (eq-eqb _ 0 (same .0 e))) (λ e. same .1 (eqb-true _ 0 (decides-not-not _ .1 e)))
+    where
+      at : of (storeShown b msgs .pools) o [] ≡ poolShown (entry Layout.size b o) (entry Layout.free b o)
+      at = of-ids (λ p. poolShown (entry Layout.size b p) (entry Layout.free b p)) (many b Layout.pools) o [] h
+
+      same : (entry Layout.free b o ≡ 0) ↔ (free (of (storeShown b msgs .pools) o []) ≡ 0)
+      same = rw at (pool-free (entry Layout.size b o) (entry Layout.free b o) (subst (λ (l : List Bool). In (length l) maxBlocks) at (R .store .pools o (subst (In o) (sym (length-ids _ _)) h))))
+
+-- ---- a waiter: P says of a wait that nothing would serve it
+
+module _ (b msgs : List ℕ) (R : Ranges b msgs) (P : Option Wait → Type 0) (none-waits : P none) (sleeper : P (some asleep)) (ticking : (t : ℕ) → P (some (timed t)))
+    (object : (c : Kind) (n o p m : ℕ) → n ≡ kindNumber c → In o (manyOf b c) → Decides (waitFree b n o p m) (P (some (on c o (asked c p) (asked c m))))) where
+  abbrev u : Store
+  u = storeShown b msgs
+
+  wait-law : (k o p m t : ℕ) → WaitNumbers u (some (waitShown k o p m t)) → Decides (waitFree b k o p m) (P (some (waitShown k o p m t)))
+  unfolding waitFree
+  wait-law k o p m t = kind-cases k o p m t (λ w. WaitNumbers u (some w) → Decides (waitFree b k o p m) (P (some w)))
+      (λ e h. rw e (decides-yes sleeper)) (λ e h. rw e (decides-yes (ticking t))) (λ c e h. object c k o p m e (subst (In o) (objects-shown b msgs c) (h .0))) (λ h. absurd (omega (arith, h .0)))
+
+  state-law : (s : ℕ) (w : Wait) (t : Bool) → (WaitNumbers u (some w) → Decides t (P (some w))) → WaitNumbers u (waitOf (stateShown s w))
+      → Decides (cond (eqb s 3 || eqb s 5) t true) (P (waitOf (stateShown s w)))
+  state-law s w t f = status-cases s w (λ x. WaitNumbers u (waitOf x) → Decides (cond (eqb s 3 || eqb s 5) t true) (P (waitOf x)))
+      (λ e h. rw e (decides-yes none-waits)) (λ e h. rw e (decides-yes none-waits)) (λ e h. rw e (f h)) (λ e h. rw e (decides-yes none-waits)) (λ e h. rw e (f h)) (λ h. absurd (omega (arith, h .0)))
+
+  pub waiter-law : (i : ℕ) → In i (tasksShown b) → Decides (unservedOk b i) (P (waitOf (taskShown b i .state)))
+  unfolding unservedOk taskShown
+  waiter-law i h = state-law (entry Layout.status b i) _ (waitFreeAt b i) (wait-law _ _ _ _ _) (R .tasks i h .wait)
+
+-- ---- all waiters
 
 module _ (b msgs : List ℕ) (size : length b ≡ stateWords) (R : Ranges b msgs)
     (M : Linked (messagesShown b) (UsedByMail (storeShown b msgs)) (words Layout.mailNext b) (words Layout.mailPrev b) (lineOf (messagesShown b) (words Layout.mailNext b)))
     (K : (q : Place) → MailQueue (storeShown b msgs) q → Keeps (messagesShown b) (belongs (bodyShown b msgs) q) (lineOf (messagesShown b) (words Layout.mailNext b) (anchor q))) where
-  abbrev u : Store
-  u = storeShown b msgs
-
-  mailbox-law : (o : ℕ) → In o (many b Layout.mailboxes) → Decides (eqb (firstOf (words Layout.mailNext b) (mailAnchor o)) 0) (anyLies (u .messages) o ≡ false)
+  mailbox-law : (o : ℕ) → In o (many b Layout.mailboxes) → Decides (eqb (firstOf (words Layout.mailNext b) (mailAnchor o)) 0) (anyLies (storeShown b msgs .messages) o ≡ false)
   unfolding storeShown belongs bodyShown
   mailbox-law o h = decides-as (decides-eq _ 0)
-      (λ e. nowhere (u .messages) o .1 (λ j r. empty .0 (sym first ∙ e) j (subst (In j) (length-ids _ _) r)))
-      (λ e. first ∙ empty .1 (λ j r. nowhere (u .messages) o .0 e j (subst (In j) (sym (length-ids _ _)) r)))
+      (λ e. nowhere (storeShown b msgs .messages) o .1 (λ j r. empty .0 (sym first ∙ e) j (subst (In j) (length-ids _ _) r)))
+      (λ e. first ∙ empty .1 (λ j r. nowhere (storeShown b msgs .messages) o .0 e j (subst (In j) (sym (length-ids _ _)) r)))
     where
       line : List ℕ
       line = lineOf (messagesShown b) (words Layout.mailNext b) (anchor (mail o))
@@ -113,33 +152,12 @@ module _ (b msgs : List ℕ) (size : length b ≡ stateWords) (R : Ranges b msgs
       empty : (headOf line 0 ≡ 0) ↔ ((j : ℕ) → In j (messagesShown b) → belongs (bodyShown b msgs) (mail o) j ≡ false)
       empty = none-belongs (messagesShown b) (belongs (bodyShown b msgs) (mail o)) line (K (mail o) h)
 
-  pool-law : (o : ℕ) → In o (many b Layout.pools) → Decides (eqb (entry Layout.free b o) 0) (not (eqb (free (of (u .pools) o [])) 0) ≡ false)
-  unfolding storeShown
-  pool-law o h = decides-as (decides-eq (entry Layout.free b o) 0) (λ e. decides-not-not _ .0 (eq-eqb _ 0 (same .0 e))) (λ e. same .1 (eqb-true _ 0 (decides-not-not _ .1 e)))
-    where
-      at : of (u .pools) o [] ≡ poolShown (entry Layout.size b o) (entry Layout.free b o)
-      at = of-ids (λ p. poolShown (entry Layout.size b p) (entry Layout.free b p)) (many b Layout.pools) o [] h
-
-      same : (entry Layout.free b o ≡ 0) ↔ (free (of (u .pools) o []) ≡ 0)
-      same = rw at (pool-free (entry Layout.size b o) (entry Layout.free b o) (subst (λ (l : List Bool). In (length l) maxBlocks) at (R .store .pools o (subst (In o) (sym (length-ids _ _)) h))))
-
-  object-law : (c : Kind) (n o p m : ℕ) → n ≡ kindNumber c → In o (manyOf b c) → Decides (waitFree b n o p m) (would-serve u c o (asked c p) (asked c m) ≡ false)
-  unfolding waitFree storeShown
-  object-law semaphore n o p m e h = rw (e, of-ids (entry Layout.semaphore b) (many b Layout.semaphores) o 0 h) (decides-not-not _)
-  object-law flag n o p m e h = rw (e, of-ids (entry Layout.flag b) (many b Layout.flags) o 0 h) (decides-not _)
-  object-law mailbox n o p m e h = rw e (mailbox-law o h)
-  object-law pool n o p m e h = rw e (pool-law o h)
-
-  wait-law : (k o p m t : ℕ) → WaitNumbers u (some (waitShown k o p m t)) → Decides (waitFree b k o p m) (Unserved u (some (waitShown k o p m t)))
+  object-law : (c : Kind) (n o p m : ℕ) → n ≡ kindNumber c → In o (manyOf b c) → Decides (waitFree b n o p m) (would-serve (storeShown b msgs) c o (asked c p) (asked c m) ≡ false)
   unfolding waitFree
-  wait-law k o p m t = kind-cases k o p m t (λ w. WaitNumbers u (some w) → Decides (waitFree b k o p m) (Unserved u (some w)))
-      (λ e h. rw e (decides-yes tt)) (λ e h. rw e (decides-yes tt)) (λ c e h. object-law c k o p m e (subst (In o) (objects-shown b msgs c) (h .0))) (λ h. absurd (omega (arith, h .0)))
-
-  state-law : (s : ℕ) (w : Wait) (t : Bool) → (WaitNumbers u (some w) → Decides t (Unserved u (some w))) → WaitNumbers u (waitOf (stateShown s w))
-      → Decides (cond (eqb s 3 || eqb s 5) t true) (Unserved u (waitOf (stateShown s w)))
-  state-law s w t f = status-cases s w (λ x. WaitNumbers u (waitOf x) → Decides (cond (eqb s 3 || eqb s 5) t true) (Unserved u (waitOf x)))
-      (λ e h. rw e (decides-yes tt)) (λ e h. rw e (decides-yes tt)) (λ e h. rw e (f h)) (λ e h. rw e (decides-yes tt)) (λ e h. rw e (f h)) (λ h. absurd (omega (arith, h .0)))
+  object-law semaphore n o p m e h = rw e (semaphore-law b msgs R o h)
+  object-law flag n o p m e h = rw e (flag-law b msgs R o p m h)
+  object-law mailbox n o p m e h = rw e (mailbox-law o h)
+  object-law pool n o p m e h = rw e (pool-law b msgs R o h)
 
   pub unserved-law : Decides (every (many b Layout.tasks) 1 (unservedOk b)) ((i : ℕ) → In i (tasksShown b) → Unserved (storeShown b msgs) (waitOf (taskShown b i .state)))
-  unfolding unservedOk taskShown
-  unserved-law = decides-every (many b Layout.tasks) (unservedOk b) (λ i h. state-law (entry Layout.status b i) _ (waitFreeAt b i) (wait-law _ _ _ _ _) (R .tasks i h .wait))
+  unserved-law = decides-every (many b Layout.tasks) (unservedOk b) (waiter-law b msgs R (Unserved (storeShown b msgs)) tt tt (λ t. tt) object-law)

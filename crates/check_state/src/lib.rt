@@ -54,7 +54,7 @@ fn wait_free(words: &[u32; STATE_WORDS], t: u32) -> bool
     }
 }
 
-fn unserved_ok(words: &[u32; STATE_WORDS], t: u32) -> bool
+pub fn unserved_ok(words: &[u32; STATE_WORDS], t: u32) -> bool
     ensures { λ r. ⌜ r ≡ Unserved.unservedOk (now (words .entry)) t ⌝ }
 {
     let s = status(words, t);

@@ -1,7 +1,6 @@
 -- A batch, event by event: what has run so far, and one event more. Assumes nothing.
 use mathlib.Core.Bool.{Bool, true, false, cond, false≢true}
 use mathlib.Core.List.{List, [], _∷_, _++_, map, append-nil, append-assoc}
-use mathlib.Core.Logic.{_↔_}
 use mathlib.Core.Path.{_≡_, refl, sym, ap, _∙_, subst}
 use Prim.Native.Nat.{ℕ, zero, suc, _+_, _*_, _/_, _%_, _≤_, _<_}
 use native.Mathlib.Omega.{arith}
@@ -11,7 +10,6 @@ use borrow.Author.Tests.{eqb-true, leb-true}
 use lib.ListN.{length, drop, getD, set, length-set, length-append, length-map, drop-of-length-le}
 use Rattle.rules.specs.Setup.{Read, got, refused, Setup, setup}
 use Rattle.rules.specs.Events.{Event, eventsOf}
-use Rattle.memory_picture.specs.Picture.{Accepted}
 use Rattle.memory_running.specs.Running.{runningOf}
 use Rattle.kernel_start.specs.Starting.{StartsAs, Starts}
 use Rattle.kernel_start.specs.declared.Started.{Started}
@@ -21,6 +19,8 @@ use Rattle.kernel_batches.specs.declared.Batch.the-variants.{Done, Ragge
 use Rattle.kernel_batches.specs.declared.Ran.{Ran}
 use Rattle.kernel_batches.specs.declared.Ran.the-variants as Ran
 use Rattle.kernel_batches.specs.declared.Ran.the-variants.{Unfit}
+use Rattle.check_damage.specs.declared.Breach.{Breach}
+use Rattle.check_damage.specs.Judged.{Judged}
 use Rattle.kernel_events.specs.Serving.{Known}
 use Rattle.kernel_events.specs.Steps.{Reply, Step, Link, Chain, lastWords, lastMarks}
 use Rattle.kernel_batches.specs.Batches.{fitOf, fitted, Lent, over, codesOf, wordsOf, lent, answered, eventAt, EventRan, RanThrough, BatchedAs, Batched, RunsAs, RunsFrom}
@@ -198,13 +198,13 @@ module _ (given : List ℤ) (i : ℕ) (old new : Lent) (S : SoFar given i old ne
 -- ---- the loop
 
 -- what holds where i events have run: so much is done, the lent places keep their lengths, and it is known whether the state is sound and who runs
-pub record Running (given : List ℤ) (sound : Bool) (me i : ℕ) (old new : Lent) : Type 0 where
+pub record Running (given : List ℤ) (f : Breach) (me i : ℕ) (old new : Lent) : Type 0 where
   pub so-far : SoFar given i old new
-  pub known : Known sound me (new .words) (new .marks)
+  pub known : Known f me (new .words) (new .marks)
   pub codes : length (new .codes) ≡ length (old .codes)
   pub answers : length (new .answers) ≡ length (old .answers)
 
-pub begins : (given : List ℤ) (old : Lent) {sound : Bool} {me : ℕ} → (sound ≡ true) ↔ Accepted (old .words) (old .marks) → me ≡ runningOf (old .words) → Running given sound me 0 old old
+pub begins : (given : List ℤ) (old : Lent) {f : Breach} {me : ℕ} → Judged (old .words) (old .marks) (f .code) (f .id) → me ≡ runningOf (old .words) → Running given f me 0 old old
 begins given old s e = record { so-far = none-yet given old; known = known-first (old .words) (old .marks) s e; codes = refl; answers = refl }
 
 -- there is place for event i
@@ -216,15 +216,15 @@ pub record Place (given : List ℤ) (i : ℕ) (old : Lent) : Type 0 where
 pub place : (given : List ℤ) (i : ℕ) (old : Lent) → fitted given old ≡ Done → i < length given / 5 → Place given i old
 place given i old f h = let q = fit-sizes (length given) (length (old .codes)) (length (old .answers)) f in record { event = omega (arith, h); code = omega (arith, h, q .1); answer = omega (arith, h, q .2) }
 
-pub goes-on : {given : List ℤ} {sound : Bool} {me i now : ℕ} {old new later : Lent} → Place given i old → (R : Running given sound me i old new) → EventRan given i new later now → Running given sound now (i + 1) old later
-goes-on {given} {sound} {me} {i} {now} {old} {new} {later} P R E = let e : suc i ≡ i + 1 = omega arith in subst (λ (k : ℕ). Running given sound now k old later) e (record {
+pub goes-on : {given : List ℤ} {f : Breach} {me i now : ℕ} {old new later : Lent} → Place given i old → (R : Running given f me i old new) → EventRan given i new later now → Running given f now (i + 1) old later
+goes-on {given} {f} {me} {i} {now} {old} {new} {later} P R E = let e : suc i ≡ i + 1 = omega arith in subst (λ (k : ℕ). Running given f now k old later) e (record {
   so-far = one-more given i old new (R .so-far) (P .event) (P .code) (P .answer) later E;
-  known = subst (λ (x : ℕ). Known sound x (later .words) (later .marks)) (sym (E .runs)) (known-on (R .known) (E .step));
+  known = subst (λ (x : ℕ). Known f x (later .words) (later .marks)) (sym (E .runs)) (known-on (R .known) (E .step));
   codes = rw (E .codes) (simp length-set (R .codes));
   answers = rw (E .answers) (simp length-set (R .answers));
 })
 
-pub ends : {given : List ℤ} {sound : Bool} {me i : ℕ} {old new : Lent} → fitted given old ≡ Done → length given / 5 ≤ i → Running given sound me i old new → RanThrough given old new
+pub ends : {given : List ℤ} {f : Breach} {me i : ℕ} {old new : Lent} → fitted given old ≡ Done → length given / 5 ≤ i → Running given f me i old new → RanThrough given old new
 ends {given} {i = i} {old = old} {new = new} f h R = let q = fit-sizes (length given) (length (old .codes)) (length (old .answers)) f in all-run given i old new (omega (arith, h, q .0)) (R .so-far)
 
 -- ---- the contracts

@@ -1,5 +1,5 @@
 -- Many events at once: `events` and `run`, on any memory and any lent outputs.
-use mathlib.Core.Bool.{Bool, cond}
+use mathlib.Core.Bool.{cond}
 use mathlib.Core.List.{List, [], _∷_, _++_, map}
 use mathlib.Core.Path.{_≡_}
 use Prim.Native.Nat.{ℕ, _+_, _*_, _/_, _%_}
@@ -14,6 +14,7 @@ use Rattle.kernel_batches.specs.declared.Batch.{Batch}
 use Rattle.kernel_batches.specs.declared.Batch.the-variants as Batch
 use Rattle.kernel_batches.specs.declared.Ran.{Ran}
 use Rattle.kernel_batches.specs.declared.Ran.the-variants as Ran
+use Rattle.check_damage.specs.declared.Breach.{Breach}
 use Rattle.kernel_events.specs.Serving.{Known}
 use Rattle.kernel_events.specs.Steps.{Reply, Step, Link, Chain, lastWords, lastMarks}
 
@@ -72,9 +73,9 @@ pub record EventRan (given : List ℤ) (i : ℕ) (old new : Lent) (now : ℕ) : 
   pub answers : new .answers ≡ answered i (reply .w1) (reply .w2) (reply .runs) (reply .released) (old .answers)
   pub runs : now ≡ reply .runs
 
--- for who knows whether the state is sound and who runs
-abbrev pub ServesAt : List ℤ → ℕ → Bool → ℕ → Lent → Lent → ℕ → Type 0
-ServesAt given i sound me old new now = Known sound me (old .words) (old .marks) → EventRan given i old new now
+-- for who knows whether the state is sound, who runs, and what is broken
+abbrev pub ServesAt : List ℤ → ℕ → Breach → ℕ → Lent → Lent → ℕ → Type 0
+ServesAt given i f me old new now = Known f me (old .words) (old .marks) → EventRan given i old new now
 
 -- The events ran one after the other: there is a chain of just these events, from the memory before to the memory after, and its codes and words
 -- are what was written.

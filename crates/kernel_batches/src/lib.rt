@@ -1,5 +1,6 @@
 // Many events, one after the other: the state is checked once, at the beginning, and the running task is carried from event to event.
-use check_state::accepts;
+use check_damage::Breach;
+use check_damage::judged;
 use kernel_events::Answer;
 use kernel_events::serve;
 use kernel_start::Started;
@@ -68,7 +69,7 @@ fn write_code(codes: &mut [i32], i: usize, code: i32)
 fn serve_one(
     words: &mut [u32; STATE_WORDS],
     messages: &mut [u32; 256],
-    sound: bool,
+    found: Breach,
     me: u32,
     events: &[i32],
     i: usize,
@@ -76,13 +77,13 @@ fn serve_one(
     answers: &mut [u32],
 ) -> u32
     requires { ⌜ (5 * i + 5 ≤ length (now events)) × (suc i ≤ length (now codes)) × (4 * i + 4 ≤ length (now answers)) ⌝ }
-    ensures { λ r. ⌜ ServesAt (now (events .entry)) i sound me (lent (now (words .entry)) (now (messages .entry)) (now (codes .entry)) (now (answers .entry))) (lent (now (words .exit)) (now (messages .exit)) (now (codes .exit)) (now (answers .exit))) r ⌝ }
+    ensures { λ r. ⌜ ServesAt (now (events .entry)) i found me (lent (now (words .entry)) (now (messages .entry)) (now (codes .entry)) (now (answers .entry))) (lent (now (words .exit)) (now (messages .exit)) (now (codes .exit)) (now (answers .exit))) r ⌝ }
 {
     let at = 5 * i;
     let r = serve(
         words,
         messages,
-        sound,
+        found,
         me,
         events[at],
         events[at + 1],
@@ -106,12 +107,12 @@ fn serve_all(
     requires { ⌜ fitOf (length (now events)) (length (now codes)) (length (now answers)) ≡ Batch.Done ⌝ }
     ensures { λ _. ⌜ RanThrough (now (events .entry)) (lent (now (words .entry)) (now (messages .entry)) (now (codes .entry)) (now (answers .entry))) (lent (now (words .exit)) (now (messages .exit)) (now (codes .exit)) (now (answers .exit))) ⌝ }
 {
-    let sound = accepts(words, messages);
+    let found = judged(words, messages);
     let mut me = running_task(words);
     let n = events.len() / 5;
     let mut i: usize = 0;
     while i < n {
-        me = serve_one(words, messages, sound, me, events, i, codes, answers);
+        me = serve_one(words, messages, found, me, events, i, codes, answers);
         i += 1;
     }
 }

@@ -6,7 +6,8 @@ use mathlib.Core.Path.{_≡_, refl, sym, _∙_}
 use Prim.Native.Nat.{ℕ}
 use lib.IntN.{ℤ}
 use lib.ListN.{length}
-use Rattle.rules.specs.Codes.{H-STATE, E-NOEXS, number}
+use Rattle.rules.specs.Codes.{E-NOEXS, number}
+use Rattle.rules.specs.Breach.{breach}
 use Rattle.rules.specs.Events.{nat, outside}
 use Rattle.rules.specs.Answers.{readCell}
 use Rattle.rules.specs.State.{task, nobody}
@@ -25,8 +26,8 @@ module _ {b msgs : List ℕ} {r : Bool} (law : (r ≡ true) ↔ Accepted b msgs)
 
   -- ---- cells
 
-  pub unreadable : (a : ℤ) → r ≡ false → Reads b msgs a (number H-STATE) 0
-  unreadable a e = record { sound = λ h. absurd (refuted e h); damaged = λ h. (refl, refl) }
+  pub unreadable : (a : ℤ) → r ≡ false → {c : ℤ} → ((Accepted b msgs → ⊥) → c ≡ number (breach (viewShown b msgs) .code)) → Reads b msgs a c 0
+  unreadable a e f = record { sound = λ h. absurd (refuted e h); damaged = λ h. (f h, refl) }
 
   module _ (y : r ≡ true) (a : ℤ) {n : ℕ} (en : n ≡ tasksShown b) where
     count : length (viewShown b msgs .body .tasks) ≡ n

@@ -3,9 +3,10 @@ use call_judging::is_outside;
 use call_words::codes::E_NOEXS;
 use call_words::codes::E_RLWAI;
 use call_words::codes::E_TMOUT;
-use call_words::codes::H_STATE;
 use call_words::codes::OK;
 use call_words::named;
+use check_damage::H_NUMBER;
+use check_damage::first_breach;
 use check_state::accepts;
 use memory_columns::CELL_OK;
 use memory_columns::CELL_RLWAI;
@@ -35,17 +36,18 @@ fn code_of(kept: u32) -> i32
         CELL_OK => OK,
         CELL_TMOUT => E_TMOUT,
         CELL_RLWAI => E_RLWAI,
-        _ => H_STATE,
+        _ => H_NUMBER,
     }
 }
 
-// The cell of a task: H_STATE if the state is damaged, then E_NOEXS for a bad id, each with word 0.
+// The cell of a task: the code of what is broken if the state is damaged, then E_NOEXS for a bad id, each with word 0.
 pub fn cell(words: &[u32; STATE_WORDS], messages: &[u32; 256], task: i32) -> Reading
     ensures { λ r. ⌜ Reads (now (words .entry)) (now (messages .entry)) task (r .code) (r .word) ⌝ }
 {
     if !accepts(words, messages) {
+        let broken = first_breach(words, messages);
         return Reading {
-            code: H_STATE,
+            code: broken.code,
             word: 0,
         };
     }

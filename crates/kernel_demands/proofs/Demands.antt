@@ -9,7 +9,8 @@ use lib.Dec.{eqb, lit≤}
 use lib.IntN.{ℤ, pos, negsuc}
 use lib.ListN.{length}
 use Rattle.rules.specs.Ids.{of, In, once}
-use Rattle.rules.specs.Codes.{H-STATE, E-RLWAI, number}
+use Rattle.rules.specs.Codes.{E-RLWAI, number, inDamage, tellsDamage}
+use Rattle.rules.specs.Breach.{breach}
 use Rattle.rules.specs.State.{Body, task}
 use Rattle.rules.specs.Setup.{got, setup, Setup}
 use Rattle.rules.specs.Events.{Event, tick, call, nat, AllWords}
@@ -20,6 +21,7 @@ use Rattle.rules.specs.Plain.{Plain, viewOf, plainFresh, plainNext, plainAnswer
 use Rattle.rules.specs.Blocks.{isFree, Happened, granted, gaveBack, AllAccounted}
 use Rattle.rules.specs.Demand3.{Agree, Alike, happened, Demand3}
 use Rattle.rules.specs.Broken.{isFresh, Unless, StaysBroken}
+use Rattle.rules.proofs.Breach.{breach-tells}
 use Rattle.rules.proofs.Events.{event-served, event-next}
 use Rattle.rules.proofs.Blocks.{event-balance}
 use Rattle.rules.proofs.Demand3.{demand3}
@@ -60,11 +62,12 @@ same {past} {s = s} H A = record {
 
 -- the rules' claim along a chain is the claim of the code
 on-code : (past : List Happened) {b m : List ℕ} {v : View} (s : Plain) (l : List Link) → Holds b m v → Chain b m l → Demand3 past v s (map (λ k. k .event) l) → Demand3OnCode past b m s l
+unfolding tellsDamage
 on-code past s [] H C D = same H D
 on-code past {b} {m} {v} s (k ∷ l) H C D = (
   same H (D .0),
   step-says H (C .0) ∙ ap told (D .1),
-  (λ h. D .2 (own-number _ H-STATE (ap (λ (r : Reply). r .code) (sym (step-says H (C .0))) ∙ h))),
+  ap (λ (r : Reply). inDamage (r .code)) (step-says H (C .0)) ∙ D .2,
   subst (λ (x : Happened). Demand3OnCode (x ∷ past) (k .words) (k .marks) (plainNext s (k .event)) l) (sym was)
       (on-code (happened s (k .event) ∷ past) (plainNext s (k .event)) l after (C .1) (D .3)),
 )
@@ -157,19 +160,15 @@ chain-broken b m A (k ∷ l) C = (λ x a y z e c. stays-broken-on-code b m A k l
 
 -- ---- nothing else breaks a wait off
 
-state-not-broken : number H-STATE ≢ number E-RLWAI
-unfolding number
-state-not-broken h = false≢true (sym (ap isNine h))
-  where
-    isNine : ℤ → Bool
-    isNine (pos n) = false
-    isNine (negsuc n) = eqb n 8
+damage-not-broken : (v : View) → number (breach v .code) ≢ number E-RLWAI
+unfolding number tellsDamage
+damage-not-broken v h = false≢true (sym (ap inDamage h) ∙ breach-tells v)
 
 -- whatever the memory holds
 pub never-answered-on-code : {e : Event} {b m : List ℕ} {r : Reply} {b′ m′ : List ℕ} → Step e b m r b′ m′ → r .code ≢ number E-RLWAI
-never-answered-on-code {e} {b} {m} {r} S h = state-not-broken (sym (ap (λ (q : Reply). q .code) damaged) ∙ h)
+never-answered-on-code {e} {b} {m} {r} S h = damage-not-broken (viewShown b m) (sym (ap (λ (q : Reply). q .code) damaged) ∙ h)
   where
-    damaged : r ≡ unsound
+    damaged : r ≡ unsound b m
     damaged = S .refuses (λ A. never-answered (viewShown b m) e (own-number _ E-RLWAI (ap (λ (q : Reply). q .code) (sym (S .answers A)) ∙ h)))
 
 pub chain-only-rel-wai : (b m : List ℕ) → Accepted b m → (l : List Link) → Chain b m l → OnlyRelWaiOnCode b m l

@@ -7,7 +7,7 @@ use Prim.Native.Nat.{ℕ, _+_, _/_, _%_, _^_}
 use lib.IntN.{ℤ, pos}
 use lib.ListN.{length}
 use Rattle.rules.specs.Ids.{of, In, once}
-use Rattle.rules.specs.Codes.{number, H-STATE, E-RLWAI}
+use Rattle.rules.specs.Codes.{number, inDamage, E-RLWAI}
 use Rattle.rules.specs.State.{State, Cell, isOpen, task}
 use Rattle.rules.specs.Events.{enter, call, nat}
 use Rattle.rules.specs.Answers.{readCell}
@@ -45,11 +45,11 @@ pub record Same (past : List Happened) (b m : List ℕ) (s : Plain) : Type 0 whe
 abbrev pub seen : List ℕ → List ℕ → Link → Happened
 seen b m k = record { event = k .event; code = k .reply .code; w1 = k .reply .w1; before = viewShown b m .body; after = viewShown (k .words) (k .marks) .body }
 
--- At each link the answer is the plain kernel's and not H_STATE; the accounts are kept from the replies and the memories.
+-- At each link the answer is the plain kernel's and tells no damage; the accounts are kept from the replies and the memories.
 abbrev pub Demand3OnCode : List Happened → List ℕ → List ℕ → Plain → List Link → Type 0
 Demand3OnCode past b m s [] = Same past b m s
 Demand3OnCode past b m s (k ∷ l) =
-    Same past b m s × (k .reply ≡ told (plainAnswer s (k .event))) × (k .reply .code ≢ number H-STATE)
+    Same past b m s × (k .reply ≡ told (plainAnswer s (k .event))) × (inDamage (k .reply .code) ≡ false)
     × Demand3OnCode (seen b m k ∷ past) (k .words) (k .marks) (plainNext s (k .event)) l
 
 -- ---- a block is given to one at a time

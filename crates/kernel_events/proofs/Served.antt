@@ -1,18 +1,19 @@
 -- An event that is done as it is judged makes a step. Assumes nothing.
-use mathlib.Core.Bool.{Bool, true, false, cond, _&&_, _||_, true≢false}
+use mathlib.Core.Bool.{Bool, true, false, cond, _&&_, _||_, true≢false, false≢true}
 use mathlib.Core.List.{List}
-use mathlib.Core.Logic.{_↔_}
+use mathlib.Core.Logic.{_≢_}
 use mathlib.Core.Path.{_≡_, refl, sym, ap, _∙_, subst}
 use Prim.Native.Nat.{ℕ, zero, suc, _<_, _^_}
 use native.Mathlib.Omega.{arith}
 use lib.Dec.{eqb}
-use lib.IntN.{ℤ, pos, negsuc}
+use lib.IntN.{ℤ, pos, negsuc, ℤ-discrete}
 use lib.Signed.{mag}
 use borrow.Author.Tests.{le-leb}
 use mir.Syntax.{w32}
 use mir.Val.{SFits, toZ, ofZ}
 use mir.Facts.{toZ-ofZ}
-use Rattle.rules.specs.Codes.{number, negative, H-CALL}
+use Rattle.rules.specs.Codes.{number, negative, inDamage, tellsDamage, H-CALL}
+use Rattle.rules.specs.Breach.{breach}
 use Rattle.rules.specs.Events.{Event, tick, enter, exit, call, eventOf, Word, Words, nat, above}
 use Rattle.rules.specs.State.{isOpen}
 use Rattle.rules.specs.View.{View, running}
@@ -21,6 +22,7 @@ use Rattle.rules.specs.Answers.{answer, releasedCount}
 use Rattle.rules.specs.Table.{caller, handles, numbered, called, judge}
 use Rattle.rules.specs.Kernel as Kernel
 use Rattle.rules.specs.Kernel.{event, next, served}
+use Rattle.rules.proofs.Breach.{breach-tells}
 use Rattle.rules.proofs.Events.{event-served}
 use Rattle.rules.proofs.Released.{released-by-acts}
 use Rattle.memory_picture.specs.Picture.{handlersShown, bodyShown, viewShown, Accepted}
@@ -32,9 +34,12 @@ use Rattle.call_words.specs.declared.Outcome.{Outcome}
 use Rattle.call_words.specs.Outcomes.{outcome}
 use Rattle.call_words.specs.Doing.{Does, Anything, DoesOnWords}
 use Rattle.call_words.specs.Naming.{Runs}
+use Rattle.call_words.proofs.Signed.{signed}
 use Rattle.call_words.proofs.Verdicts.{refuses-with}
 use Rattle.call_dispatch.specs.Dispatching.{Dispatches}
 use Rattle.call_dispatch.proofs.Done.{does-law}
+use Rattle.check_damage.specs.declared.Breach.{Breach}
+use Rattle.check_damage.specs.Judged.{Judged}
 use Rattle.kernel_events.specs.Steps.{Reply, reply, told, unsound, Step}
 use Rattle.kernel_events.specs.Serving.{replied, Known}
 
@@ -74,7 +79,7 @@ module _ (e : Event) (b m b′ m′ : List ℕ) (A : Accepted b m) (w : Words e)
       }
 
 -- on a damaged one
-pub unsound-step : (e : Event) (b m : List ℕ) (r : Reply) → Words e → (Accepted b m → ⊥) → r ≡ unsound → Step e b m r b m
+pub unsound-step : (e : Event) (b m : List ℕ) (r : Reply) → Words e → (Accepted b m → ⊥) → r ≡ unsound b m → Step e b m r b m
 unsound-step e b m r w n g = record { words = w; answers = λ A. absurd (n A); accepted = λ A. absurd (n A); shows = λ A. absurd (n A); refuses = λ _. g; kept = λ _. (refl, refl) }
 
 -- ---- calls
@@ -101,7 +106,7 @@ named-call v (pos (suc zero)) (negsuc n) a b c e = refl
 named-call v (pos (suc (suc k))) n a b c e = absurd (true≢false (sym (le-leb 2 (suc (suc k)) (omega arith)) ∙ e))
 named-call v (negsuc k) n a b c e = absurd (true≢false e)
 
-module _ {sound : Bool} {me : ℕ} {b m : List ℕ} (K : Known sound me b m) (s : sound ≡ true) (x n a c d : ℤ) (w : Words (call x n a c d)) {t : Bool} (et : t ≡ above x 1) where
+module _ {f : Breach} {me : ℕ} {b m : List ℕ} (K : Known f me b m) (s : f .code ≡ pos 0) (x n a c d : ℤ) (w : Words (call x n a c d)) {t : Bool} (et : t ≡ above x 1) where
   here : Accepted b m
   here = K .0 .0 s
 
@@ -144,7 +149,7 @@ kind-call (negsuc k) n a b c x y z = refl
 
 -- ---- the tick, entry and return
 
-module _ {sound : Bool} {me : ℕ} {b m : List ℕ} (K : Known sound me b m) (s : sound ≡ true) {b′ : List ℕ} {o : Outcome} {r : ℕ} (runs : r ≡ runningOf b′) where
+module _ {f : Breach} {me : ℕ} {b m : List ℕ} (K : Known f me b m) (s : f .code ≡ pos 0) {b′ : List ℕ} {o : Outcome} {r : ℕ} (runs : r ≡ runningOf b′) where
   pub tick-done : DoesOnWords Anything ticked o b b′ → Step tick b m (replied o r) b′ m
   unfolding judge
   tick-done D = let A = K .0 .0 s in done-step tick b m b′ m A tt (D m A tt) (λ A′. runs ∙ running-law b′ m A′)
@@ -159,27 +164,52 @@ module _ {sound : Bool} {me : ℕ} {b m : List ℕ} (K : Known sound me b m) (s 
 
 -- ---- what is known
 
+-- a code of damage is negative
+breach-negative : (v : View) → negative (number (breach v .code)) ≡ true
+unfolding tellsDamage
+breach-negative v = go (number (breach v .code)) (breach-tells v)
+  where
+    go : (z : ℤ) → inDamage z ≡ true → negative z ≡ true
+    go (pos n) e = absurd (false≢true e)
+    go (negsuc n) e = refl
+
 answer-runs : (v : View) (e : Event) → served v e .answer .runs ≡ running (served v e .next)
 unfolding served answer
 answer-runs v e = refl
 
-module _ {sound : Bool} {me : ℕ} {b m : List ℕ} (K : Known sound me b m) where
-  pub not-sound : sound ≡ false → Accepted b m → ⊥
-  not-sound e A = true≢false (sym (K .0 .1 A) ∙ e)
+-- a code is read as a word; 0 is that of a sound state alone
+pub word-sound : (z : ℤ) → mag z < 2 ^ 31 → ofZ w32 z ≡ 0 → z ≡ pos 0
+word-sound z h e = sym (signed z h) ∙ ap (toZ w32) e
+
+pub word-damaged : (z : ℤ) → ofZ w32 z ≢ 0 → z ≢ pos 0
+word-damaged z n e = n (ap (ofZ w32) e)
+
+module _ {f : Breach} {me : ℕ} {b m : List ℕ} (K : Known f me b m) where
+  pub not-sound : f .code ≢ pos 0 → Accepted b m → ⊥
+  not-sound n A = n (K .0 .1 A)
 
   module _ {e : Event} {r : Reply} {b′ m′ : List ℕ} (S : Step e b m r b′ m′) where
     -- a memory that is not accepted stays as it is
-    back : (t : Bool) → sound ≡ t → Accepted b′ m′ → sound ≡ true
-    unfolding number
-    back true q A = q
-    back false q A =
-        let z = S .refuses (not-sound q) in
-        let k = S .kept (ap (λ (x : Reply). negative (x .code)) z) in
+    same : (Accepted b m → ⊥) → (b′ ≡ b) × (m′ ≡ m)
+    same n = S .kept (ap (λ (x : Reply). negative (x .code)) (S .refuses n) ∙ breach-negative (viewShown b m))
+
+    back : Dec (f .code ≡ pos 0) → Accepted b′ m′ → f .code ≡ pos 0
+    back (yes q) A = q
+    back (no q) A =
+        let k = same (not-sound q) in
         absurd (not-sound q (subst (λ (x : List ℕ). Accepted b x) (k .1) (subst (λ (x : List ℕ). Accepted x m′) (k .0) A)))
 
+    -- what is broken stays broken
+    tells : Dec (f .code ≡ pos 0) → (Accepted b′ m′ → ⊥) → reply (f .code) (f .id) 0 0 0 ≡ unsound b′ m′
+    tells (yes q) n = absurd (n (S .accepted (K .0 .0 q)))
+    tells (no q) n = let k = same (not-sound q) in K .2 (not-sound q) ∙ (λ z. unsound (sym (k .0) z) (sym (k .1) z))
+
     -- the same is known after the event
-    pub known-on : Known sound (r .runs) b′ m′
-    known-on = ((λ q. S .accepted (K .0 .0 q), back sound refl), λ A′. runs (K .0 .0 (back sound refl A′)))
+    sound? : Dec (f .code ≡ pos 0)
+    sound? = ℤ-discrete (f .code) (pos 0)
+
+    pub known-on : Known f (r .runs) b′ m′
+    known-on = ((λ q. S .accepted (K .0 .0 q), back sound?), λ A′. runs (K .0 .0 (back sound? A′)), tells sound?)
       where
         runs : Accepted b m → r .runs ≡ running (viewShown b′ m′)
         runs A =
@@ -187,6 +217,6 @@ module _ {sound : Bool} {me : ℕ} {b m : List ℕ} (K : Known sound me b m) whe
             let u : event v e ≡ served v e = event-served v e (A .sound) in
             ap (λ (x : Reply). x .runs) (S .answers A) ∙ ap (λ (o : Kernel.Outcome). o .answer .runs) u ∙ answer-runs v e ∙ ap (λ (o : Kernel.Outcome). running (o .next)) (sym u) ∙ ap running (sym (S .shows A))
 
--- the first check tells whether the state is sound
-pub known-first : (b m : List ℕ) {sound : Bool} {me : ℕ} → (sound ≡ true) ↔ Accepted b m → me ≡ runningOf b → Known sound me b m
-known-first b m s e = (s, λ A. e ∙ running-law b m A)
+-- the first check tells whether the state is sound, and what is broken if it is not
+pub known-first : (b m : List ℕ) {f : Breach} {me : ℕ} → Judged b m (f .code) (f .id) → me ≡ runningOf b → Known f me b m
+known-first b m J e = (J .exactly, (λ A. e ∙ running-law b m A), λ n. (λ z. reply (J .damaged n .0 z) (J .damaged n .1 z) 0 0 0))

@@ -4,7 +4,8 @@ use mathlib.Core.List.{List, [], _∷_}
 use mathlib.Core.Path.{_≡_}
 use Prim.Native.Nat.{ℕ}
 use lib.IntN.{ℤ}
-use Rattle.rules.specs.Codes.{number, negative, H-STATE}
+use Rattle.rules.specs.Codes.{number, negative}
+use Rattle.rules.specs.Breach.{breach}
 use Rattle.rules.specs.Events.{Event, Words}
 use Rattle.rules.specs.Answers.{Answer}
 use Rattle.rules.specs.Kernel.{event}
@@ -25,19 +26,20 @@ reply c x y r n = record { code = c; w1 = x; w2 = y; runs = r; released = n }
 abbrev pub told : Answer → Reply
 told a = reply (number (a .code)) (a .w1) (a .w2) (a .runs) (a .released)
 
--- what comes back where the state is damaged: H_STATE, zeros, the running task given as 0
-abbrev pub unsound : Reply
-unsound = reply (number H-STATE) 0 0 0 0
+-- what comes back where the state is damaged: the first rule broken and, in w1, the smallest id at which it is, by the view shown; zeros, the
+-- running task given as 0
+abbrev pub unsound : List ℕ → List ℕ → Reply
+unsound b m = reply (number (breach (viewShown b m) .code)) (breach (viewShown b m) .id) 0 0 0
 
 -- The event's words have 32 bits, as the functions' types say. A sound state: the rules' answer, and a memory that shows the rules' next state
--- and is accepted again. A damaged one: H_STATE, zeros, and the memory as it was. A negative code leaves the memory as it was, whatever it
+-- and is accepted again. A damaged one: what is broken, and the memory as it was. A negative code leaves the memory as it was, whatever it
 -- holds.
 pub record Step (e : Event) (b m : List ℕ) (r : Reply) (b′ m′ : List ℕ) : Type 0 where
   pub words : Words e
   pub answers : Accepted b m → r ≡ told (event (viewShown b m) e .answer)
   pub accepted : Accepted b m → Accepted b′ m′
   pub shows : Accepted b m → viewShown b′ m′ ≡ event (viewShown b m) e .next
-  pub refuses : (Accepted b m → ⊥) → r ≡ unsound
+  pub refuses : (Accepted b m → ⊥) → r ≡ unsound b m
   pub kept : negative (r .code) ≡ true → (b′ ≡ b) × (m′ ≡ m)
 
 -- ---- runs

@@ -4,10 +4,11 @@ use call_dispatch::dispatch;
 use call_judging::is_above;
 use call_words::Outcome;
 use call_words::codes::H_CALL;
-use call_words::codes::H_STATE;
 use call_words::named;
 use call_words::refuse;
-use check_state::accepts;
+use check_damage::Breach;
+use check_damage::SOUND;
+use check_damage::judged;
 use memory_columns::STATE_WORDS;
 use memory_running::is_open;
 use memory_running::running_task;
@@ -67,18 +68,24 @@ fn caller(handler: bool, inside: bool, me: u32) -> u32
     if inside { 0 } else { me }
 }
 
-// H_STATE.
-fn damaged() -> Answer
-    ensures { λ r. ⌜ reply (r .code) (r .w1) (r .w2) (r .running) (r .released) ≡ unsound ⌝ }
+// What is broken, and where.
+fn damaged(found: Breach) -> Answer
+    ensures { λ r. ⌜ reply (r .code) (r .w1) (r .w2) (r .running) (r .released) ≡ reply (found .code) (found .id) 0 0 0 ⌝ }
 {
-    answer_of(refuse(H_STATE), 0)
+    Answer {
+        code: found.code,
+        w1: found.id,
+        w2: 0,
+        running: 0,
+        released: 0,
+    }
 }
 
 // A call. It is known whether the state is sound and, if so, that `me` runs.
 fn serve_call(
     words: &mut [u32; STATE_WORDS],
     messages: &mut [u32; 256],
-    sound: bool,
+    found: Breach,
     me: u32,
     context: i32,
     number: i32,
@@ -86,10 +93,10 @@ fn serve_call(
     b: i32,
     c: i32,
 ) -> Answer
-    ensures { λ r. ⌜ Serves (Events.call context number a b c) sound me (now (words .entry)) (now (messages .entry)) (reply (r .code) (r .w1) (r .w2) (r .running) (r .released)) (now (words .exit)) (now (messages .exit)) ⌝ }
+    ensures { λ r. ⌜ Serves (Events.call context number a b c) found me (now (words .entry)) (now (messages .entry)) (reply (r .code) (r .w1) (r .w2) (r .running) (r .released)) (now (words .exit)) (now (messages .exit)) ⌝ }
 {
-    if !sound {
-        return damaged();
+    if found.code != SOUND {
+        return damaged(found);
     }
     if is_above(context, HANDLER) {
         return answer_of(refuse(H_CALL), me);
@@ -104,11 +111,16 @@ fn serve_call(
 }
 
 // A tick, where the same is known.
-fn serve_tick(words: &mut [u32; STATE_WORDS], messages: &[u32; 256], sound: bool, me: u32) -> Answer
-    ensures { λ r. ⌜ Serves Events.tick sound me (now (words .entry)) (now (messages .entry)) (reply (r .code) (r .w1) (r .w2) (r .running) (r .released)) (now (words .exit)) (now (messages .entry)) ⌝ }
+fn serve_tick(
+    words: &mut [u32; STATE_WORDS],
+    messages: &[u32; 256],
+    found: Breach,
+    me: u32,
+) -> Answer
+    ensures { λ r. ⌜ Serves Events.tick found me (now (words .entry)) (now (messages .entry)) (reply (r .code) (r .w1) (r .w2) (r .running) (r .released)) (now (words .exit)) (now (messages .entry)) ⌝ }
 {
-    if !sound {
-        return damaged();
+    if found.code != SOUND {
+        return damaged(found);
     }
     let o = call_tick::tick(words);
     let runs = running_task(words);
@@ -119,13 +131,13 @@ fn serve_tick(words: &mut [u32; STATE_WORDS], messages: &[u32; 256], sound: bool
 fn serve_enter(
     words: &mut [u32; STATE_WORDS],
     messages: &[u32; 256],
-    sound: bool,
+    found: Breach,
     me: u32,
 ) -> Answer
-    ensures { λ r. ⌜ Serves Events.enter sound me (now (words .entry)) (now (messages .entry)) (reply (r .code) (r .w1) (r .w2) (r .running) (r .released)) (now (words .exit)) (now (messages .entry)) ⌝ }
+    ensures { λ r. ⌜ Serves Events.enter found me (now (words .entry)) (now (messages .entry)) (reply (r .code) (r .w1) (r .w2) (r .running) (r .released)) (now (words .exit)) (now (messages .entry)) ⌝ }
 {
-    if !sound {
-        return damaged();
+    if found.code != SOUND {
+        return damaged(found);
     }
     let o = call_handlers::enter(words, me);
     let runs = running_task(words);
@@ -136,13 +148,13 @@ fn serve_enter(
 fn serve_leave(
     words: &mut [u32; STATE_WORDS],
     messages: &[u32; 256],
-    sound: bool,
+    found: Breach,
     me: u32,
 ) -> Answer
-    ensures { λ r. ⌜ Serves Events.exit sound me (now (words .entry)) (now (messages .entry)) (reply (r .code) (r .w1) (r .w2) (r .running) (r .released)) (now (words .exit)) (now (messages .entry)) ⌝ }
+    ensures { λ r. ⌜ Serves Events.exit found me (now (words .entry)) (now (messages .entry)) (reply (r .code) (r .w1) (r .w2) (r .running) (r .released)) (now (words .exit)) (now (messages .entry)) ⌝ }
 {
-    if !sound {
-        return damaged();
+    if found.code != SOUND {
+        return damaged(found);
     }
     let o = call_handlers::leave(words);
     let next = running_task(words);
@@ -153,7 +165,7 @@ fn serve_leave(
 pub fn serve(
     words: &mut [u32; STATE_WORDS],
     messages: &mut [u32; 256],
-    sound: bool,
+    found: Breach,
     me: u32,
     kind: i32,
     number: i32,
@@ -161,13 +173,13 @@ pub fn serve(
     b: i32,
     c: i32,
 ) -> Answer
-    ensures { λ r. ⌜ Serves (eventOf kind number a b c) sound me (now (words .entry)) (now (messages .entry)) (reply (r .code) (r .w1) (r .w2) (r .running) (r .released)) (now (words .exit)) (now (messages .exit)) ⌝ }
+    ensures { λ r. ⌜ Serves (eventOf kind number a b c) found me (now (words .entry)) (now (messages .entry)) (reply (r .code) (r .w1) (r .w2) (r .running) (r .released)) (now (words .exit)) (now (messages .exit)) ⌝ }
 {
     match kind {
-        TICK => serve_tick(words, messages, sound, me),
-        ENTRY => serve_enter(words, messages, sound, me),
-        RETURN => serve_leave(words, messages, sound, me),
-        _ => serve_call(words, messages, sound, me, kind, number, a, b, c),
+        TICK => serve_tick(words, messages, found, me),
+        ENTRY => serve_enter(words, messages, found, me),
+        RETURN => serve_leave(words, messages, found, me),
+        _ => serve_call(words, messages, found, me, kind, number, a, b, c),
     }
 }
 
@@ -183,34 +195,34 @@ pub fn call(
 ) -> Answer
     ensures { λ r. ⌜ Step (Events.call context number a b c) (now (words .entry)) (now (messages .entry)) (reply (r .code) (r .w1) (r .w2) (r .running) (r .released)) (now (words .exit)) (now (messages .exit)) ⌝ }
 {
-    let sound = accepts(words, messages);
+    let found = judged(words, messages);
     let me = running_task(words);
-    serve_call(words, messages, sound, me, context, number, a, b, c)
+    serve_call(words, messages, found, me, context, number, a, b, c)
 }
 
 // A tick.
 pub fn tick(words: &mut [u32; STATE_WORDS], messages: &[u32; 256]) -> Answer
     ensures { λ r. ⌜ Step Events.tick (now (words .entry)) (now (messages .entry)) (reply (r .code) (r .w1) (r .w2) (r .running) (r .released)) (now (words .exit)) (now (messages .entry)) ⌝ }
 {
-    let sound = accepts(words, messages);
+    let found = judged(words, messages);
     let now = running_task(words);
-    serve_tick(words, messages, sound, now)
+    serve_tick(words, messages, found, now)
 }
 
 // The entry of a handler.
 pub fn enter(words: &mut [u32; STATE_WORDS], messages: &[u32; 256]) -> Answer
     ensures { λ r. ⌜ Step Events.enter (now (words .entry)) (now (messages .entry)) (reply (r .code) (r .w1) (r .w2) (r .running) (r .released)) (now (words .exit)) (now (messages .entry)) ⌝ }
 {
-    let sound = accepts(words, messages);
+    let found = judged(words, messages);
     let now = running_task(words);
-    serve_enter(words, messages, sound, now)
+    serve_enter(words, messages, found, now)
 }
 
 // The return of a handler.
 pub fn leave(words: &mut [u32; STATE_WORDS], messages: &[u32; 256]) -> Answer
     ensures { λ r. ⌜ Step Events.exit (now (words .entry)) (now (messages .entry)) (reply (r .code) (r .w1) (r .w2) (r .running) (r .released)) (now (words .exit)) (now (messages .entry)) ⌝ }
 {
-    let sound = accepts(words, messages);
+    let found = judged(words, messages);
     let now = running_task(words);
-    serve_leave(words, messages, sound, now)
+    serve_leave(words, messages, found, now)
 }

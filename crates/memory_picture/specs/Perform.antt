@@ -6,7 +6,7 @@ use mathlib.Core.Path.{_≡_}
 use Prim.Native.Nat.{ℕ}
 use lib.ListN.{length}
 use Rattle.rules.specs.Ids.{of, put, In}
-use Rattle.rules.specs.Codes.{Code, OK, WAITS, H-STATE, H-CALL, H-PAR, E-NOEXS, E-TPRI, E-ILTIME, E-CTX, E-SELF, E-DMT, H-NODMT, H-SUS, E-NOSUS, E-NOWAI, E-QOVR, H-POLL, H-MSG, H-NEST, H-ILBLK, E-TMOUT, E-RLWAI}
+use Rattle.rules.specs.Codes.{Code, OK, WAITS, H-NUMBER, H-QUEUE, H-SERVED, H-TWICE, H-CALL, H-PAR, E-NOEXS, E-TPRI, E-ILTIME, E-CTX, E-SELF, E-DMT, H-NODMT, H-SUS, E-NOSUS, E-NOWAI, E-QOVR, H-POLL, H-MSG, H-NEST, H-ILBLK, E-TMOUT, E-RLWAI}
 use Rattle.rules.specs.State.{Wait, asleep, timed, on, Handlers, no-handler, in-handler, depth, Body, task, isReady}
 use Rattle.rules.specs.Acts.{Act, start, retire, rotate, regrade, wait, release, suspend, resume, wakeups, count, pattern, post, receive, mark, elapse, nest}
 use Rattle.rules.specs.Objects.{laid}
@@ -23,7 +23,10 @@ codeKept OK = 0
 codeKept E-TMOUT = 1
 codeKept E-RLWAI = 2
 codeKept WAITS = 3
-codeKept H-STATE = 3
+codeKept H-NUMBER = 3
+codeKept H-QUEUE = 3
+codeKept H-SERVED = 3
+codeKept H-TWICE = 3
 codeKept H-CALL = 3
 codeKept H-PAR = 3
 codeKept E-NOEXS = 3

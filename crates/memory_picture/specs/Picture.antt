@@ -8,7 +8,7 @@ use Prim.Native.Nat.{ℕ, zero, suc, _+_, _*_, _/_, _%_, _^_, _<_}
 use lib.Dec.{eqb}
 use lib.ListN.{length}
 use Rattle.rules.specs.Ids.{of, ids, once}
-use Rattle.rules.specs.Codes.{Code, OK, H-STATE, E-TMOUT, E-RLWAI}
+use Rattle.rules.specs.Codes.{Code, OK, H-NUMBER, E-TMOUT, E-RLWAI}
 use Rattle.rules.specs.State.{Kind, semaphore, flag, mailbox, pool, Wait, asleep, timed, on, State, dormant, ready, suspended, waiting, waiting-suspended, Task, Store, Handlers, no-handler, in-handler, Body}
 use Rattle.rules.specs.Places.{Place, readyAt, waiters, mail, Exists, tabulate}
 use Rattle.rules.specs.View.{View}
@@ -20,7 +20,7 @@ use Rattle.memory_columns.specs.Layout.{stateWords, maxMessages, readyNode, wai
 -- ---- tasks
 
 unfoldable pub codeOf : ℕ → Code
-codeOf c = cond (eqb c 0) OK (cond (eqb c 1) E-TMOUT (cond (eqb c 2) E-RLWAI H-STATE))
+codeOf c = cond (eqb c 0) OK (cond (eqb c 1) E-TMOUT (cond (eqb c 2) E-RLWAI H-NUMBER))
 
 -- no sound wait has 0 ticks left
 abbrev pub noWait : Wait

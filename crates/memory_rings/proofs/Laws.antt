@@ -1,5 +1,5 @@
 -- The laws of tables that hold lines: an id is put last, an id leaves, an anchor is set up, and what a line's links say. Assumes nothing.
-use Prim.Native.Nat.{ℕ, _<_}
+use Prim.Native.Nat.{ℕ, suc, _<_}
 use mathlib.Core.Path.{_≡_, refl, sym, ap, _∙_, subst}
 use mathlib.Core.Bool.{Bool, true, false, cond}
 use mathlib.Core.Logic.{_≢_, _↔_, inl, inr}
@@ -56,7 +56,7 @@ module _ {n : ℕ} {U : ℕ → Type 0} {nx pv : List ℕ} {L : ℕ → List ℕ
   -- the line is the one that is read off the table
   pub line-is : (a : ℕ) → U a → lineOf n nx a ≡ L a
   unfolding lineOf
-  line-is a u = let R = M .ring a u in walk-way nx n n a (L a) a (few n (L a) (once-law a u) (R .ids)) (M .anchors a u .0) (R .ids) (R .forth)
+  line-is a u = let R = M .ring a u in walk-way nx (suc n) n a (L a) a (omega (arith, few n (L a) (once-law a u) (R .ids))) (M .anchors a u .0) (R .ids) (R .forth)
 
   -- no id is in two lines
   pub apart-law : (a b x : ℕ) → U a → U b → Stands x (L a) → Stands x (L b) → a ≡ b

@@ -7,7 +7,7 @@ use native.Mathlib.Omega.{arith}
 use native.Mathlib.Decide.{ℕ-discrete}
 use lib.ListN.{getD, set, length, length-set}
 use lib.Seq.{getD-set-same, getD-set-other}
-use borrow.Author.Tests.{le-leb, lt-leb}
+use borrow.Author.Tests.{le-leb, eq-eqb, ne-eqb}
 use Rattle.memory_rings.specs.Links.{bridged}
 use Rattle.memory_rings.specs.Rings.{IsId, All, Out, Distinct, headOf, lastOf, Seg, walk}
 use Rattle.memory_rings.proofs.Lists.{all-left, all-right, out-ids, out-last, last-le, dist-left, out-mid}
@@ -82,13 +82,13 @@ module _ (l : List ℕ) where
   distinct n a (x ∷ xs) b hb k s = (fresh n x xs b hb (k .1) (s .1), distinct n x xs b hb (k .1) (s .1))
 
   -- the walk finds the way
-  pub walk-way : (k n a : ℕ) (xs : List ℕ) (b : ℕ) → length xs ≤ k → n < b → All (IsId n) xs → Seg l a xs b → walk k n l (getD l a 0) ≡ xs
+  pub walk-way : (k n a : ℕ) (xs : List ℕ) (b : ℕ) → length xs ≤ k → n < b → All (IsId n) xs → Seg l a xs b → walk k n l b (getD l a 0) ≡ xs
   unfolding walk
   walk-way zero n a [] b h nb i s = refl
-  walk-way (suc k) n a [] b h nb i s = rw (s, lt-leb b n nb)
+  walk-way (suc k) n a [] b h nb i s = rw (s, eq-eqb b b refl)
   walk-way zero n a (x ∷ xs) b h nb i s = absurd (omega arith)
   walk-way (suc k) n a (x ∷ xs) b h nb i s =
-      rw (s .0, le-leb x n (i .0 .1)) (ap (λ (r : List ℕ). x ∷ r) (walk-way k n x xs b (omega arith) nb (i .1) (s .1)))
+      rw (s .0, ne-eqb x b (λ e. omega (arith, i .0 .1)), le-leb 1 x (i .0 .0), le-leb x n (i .0 .1)) (ap (λ (r : List ℕ). x ∷ r) (walk-way k n x xs b (omega arith) nb (i .1) (s .1)))
 
 -- ---- a ring gains a node, or loses one; the other rings stay
 

@@ -2,7 +2,7 @@
 -- the queue's ids in order and comes back to the anchor.
 use Prim.Native.Nat.{ℕ, zero, suc, _≤_, _<_}
 use mathlib.Core.Path.{_≡_}
-use mathlib.Core.Bool.{cond}
+use mathlib.Core.Bool.{cond, _&&_}
 use mathlib.Core.Logic.{_⊎_, _≢_}
 use mathlib.Core.List.{List, [], _∷_, reverse}
 use lib.Dec.{eqb, leb}
@@ -56,14 +56,14 @@ abbrev pub Seg : List ℕ → ℕ → List ℕ → ℕ → Type 0
 Seg l a [] b = getD l a 0 ≡ b
 Seg l a (x ∷ xs) b = (getD l a 0 ≡ x) × Seg l x xs b
 
--- the ids from node x on, up to the first node above n, at most k of them
-unfoldable pub walk : ℕ → ℕ → List ℕ → ℕ → List ℕ
-walk zero n l x = []
-walk (suc k) n l x = cond (leb x n) (x ∷ walk k n l (getD l x 0)) []
+-- the nodes from x on, up to anchor a, at most k of them; one that is no id is the last
+unfoldable pub walk : ℕ → ℕ → List ℕ → ℕ → ℕ → List ℕ
+walk zero n l a x = []
+walk (suc k) n l a x = cond (eqb x a) [] (x ∷ cond (leb 1 x && leb x n) (walk k n l a (getD l x 0)) [])
 
--- the line of anchor a as it is read off the table
+-- the line of anchor a as it is read off any table; one node more than there are ids, so that a way that does not come back shows an id twice
 unfoldable pub lineOf : ℕ → List ℕ → ℕ → List ℕ
-lineOf n nx a = walk n n nx (getD nx a 0)
+lineOf n nx a = walk (suc n) n nx a (getD nx a 0)
 
 -- the ring of anchor a holds the ids xs, forwards and backwards
 pub record Ring (n : ℕ) (nx pv : List ℕ) (a : ℕ) (xs : List ℕ) : Type 0 where

@@ -96,7 +96,7 @@ pub extern "C" fn okrozumba_leave(words: &mut [u32; STATE_WORDS], messages: &[u3
 
 // ---- reading
 
-// The cell of a task: H_STATE if the state is damaged, then E_NOEXS for a bad id, each with word 0.
+// The cell of a task: on a damaged state the code of the first rule broken, then E_NOEXS for a bad id, each with word 0.
 #[no_mangle]
 pub extern "C" fn okrozumba_cell(
     words: &[u32; STATE_WORDS],

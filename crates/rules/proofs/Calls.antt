@@ -117,7 +117,7 @@ lowest-none k [] e = refl
 lowest-none k (true ∷ l) e = absurd (omega arith)
 lowest-none k (false ∷ l) e = lowest-none (suc k) l e
 
-nowhere-lies : (l : List (Option ℕ)) (m : ℕ) → ((j : ℕ) → lies (of l j none) m ≡ false) → anyLies l m ≡ false
+pub nowhere-lies : (l : List (Option ℕ)) (m : ℕ) → ((j : ℕ) → lies (of l j none) m ≡ false) → anyLies l m ≡ false
 nowhere-lies [] m f = refl
 nowhere-lies (x ∷ l) m f = rw (f 1) (nowhere-lies l m (later f))
   where

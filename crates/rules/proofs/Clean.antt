@@ -8,7 +8,7 @@ use Prim.Native.Nat.{ℕ, zero, suc}
 use native.Mathlib.Omega.{arith}
 use lib.IntN.{ℤ, pos, negsuc}
 use borrow.Author.Tests.{not-false}
-use Rattle.rules.specs.Codes.{Code, OK, WAITS, H-STATE, E-CTX, H-NEST, E-RLWAI}
+use Rattle.rules.specs.Codes.{Code, E-CTX, H-NEST, E-RLWAI, tellsDamage}
 use Rattle.rules.specs.State.{Wait, Handlers, Body}
 use Rattle.rules.specs.Events.{Event, tick, enter, exit, call}
 use Rattle.rules.specs.Acts.{Act, nest}
@@ -20,7 +20,7 @@ use Rattle.rules.specs.Time.{get-tim, ticked, endings}
 use Rattle.rules.specs.Handling.{entered, exited}
 use Rattle.rules.specs.Rows.{Row, staTsk, extTsk, terTsk, chgPri, rotRdq, relWai, susTsk, rsmTsk, slpTsk, waiTsk, wupTsk, canWup, sigSem, waiSem, preqSem, setFlg, clrFlg, waiFlg, polFlg, sndMsg, rcvMsg, prcvMsg, getBlk, pgetBlk, relBlk, getTid, tskSts, semSts, flgSts, mbxSts, mplSts, getTim}
 use Rattle.rules.specs.Table.{caller, handles, table, judge}
-use Rattle.rules.proofs.Judge.{_⊗_, bad, AllRows, by-call}
+use Rattle.rules.proofs.Judge.{_⊗_, bad, bad-not-damage, AllRows, by-call}
 use Rattle.rules.proofs.Cells.{Careful-list, nothing, one, several, flag-gentle, tick-gentle}
 
 -- of a call or a tick: a bare refusal, an accepted call with its words and careful acts, or a wait
@@ -130,21 +130,24 @@ judge-clean v enter = nests-check (v .body) _ H-NEST _ refl
 judge-clean v exit = nests-check (v .body) _ E-CTX _ refl
 judge-clean v (call x n a b c) = clean-verdict (call-clean v x n a b c)
 
--- no verdict is H_STATE, and none is E_RLWAI
-module _ (d : Code) (not-bad : bad d ≡ false) (not-ok : d ≢ OK) (not-waits : d ≢ WAITS) where
-  clean-not : (b : Body) (r : Verdict) → CleanEvent b r → r .code ≢ d
-  clean-not b r (clean-verdict (refused c n)) h = false≢true (sym not-bad ∙ ap bad (sym h) ∙ n)
-  clean-not b r (clean-verdict (given x y l g)) h = not-ok (sym h)
-  clean-not b r (clean-verdict (waited i w)) h = not-waits (sym h)
-  clean-not b r (nests x) h = not-ok (sym h)
+-- no verdict tells damage
+clean-not-damage : (b : Body) (r : Verdict) → CleanEvent b r → tellsDamage (r .code) ≡ false
+unfolding tellsDamage
+clean-not-damage b r (clean-verdict (refused c n)) = bad-not-damage c n
+clean-not-damage b r (clean-verdict (given x y l g)) = refl
+clean-not-damage b r (clean-verdict (waited i w)) = refl
+clean-not-damage b r (nests x) = refl
 
-  judge-not : (v : View) (e : Event) → judge v e .code ≢ d
-  judge-not v e h = clean-not (v .body) (judge v e) (judge-clean v e) h
+pub judge-not-damage : (v : View) (e : Event) → tellsDamage (judge v e .code) ≡ false
+judge-not-damage v e = clean-not-damage (v .body) (judge v e) (judge-clean v e)
 
-pub judge-not-state : (v : View) (e : Event) → judge v e .code ≢ H-STATE
+-- and none is E_RLWAI
+clean-not-broken : (b : Body) (r : Verdict) → CleanEvent b r → r .code ≢ E-RLWAI
 unfolding bad
-judge-not-state = judge-not H-STATE refl (λ h. let z : _≡_ {A = ℕ} 0 1 = cc in omega arith) (λ h. let z : _≡_ {A = ℕ} 0 1 = cc in omega arith)
+clean-not-broken b r (clean-verdict (refused c n)) h = false≢true (ap bad (sym h) ∙ n)
+clean-not-broken b r (clean-verdict (given x y l g)) h = let z : _≡_ {A = ℕ} 0 1 = cc in omega arith
+clean-not-broken b r (clean-verdict (waited i w)) h = let z : _≡_ {A = ℕ} 0 1 = cc in omega arith
+clean-not-broken b r (nests x) h = let z : _≡_ {A = ℕ} 0 1 = cc in omega arith
 
 pub judge-not-broken : (v : View) (e : Event) → judge v e .code ≢ E-RLWAI
-unfolding bad
-judge-not-broken = judge-not E-RLWAI refl (λ h. let z : _≡_ {A = ℕ} 0 1 = cc in omega arith) (λ h. let z : _≡_ {A = ℕ} 0 1 = cc in omega arith)
+judge-not-broken v e = clean-not-broken (v .body) (judge v e) (judge-clean v e)

@@ -1,14 +1,13 @@
 -- Demand 3: for every accepted setup and every list of events the claim of specs/Demand3.antt holds. Assumes nothing.
 use mathlib.Core.Bool.{Bool, true, false, not, cond, false≢true}
 use mathlib.Core.List.{List, [], _∷_, map}
-use mathlib.Core.Logic.{_≢_}
 use mathlib.Core.Path.{_≡_, refl, sym, ap, _∙_, subst}
 use Prim.Native.Nat.{ℕ, zero, suc, _+_}
 use native.Mathlib.Nat.{add-comm}
 use native.Mathlib.Omega.{arith}
 use lib.ListN.{length, replicate}
 use Rattle.rules.specs.Ids.{of, In, once}
-use Rattle.rules.specs.Codes.{H-STATE}
+use Rattle.rules.specs.Codes.{tellsDamage}
 use Rattle.rules.specs.State.{pool, Body}
 use Rattle.rules.specs.Setup.{got, setup, Entry, Setup}
 use Rattle.rules.specs.Places.{tabulate}
@@ -27,7 +26,7 @@ use Rattle.rules.proofs.Sizes.{SameSizes, sizes-afters}
 use Rattle.rules.proofs.Agree.{Numbers, fresh-shows, numbers-fresh, next-shows, numbers-next, same-answer}
 use Rattle.rules.proofs.Blocks.{event-balance}
 use Rattle.rules.proofs.Cells.{body-acts}
-use Rattle.rules.proofs.Clean.{judge-not-state}
+use Rattle.rules.proofs.Clean.{judge-not-damage}
 use Rattle.rules.proofs.Events.{event-served, event-next, cell-reads, sound-event, fresh-sound}
 
 -- ---- the ledger of one block: its grants are its returns, and one more if it is out
@@ -93,16 +92,16 @@ module _ (v : View) (s : Plain) (e : Event) (p : v ≡ viewOf s) (n : Numbers s)
   both-next : event v e .next ≡ viewOf (plainNext s e)
   both-next = event-next v e g ∙ ap (λ (w : View). next w e) p ∙ sym (next-shows s e n)
 
-  not-state : event v e .answer .code ≢ H-STATE
+  not-damage : tellsDamage (event v e .answer .code) ≡ false
   unfolding served answer
-  not-state h = judge-not-state v e (ap (λ o. o .answer .code) (sym (event-served v e g)) ∙ h)
+  not-damage = ap (λ o. tellsDamage (o .answer .code)) (event-served v e g) ∙ judge-not-damage v e
 
 run : (past : List Happened) (v : View) (s : Plain) (l : List Event) → v ≡ viewOf s → Numbers s → Sound v → Ledgers past (s .body) → AllWords l → Demand3 past v s l
 run past v s [] p n g h w = alike past v s p g h
 run past v s (e ∷ l) p n g h w = (
   alike past v s p g h,
   both-answer v s e p n g,
-  not-state v s e p n g,
+  not-damage v s e p n g,
   run (happened s e ∷ past) (event v e .next) (plainNext s e) l (both-next v s e p n g) (numbers-next s e n) (sound-event v e g (w .0))
       (ledgers-next s e n (subst Sound p g) past h) (w .1),
 )

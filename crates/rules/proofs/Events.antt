@@ -14,7 +14,7 @@ use Rattle.rules.specs.Runs.{states}
 use Rattle.rules.proofs.Accepted.{setup-good, unstarted-sound}
 use Rattle.rules.proofs.Calls.{sound-acts, sound-next, starts-steps}
 
--- on a sound state an event is served, on any other it is answered with H_STATE
+-- on a sound state an event is served, on any other it is told what is broken
 pub event-served : (v : View) (e : Event) → Sound v → event v e ≡ served v e
 unfolding event guarded
 event-served v e s = go (sound? v)

@@ -8,7 +8,8 @@ use native.Mathlib.Omega.{arith}
 use native.Mathlib.Nat.{add-zero}
 use lib.Dec.{eqb}
 use lib.IntN.{ℤ, pos, negsuc}
-use Rattle.rules.specs.Codes.{Code, H-CALL, number}
+use borrow.Author.Tests.{not-true}
+use Rattle.rules.specs.Codes.{Code, H-CALL, number, inDamage, tellsDamage}
 use Rattle.rules.specs.State.{Wait}
 use Rattle.rules.specs.Events.{call}
 use Rattle.rules.specs.Acts.{Act, wait}
@@ -25,11 +26,11 @@ infixr 5 _⊗_
 pub _⊗_ : {A B : Type 0} → A → B → A × B
 x ⊗ y = (x, y)
 
--- ---- the codes that a call may be refused with: negative, not H_STATE, and not E_RLWAI, which is only in a cell
+-- ---- the codes that a call may be refused with: negative, none of damage, and not E_RLWAI, which is only in a cell
 
 abbrev isBad : ℤ → Bool
 isBad (pos n) = false
-isBad (negsuc n) = not (eqb n 8) && not (eqb n 3413)
+isBad (negsuc n) = not (inDamage (negsuc n)) && not (eqb n 3413)
 
 unfoldable pub bad : Code → Bool
 unfolding number
@@ -43,6 +44,15 @@ bad-not-ok c = go (number c)
     go : (n : ℤ) → isBad n ≡ true → is n 0 ≡ false
     go (pos n) e = absurd (false≢true e)
     go (negsuc n) e = refl
+
+-- and tells no damage
+pub bad-not-damage : (c : Code) → bad c ≡ true → tellsDamage c ≡ false
+unfolding bad tellsDamage
+bad-not-damage c = go (number c)
+  where
+    go : (n : ℤ) → isBad n ≡ true → inDamage n ≡ false
+    go (pos n) e = refl
+    go (negsuc n) e = not-true _ (both-true _ _ e .0)
 
 abbrev all-bad : List Refusal → Bool
 all-bad [] = true

@@ -22,6 +22,7 @@ pub mod Events
 pub mod Looks
 pub mod Cells
 pub mod Clean
+pub mod Breach
 pub mod Refused
 pub mod Interrupted
 pub mod Broken

@@ -12,7 +12,7 @@ use lib.IntN.{ℤ, pos, negsuc}
 use lib.ListN.{length}
 use borrow.Author.Tests.{ne-eqb}
 use Rattle.rules.specs.Ids.{of, In}
-use Rattle.rules.specs.Codes.{Code, OK, H-STATE, E-NOEXS, E-NOWAI, E-RLWAI, number}
+use Rattle.rules.specs.Codes.{Code, OK, E-NOEXS, E-NOWAI, E-RLWAI, number, tellsDamage}
 use Rattle.rules.specs.State.{Wait, State, dormant, ready, suspended, waiting, waiting-suspended, Cell, Task, Body, task, nobody, isDormant, isReady, isWaiting}
 use Rattle.rules.specs.Places.{tabulate}
 use Rattle.rules.specs.Setup.{got, Entry, Setup, setup}
@@ -28,6 +28,7 @@ use Rattle.rules.specs.Rows.{staTsk, extTsk, terTsk, chgPri, rotRdq, rel
 use Rattle.rules.specs.Table.{caller, handles, table, judge}
 use Rattle.rules.specs.Sound.{CellNumbers, Sound}
 use Rattle.rules.specs.Check.{sound?}
+use Rattle.rules.specs.Breach.{breach}
 use Rattle.rules.specs.Answers.{answer, readCell}
 use Rattle.rules.specs.Kernel.{idleTask, idle, starts, fresh, next, served, damaged, guarded, event, cell}
 use Rattle.rules.specs.Plain.{Plain, viewOf, plainAnswer}
@@ -40,6 +41,7 @@ use Rattle.rules.proofs.States.{older-same}
 use Rattle.rules.proofs.Judge.{_⊗_, bad, AllRows, by-check, by-call, OnActs, on-acts, acts-check, acts-choose, acts-first, acts-count, acts-wait}
 use Rattle.rules.proofs.Cells.{change-each, map-each, body-acts, Gentle, releases, sets, elapses, AllGentle, flag-gentle, tick-gentle, served-whole}
 use Rattle.rules.proofs.Clean.{judge-not-broken}
+use Rattle.rules.proofs.Breach.{breach-tells}
 use Rattle.rules.proofs.Events.{event-next, cell-reads, sound-event, fresh-sound}
 use Rattle.rules.proofs.Broken.{tasks-next, stays, stays-broken}
 
@@ -272,16 +274,16 @@ only-rel-wai v e i = go (sound? v)
   where
     go : (d : Dec (Sound v)) → OnlyRelWai i e (number (guarded v e d .answer .code)) (task (v .body) i) (task (guarded v e d .next .body) i)
     go (yes s) = rw (body-acts (judge v e .acts) v) (acts-only v s i e)
-    go (no n) = whole-only i e (number H-STATE) (task (v .body) i) (task (v .body) i) (whole-same (task (v .body) i))
+    go (no n) = whole-only i e (number (breach v .code)) (task (v .body) i) (task (v .body) i) (whole-same (task (v .body) i))
 
 -- No event is answered with E_RLWAI, in either kernel.
 pub never-answered : (v : View) (e : Event) → event v e .answer .code ≢ E-RLWAI
-unfolding event guarded served damaged answer
+unfolding event guarded served damaged answer tellsDamage
 never-answered v e = go (sound? v)
   where
     go : (d : Dec (Sound v)) → guarded v e d .answer .code ≢ E-RLWAI
     go (yes s) = judge-not-broken v e
-    go (no n) = λ h. let z : _≡_ {A = ℕ} 0 1 = cc in omega arith
+    go (no n) = λ h. false≢true (ap tellsDamage (sym h) ∙ breach-tells v)
 
 pub plain-never-answered : (s : Plain) (e : Event) → plainAnswer s e .code ≢ E-RLWAI
 unfolding plainAnswer answer

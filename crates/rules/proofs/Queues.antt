@@ -128,7 +128,7 @@ module _ (b : Body) (q : Place) (l : List ℕ) (h : Queue b q l) where
 head-belongs : (b : Body) (q : Place) (x : ℕ) (l : List ℕ) → Queue b q (x ∷ l) → belongs b q x ≡ true
 head-belongs b q x l h = standing-belongs b q (x ∷ l) h x (times-head x l)
 
-empty-line-belongs : (b : Body) (q : Place) (i : ℕ) → Queue b q [] → belongs b q i ≡ false
+pub empty-line-belongs : (b : Body) (q : Place) (i : ℕ) → Queue b q [] → belongs b q i ≡ false
 unfolding times
 empty-line-belongs b q i h = go (belongs b q i) refl
   where

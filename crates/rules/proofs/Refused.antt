@@ -2,11 +2,11 @@
 use mathlib.Core.Bool.{true, false, false≢true}
 use mathlib.Core.List.{List, [], _∷_}
 use mathlib.Core.Logic.{_⊎_, inl, inr}
-use mathlib.Core.Path.{_≡_, refl, ap}
+use mathlib.Core.Path.{_≡_, refl, sym, ap, _∙_}
 use Prim.Native.Nat.{ℕ}
 use native.Mathlib.Omega.{arith}
 use lib.IntN.{pos, natAbs}
-use Rattle.rules.specs.Codes.{number, refuses}
+use Rattle.rules.specs.Codes.{number, refuses, inDamage, tellsDamage}
 use Rattle.rules.specs.State.{State, dormant, ready, suspended, waiting, waiting-suspended, Task, Body}
 use Rattle.rules.specs.Events.{Event}
 use Rattle.rules.specs.View.{View, running, acts}
@@ -18,6 +18,7 @@ use Rattle.rules.specs.Check.{sound?}
 use Rattle.rules.specs.Kernel.{next, served, damaged, refusal, guarded, event}
 use Rattle.rules.specs.Plain.{Plain, viewOf, plainActs, plainNext, plainAnswer}
 use Rattle.rules.proofs.Clean.{refused, given, waited, CleanEvent, clean-verdict, nests, judge-clean}
+use Rattle.rules.proofs.Breach.{breach-tells}
 
 -- ---- what a clean verdict says
 
@@ -45,8 +46,8 @@ served-refused : (v : View) (e : Event) → refuses (served v e .answer .code) �
 unfolding served next answer refusal
 served-refused v e h = λ z. record { answer = refused-served v (judge v e) (judge-clean v e) h .0 z; next = refused-served v (judge v e) (judge-clean v e) h .1 z }
 
--- A negative code has w1 = w2 = 0, 0 released, the state unchanged and the running task as before; after H_STATE the running task is
--- given as 0.
+-- A negative code has w1 = w2 = 0, 0 released, the state unchanged and the running task as before; of a damaged state w1 tells an id and
+-- the running task is given as 0.
 pub refused-unchanged : (v : View) (e : Event) → refuses (event v e .answer .code) ≡ true
     → (Sound v × (event v e ≡ refusal v (event v e .answer .code))) ⊎ ((Sound v → ⊥) × (event v e ≡ damaged v))
 unfolding event guarded
@@ -69,12 +70,12 @@ waits-clean b r (clean-verdict (waited i w)) e = (refl, refl)
 waits-clean b r (nests h) e = (refl, refl)
 
 pub waits-no-words : (v : View) (e : Event) → number (event v e .answer .code) ≡ pos 1 → (event v e .answer .w1 ≡ 0) × (event v e .answer .w2 ≡ 0)
-unfolding event guarded served damaged answer
+unfolding event guarded served damaged answer tellsDamage
 waits-no-words v e = go (sound? v)
   where
     go : (d : Dec (Sound v)) → number (guarded v e d .answer .code) ≡ pos 1 → (guarded v e d .answer .w1 ≡ 0) × (guarded v e d .answer .w2 ≡ 0)
     go (yes s) h = waits-clean (v .body) (judge v e) (judge-clean v e) h
-    go (no n) h = (refl, refl)
+    go (no n) h = absurd (false≢true (ap inDamage (sym h) ∙ breach-tells v))
 
 -- ---- the plain kernel
 

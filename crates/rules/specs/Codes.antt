@@ -1,10 +1,11 @@
 -- The codes: their names, and the number of each.
-use mathlib.Core.Bool.{Bool, true, false}
+use mathlib.Core.Bool.{Bool, true, false, _&&_}
 use Prim.Native.Nat.{ℕ}
+use lib.Dec.{leb}
 use lib.IntN.{ℤ, pos, negsuc, negℤ}
 
 pub data Code : Type 0 where
-  OK WAITS H-STATE H-CALL H-PAR E-NOEXS E-TPRI E-ILTIME E-CTX E-SELF E-DMT H-NODMT H-SUS E-NOSUS E-NOWAI E-QOVR H-POLL H-MSG H-NEST H-ILBLK E-TMOUT E-RLWAI : Code
+  OK WAITS H-NUMBER H-QUEUE H-SERVED H-TWICE H-CALL H-PAR E-NOEXS E-TPRI E-ILTIME E-CTX E-SELF E-DMT H-NODMT H-SUS E-NOSUS E-NOWAI E-QOVR H-POLL H-MSG H-NEST H-ILBLK E-TMOUT E-RLWAI : Code
   deriving Discrete as Code-discrete
 
 abbrev pub minus : ℕ → ℤ
@@ -14,7 +15,10 @@ minus n = negℤ (pos n)
 unfoldable pub number : Code → ℤ
 number OK = pos 0
 number WAITS = pos 1
-number H-STATE = minus 9
+number H-NUMBER = minus 20
+number H-QUEUE = minus 21
+number H-SERVED = minus 22
+number H-TWICE = minus 23
 number H-CALL = minus 1
 number H-PAR = minus 2
 number E-NOEXS = minus 2100
@@ -43,3 +47,12 @@ negative (negsuc n) = true
 unfoldable pub refuses : Code → Bool
 unfolding number
 refuses c = negative (number c)
+
+abbrev pub inDamage : ℤ → Bool
+inDamage (pos n) = false
+inDamage (negsuc n) = leb 19 n && leb n 23
+
+-- the code tells that the state is damaged: -20 to -24
+unfoldable pub tellsDamage : Code → Bool
+unfolding number
+tellsDamage c = inDamage (number c)

@@ -1,9 +1,9 @@
 -- Demand 3: the two kernels, fed the same setup and the same list of events, as one claim about the list.
+use mathlib.Core.Bool.{false}
 use mathlib.Core.List.{List, [], _∷_}
-use mathlib.Core.Logic.{_≢_}
 use mathlib.Core.Path.{_≡_}
 use lib.IntN.{ℤ}
-use Rattle.rules.specs.Codes.{number, H-STATE}
+use Rattle.rules.specs.Codes.{number, tellsDamage}
 use Rattle.rules.specs.Places.{tabulate}
 use Rattle.rules.specs.Events.{Event}
 use Rattle.rules.specs.View.{View}
@@ -27,9 +27,9 @@ pub record Alike (past : List Happened) (v : View) (s : Plain) : Type 0 where
 abbrev pub happened : Plain → Event → Happened
 happened s e = record { event = e; code = number (plainAnswer s e .code); w1 = plainAnswer s e .w1; before = s .body; after = plainNext s e .body }
 
--- At each event both give the same code, words, running task and released count, and no event gets H_STATE.
+-- At each event both give the same code, words, running task and released count, and no event gets a code of damage.
 abbrev pub Demand3 : List Happened → View → Plain → List Event → Type 0
 Demand3 past v s [] = Alike past v s
 Demand3 past v s (e ∷ l) =
-    Alike past v s × (event v e .answer ≡ plainAnswer s e) × (event v e .answer .code ≢ H-STATE)
+    Alike past v s × (event v e .answer ≡ plainAnswer s e) × (tellsDamage (event v e .answer .code) ≡ false)
     × Demand3 (happened s e ∷ past) (event v e .next) (plainNext s e) l

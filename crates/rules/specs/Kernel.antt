@@ -5,7 +5,7 @@ use mathlib.Core.Option.{none}
 use Prim.Native.Nat.{ℕ, suc}
 use lib.IntN.{ℤ}
 use lib.ListN.{replicate}
-use Rattle.rules.specs.Codes.{Code, OK, H-STATE}
+use Rattle.rules.specs.Codes.{Code, OK}
 use Rattle.rules.specs.State.{dormant, Cell, Task, no-handler, Body}
 use Rattle.rules.specs.Places.{tabulate}
 use Rattle.rules.specs.Setup.{Entry, Setup}
@@ -16,6 +16,7 @@ use Rattle.rules.specs.Table.{judge}
 use Rattle.rules.specs.Answers.{Answer, answer, readCell}
 use Rattle.rules.specs.Sound.{Sound}
 use Rattle.rules.specs.Check.{sound?}
+use Rattle.rules.specs.Breach.{breach}
 
 -- ---- fresh
 
@@ -59,15 +60,15 @@ next v e = acts (judge v e .acts) v
 unfoldable pub served : View → Event → Outcome
 served v e = record { answer = answer (judge v e) v (next v e); next = next v e }
 
--- H_STATE: words 0, 0 released, the running task given as 0, the state unchanged.
+-- The first rule broken, and in w1 the smallest id at which it is; w2 0, 0 released, the running task given as 0, the state unchanged.
 unfoldable pub damaged : View → Outcome
-damaged v = record { answer = record { code = H-STATE; w1 = 0; w2 = 0; runs = 0; released = 0 }; next = v }
+damaged v = record { answer = record { code = breach v .code; w1 = breach v .id; w2 = 0; runs = 0; released = 0 }; next = v }
 
 -- A negative code has w1 = w2 = 0, 0 released, the state unchanged and the running task as before.
 unfoldable pub refusal : View → Code → Outcome
 refusal v c = record { answer = record { code = c; w1 = 0; w2 = 0; runs = running v; released = 0 }; next = v }
 
--- H_STATE comes before every other refusal, of calls, ticks, entries and returns.
+-- Damage comes before every other refusal, of calls, ticks, entries and returns.
 unfoldable pub guarded : (v : View) → Event → Dec (Sound v) → Outcome
 guarded v e (yes s) = served v e
 guarded v e (no h) = damaged v
@@ -75,10 +76,10 @@ guarded v e (no h) = damaged v
 unfoldable pub event : View → Event → Outcome
 event v e = guarded v e (sound? v)
 
--- the cell of a task: H_STATE with word 0 if the state is damaged
+-- the cell of a task; of a damaged state the code of the first rule broken, with word 0
 unfoldable pub guardedCell : (v : View) → ℤ → Dec (Sound v) → Cell
 guardedCell v a (yes s) = readCell (v .body) a
-guardedCell v a (no h) = record { code = H-STATE; word = 0 }
+guardedCell v a (no h) = record { code = breach v .code; word = 0 }
 
 unfoldable pub cell : View → ℤ → Cell
 cell v a = guardedCell v a (sound? v)

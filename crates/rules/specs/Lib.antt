@@ -20,6 +20,7 @@ pub mod Table
 pub mod Answers
 pub mod Sound
 pub mod Check
+pub mod Breach
 pub mod Kernel
 pub mod Interrupted
 pub mod Plain

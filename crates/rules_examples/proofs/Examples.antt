@@ -1,6 +1,6 @@
 -- The worked examples hold on both kernels, damaged states are refused, and setups are read as the table says, by computation.
 -- Assumes nothing.
-use mathlib.Core.List.{[], _∷_, _++_, map}
+use mathlib.Core.List.{List, [], _∷_, _++_, map}
 use mathlib.Core.Path.{_≡_, refl}
 use lib.IntN.{ℤ, pos}
 use Rattle.rules.specs.Codes.{minus}
@@ -8,7 +8,7 @@ use Rattle.rules.specs.Setup.{got}
 use Rattle.rules.specs.Events.{Event, enter}
 use Rattle.rules.specs.Runs.{play, plainPlay}
 use Rattle.rules_examples.specs.BenchSheet.{set-flg, slp-tsk, wai-tsk, get-tid, taskCall, handlerCall, ran, plainRan, expected, Holds}
-use Rattle.rules_examples.specs.Examples.{taskExamples, objectExamples, waitInTurn, fullSays, handlerExamples, leaves, runBytes, runWords, runAnswers, damages, repairs, openRepairs, touched, unchanged, readings, read}
+use Rattle.rules_examples.specs.Examples.{taskExamples, objectExamples, waitInTurn, fullSays, handlerExamples, leaves, runBytes, runWords, runAnswers, Damage, damages, severalIds, severalRules, repairs, openRepairs, touched, damageTold, unchanged, readings, read}
 
 pub task-examples-hold : Holds taskExamples
 unfolding ran plainRan expected
@@ -45,10 +45,21 @@ pub waits-for-ever : leaves (taskCall wai-tsk (minus 1) (pos 0) (pos 0)) ≡ lea
 unfolding leaves
 waits-for-ever = refl
 
--- any event, and the cell of any task: H_STATE, words 0, the running task given as 0, 0 released, the state unchanged
-pub damage-refused : (e : Event) (a : ℤ) → touched damages e a ≡ unchanged damages (minus 9 ∷ pos 0 ∷ pos 0 ∷ pos 0 ∷ pos 0 ∷ []) (minus 9)
-unfolding touched unchanged
-damage-refused e a = refl
+-- any event, and the cell of any task: the first rule broken, and the smallest id
+abbrev Told : List Damage → Type 0
+Told l = (e : Event) (a : ℤ) → touched (map (λ d. d .made) l) e a ≡ damageTold l
+
+pub damage-told : Told damages
+unfolding touched damageTold
+damage-told e a = refl
+
+pub several-ids-told : Told severalIds
+unfolding touched damageTold
+several-ids-told e a = refl
+
+pub several-rules-told : Told severalRules
+unfolding touched damageTold
+several-rules-told e a = refl
 
 -- get_tid is served: w1 the running task, 1
 pub repair-served : touched repairs (taskCall get-tid (pos 0) (pos 0) (pos 0)) (pos 1) ≡ unchanged repairs (pos 0 ∷ pos 1 ∷ pos 0 ∷ pos 1 ∷ pos 0 ∷ []) (pos 0)

@@ -1,10 +1,17 @@
-//! Damaged states: words of states that runs reach, and of sound states that none reaches soon, are changed one at a time and in sets, and
-//! queues are drawn with somebody in the wrong place. The kernel accepts such a memory exactly if it is a sound state.
+//! Damaged states: words of states that runs reach, and of sound states that none reaches soon, are changed one at a time and in sets;
+//! rules are broken on purpose (`aimed`) and by hand (`worked`). The kernel accepts such a memory exactly if it is a sound state, and else
+//! tells the first rule broken and the smallest id that breaks it.
+mod aimed;
+mod worked;
+
 use crate::pair::{serve, Pair};
 use crate::Verdict;
-use okrozumba::{code, Answer, State, MESSAGES, STATE_WORDS};
+use okrozumba::{Answer, State, MESSAGES, STATE_WORDS};
 use second::layout;
-use second::picture::{Breach, Picture, DEPTH_RULE, INTERRUPTED_RULE, NONEMPTY_RULE};
+use second::picture::{
+    Breach, Picture, Rule, BACKWARD_RULE, DAMAGE_CODES, DEPTH_RULE, H_NUMBER, H_QUEUE, H_SERVED,
+    H_TWICE, INTERRUPTED_RULE, MARK_RULE, NONEMPTY_RULE, UNLINKED_RULE,
+};
 use second::plain::{Event, Plain};
 use second::random::Random;
 use second::script::{self, Author, SIZES};
@@ -12,32 +19,10 @@ use second::sketch;
 
 const BASES: u64 = 24;
 const SETS: u32 = 15_000;
-const MISPLACED: u64 = 40_000;
 /// Every so many memories get all events.
 const ALL_EVENTS: u64 = 97;
 
-#[derive(Default)]
-struct Tally {
-    damaged: u64,
-    sound: u64,
-    events: u64,
-    /// Damaged by a rule on handlers, or by the word of nonempty ready queues.
-    named: [u64; NAMED_RULES.len()],
-    /// Sound, with a handler open.
-    open: u64,
-}
-
-const NAMED_RULES: [Breach; 3] = [DEPTH_RULE, INTERRUPTED_RULE, NONEMPTY_RULE];
-
 // ---- what a memory must answer
-
-const REFUSED: Answer = Answer {
-    code: code::H_STATE,
-    w1: 0,
-    w2: 0,
-    running: 0,
-    released: 0,
-};
 
 /// A tick, a call, an entry, a return, and what is none of these.
 const FIVE_EVENTS: [i32; 25] = [
@@ -63,39 +48,45 @@ fn turn_events(turn: u64) -> Vec<Event> {
     calls.map(call).chain(others).collect()
 }
 
-fn report(what: &str, rule: &str, got: impl std::fmt::Debug, state: &State) -> String {
+fn report(what: &str, breach: Breach, got: impl std::fmt::Debug, state: &State) -> String {
     format!(
-        "{what}; the second decision: {rule}; the kernel: {got:?}\n{:?}\n{:?}",
+        "{what}; the second decision: {breach}; the kernel: {got:?}\n{:?}\n{:?}",
         state.words(),
         state.messages()
     )
 }
 
-/// H_STATE for every event, alone and in a batch, and for every cell; nothing runs; nothing changes.
-pub fn answers_damage(state: &State, rule: &str, events: &[Event]) -> Result<(), String> {
+/// Code and id for every event, alone and in a batch; the code for every cell; nothing runs; nothing changes.
+pub fn answers_damage(state: &State, breach: Breach, events: &[Event]) -> Result<(), String> {
     let mut kernel = state.clone();
+    let refused = Answer {
+        code: breach.code,
+        w1: breach.id,
+        ..Answer::default()
+    };
     for event in events {
         let got = serve(&mut kernel, *event);
-        if got != REFUSED {
-            return Err(report(&format!("{event:?}"), rule, got, state));
+        if got != refused {
+            return Err(report(&format!("{event:?}"), breach, got, state));
         }
     }
     for task in [0, 1, 2, 32, 33] {
         let got = kernel.cell(task);
-        if (got.code, got.word) != (code::H_STATE, 0) {
-            return Err(report(&format!("cell of {task}"), rule, got, state));
+        if (got.code, got.word) != (breach.code, 0) {
+            return Err(report(&format!("cell of {task}"), breach, got, state));
         }
     }
     if kernel.running() != 0 {
-        return Err(report("running task", rule, kernel.running(), state));
+        return Err(report("running task", breach, kernel.running(), state));
     }
     let (mut codes, mut answers) = ([7; 5], [7; 20]);
     let got = kernel.events(&FIVE_EVENTS, &mut codes, &mut answers);
-    if got.is_err() || codes != [code::H_STATE; 5] || answers != [0; 20] {
-        return Err(report("a batch", rule, (got, codes, answers), state));
+    let told = [breach.id, 0, 0, 0].repeat(5);
+    if got.is_err() || codes != [breach.code; 5] || answers[..] != told {
+        return Err(report("a batch", breach, (got, codes, answers), state));
     }
     if kernel != *state {
-        return Err(report("the state changed", rule, kernel.words(), state));
+        return Err(report("the state changed", breach, kernel.words(), state));
     }
     Ok(())
 }
@@ -112,17 +103,72 @@ pub fn answers_sound(state: &State, picture: &Picture, events: &[Event]) -> Resu
     Ok(())
 }
 
+// ---- what was told how often
+
+/// The rules on handlers, and those that are tried behind all others.
+const NAMED_RULES: [Rule; 6] = [
+    DEPTH_RULE,
+    INTERRUPTED_RULE,
+    MARK_RULE,
+    BACKWARD_RULE,
+    UNLINKED_RULE,
+    NONEMPTY_RULE,
+];
+
+/// What of naming must come up; each asks of a memory with an id told.
+type Corner = (&'static str, fn(&Picture, Breach) -> bool);
+
+const CORNERS: [Corner; 9] = [
+    ("a task missing", |p, told| {
+        told.code == H_QUEUE && p.stands(told.id).missing()
+    }),
+    ("a task doubled", |p, told| {
+        told.code == H_QUEUE && p.stands(told.id).doubled()
+    }),
+    ("a task foreign", |p, told| {
+        told.code == H_QUEUE && p.stands(told.id).foreign()
+    }),
+    ("a waiter not the first in line", |p, told| {
+        told.code == H_SERVED && !p.first_in_line(told.id)
+    }),
+    ("a message held by two mailboxes", |p, told| {
+        told.code == H_TWICE && p.held(told.id).filter(|times| *times > 0).count() > 1
+    }),
+    ("a message held by no mailbox twice", |p, told| {
+        told.code == H_TWICE && p.held(told.id).all(|times| times < 2)
+    }),
+    ("the smallest of several ids", |p, told| {
+        p.breaches().filter(|other| other.code == told.code).count() > 1
+    }),
+    ("waiters or messages behind a task's queue", |p, told| {
+        told.code == H_QUEUE && p.breaches().any(|other| other.code != told.code)
+    }),
+    ("messages behind a waiter", |p, told| {
+        told.code == H_SERVED && p.breaches().any(|other| other.code != told.code)
+    }),
+];
+
+#[derive(Default)]
+struct Tally {
+    damaged: u64,
+    sound: u64,
+    events: u64,
+    /// By code.
+    codes: [u64; DAMAGE_CODES.len()],
+    corners: [u64; CORNERS.len()],
+    named: [u64; NAMED_RULES.len()],
+    /// Sound, with a handler open.
+    open: u64,
+}
+
 impl Tally {
     fn judge(&mut self, state: &State) -> Result<(), String> {
         let events = turn_events(self.damaged + self.sound);
         self.events += events.len() as u64;
         match layout::shown(state) {
-            Err(rule) => {
-                self.damaged += 1;
-                for (times, named) in self.named.iter_mut().zip(NAMED_RULES) {
-                    *times += u64::from(named == rule);
-                }
-                answers_damage(state, rule, &events)
+            Err(breach) => {
+                self.count(state, breach)?;
+                answers_damage(state, breach, &events)
             }
             Ok(picture) => {
                 self.sound += 1;
@@ -130,6 +176,41 @@ impl Tally {
                 answers_sound(state, &picture, &events)
             }
         }
+    }
+
+    fn count(&mut self, state: &State, told: Breach) -> Result<(), String> {
+        self.damaged += 1;
+        for (times, code) in self.codes.iter_mut().zip(DAMAGE_CODES) {
+            *times += u64::from(code == told.code);
+        }
+        for (times, rule) in self.named.iter_mut().zip(NAMED_RULES) {
+            *times += u64::from(rule == told.rule);
+        }
+        if told.code == H_NUMBER {
+            return Ok(());
+        }
+        let picture = layout::seen(state).map_err(|breach| format!("{told}, yet {breach}"))?;
+        for (times, (_, met)) in self.corners.iter_mut().zip(CORNERS) {
+            *times += u64::from(met(&picture, told));
+        }
+        Ok(())
+    }
+
+    /// How often each code, rule and corner came up; none may be missing.
+    fn lines(&self) -> Result<String, String> {
+        let codes = DAMAGE_CODES.map(|code| format!("code {code}"));
+        let rules = NAMED_RULES.map(|rule| format!("code {H_NUMBER} for the {rule}"));
+        let corners = CORNERS.map(|(corner, _)| format!("told of {corner}"));
+        let what = codes.into_iter().chain(rules).chain(corners);
+        let times = self.codes.iter().chain(&self.named).chain(&self.corners);
+        let mut lines = String::new();
+        for (what, times) in what.zip(times) {
+            if *times == 0 {
+                return Err(format!("never {what}"));
+            }
+            lines += &format!("  {times:8} times {what}\n");
+        }
+        Ok(lines)
     }
 }
 
@@ -217,7 +298,7 @@ fn each_word(tally: &mut Tally, random: &mut Random, base: &State) -> Result<(),
 fn each_ready_bit(tally: &mut Tally, base: &State) -> Result<(), String> {
     for bit in 0..u32::BITS {
         let state = layout::with_ready_bit_changed(base, bit);
-        if layout::shown(&state) != Err(NONEMPTY_RULE) {
+        if layout::shown(&state) != Err(Breach::number(NONEMPTY_RULE)) {
             return Err(format!("bit {bit} of the word changed, and no other rule"));
         }
         tally.judge(&state)?;
@@ -255,93 +336,9 @@ fn noise(tally: &mut Tally, random: &mut Random) -> Result<(), String> {
     Ok(())
 }
 
-// ---- queues
-
-/// A queue of a random kind that has one.
-fn any_queue<'a>(random: &mut Random, p: &'a mut Picture) -> Option<&'a mut Vec<u32>> {
-    let kind = match random.below(6) {
-        0 => &mut p.ready,
-        1 => &mut p.semaphore_waiters,
-        2 => &mut p.flag_waiters,
-        3 => &mut p.mailbox_waiters,
-        4 => &mut p.pool_waiters,
-        _ => &mut p.mail,
-    };
-    let many = kind.len() as u32;
-    (many > 0).then(|| &mut kind[random.below(many) as usize])
-}
-
-fn take_out(random: &mut Random, p: &mut Picture) -> Option<u32> {
-    let queue = any_queue(random, p)?;
-    let many = queue.len() as u32;
-    (many > 0).then(|| queue.remove(random.below(many) as usize))
-}
-
-fn put_in(random: &mut Random, p: &mut Picture, id: u32) {
-    if let Some(queue) = any_queue(random, p) {
-        let at = random.below(queue.len() as u32 + 1) as usize;
-        queue.insert(at, id);
-    }
-}
-
-/// Somebody leaves a queue, or goes to another, or comes into one, or two change places. The links are whole as far as they can be.
-fn misplace(random: &mut Random, p: &mut Picture) {
-    match random.below(4) {
-        0 => {
-            take_out(random, p);
-        }
-        1 => {
-            if let Some(id) = take_out(random, p) {
-                put_in(random, p, id);
-            }
-        }
-        2 => {
-            let id = random.within(1, p.tasks.len() as u32);
-            put_in(random, p, id);
-        }
-        _ => {
-            if let (Some(one), Some(other)) = (take_out(random, p), take_out(random, p)) {
-                put_in(random, p, other);
-                put_in(random, p, one);
-            }
-        }
-    }
-}
-
-/// A message laid where somebody waits for one, with everything else as it should be.
-fn lay_beside_waiter(p: &mut Picture) {
-    let waited = p.mailbox_waiters.iter().position(|queue| !queue.is_empty());
-    let unsent = p.messages.iter().position(|mailbox| *mailbox == 0);
-    if let (Some(mailbox), Some(message)) = (waited, unsent) {
-        p.messages[message] = mailbox as u32 + 1;
-        p.mail[mailbox].push(message as u32 + 1);
-    }
-}
-
-/// Any task interrupted, also one that there isn't, at a depth that may be too great, with everything else as it should be.
-fn interrupt_any(random: &mut Random, p: &mut Picture) {
-    p.depth = random.pick(&[1, 1, 1, 2, 14, 15, 15, 16, 17, 1 << 31, u32::MAX]);
-    let ids = [0, 1, p.tasks.len() as u32, p.tasks.len() as u32 + 1, 33];
-    p.interrupted = Some(match random.below(4) {
-        0 => random.pick(&ids),
-        1 => random.word(),
-        _ => random.within(1, p.tasks.len() as u32),
-    });
-}
-
-fn misplaced(tally: &mut Tally, seed: u64) -> Result<(), String> {
-    let random = &mut Random::new(seed);
-    let mut picture = sketched(random, seed);
-    match random.below(10) {
-        0 => lay_beside_waiter(&mut picture),
-        1 | 2 => interrupt_any(random, &mut picture),
-        _ => misplace(random, &mut picture),
-    }
-    tally.judge(&layout::drawn(&picture, || random.word()))
-}
-
 pub fn check() -> Verdict {
     let mut tally = Tally::default();
+    let worked = worked::check(&mut tally)?;
     for seed in 0..BASES {
         let random = &mut Random::new(1000 + seed);
         let base = base(random, seed)?;
@@ -353,15 +350,13 @@ pub fn check() -> Verdict {
         }
         noise(&mut tally, random).map_err(named)?;
     }
-    for seed in 0..MISPLACED {
-        misplaced(&mut tally, seed).map_err(|d| format!("misplaced {seed}: {d}"))?;
-    }
-    let [depth, interrupted, nonempty] = tally.named;
-    if [depth, interrupted, tally.open].contains(&0) {
+    aimed::check(&mut tally)?;
+    if tally.open == 0 {
         return Err("too little tested of handlers".to_string());
     }
+    let lines = tally.lines()?;
     Ok(format!(
-        "{} damaged memories refused, {depth} of them for the depth of handlers, {interrupted} for the interrupted task, {nonempty} for the word of nonempty ready queues; {} still sound accepted, {} of them with a handler open; {} events",
+        "{} damaged memories refused, {worked} of them worked by hand; {} still sound accepted, {} of them with a handler open; {} events\n{lines}",
         tally.damaged, tally.sound, tally.open, tally.events
     ))
 }

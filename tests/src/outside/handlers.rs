@@ -5,6 +5,7 @@ use crate::pair::{serve, Pair};
 use crate::Verdict;
 use okrozumba::{code, Answer, State};
 use second::layout;
+use second::picture::Breach;
 use second::plain::{Event, DEPTH_MOST};
 use second::random::Random;
 use second::script::{self, SIZES};
@@ -119,7 +120,7 @@ fn depths() -> Result<[u32; 2], String> {
             enters_and_leaves(&state, depth, task).map_err(named)?;
             accepted += 1;
         } else {
-            answers_damage(&state, "handlers", &events).map_err(named)?;
+            answers_damage(&state, Breach::number("handlers"), &events).map_err(named)?;
             refused += 1;
         }
     }

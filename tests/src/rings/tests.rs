@@ -3,7 +3,7 @@ use super::*;
 use crate::cases::{self, Bench};
 use crate::layout;
 use crate::looks::Looks;
-use crate::picture::{self, Object, Picture, Queues, Standing, Wait};
+use crate::picture::{self, Breach, Object, Picture, Queues, Standing, Wait, DAMAGE_CODES};
 use crate::plain::{Event, Plain};
 use crate::random::Random;
 use crate::recording;
@@ -15,6 +15,7 @@ use okrozumba::State;
 const RUNS: u64 = 400;
 const EVENTS: u32 = 500;
 const STATES: u64 = 4000;
+const DAMAGED: u64 = 40_000;
 const EVENTS_ON: u32 = 20;
 
 fn drawn(seed: u64) -> (Random, Setup) {
@@ -98,10 +99,13 @@ impl Both {
 
 // ---- pictures of rings
 
-fn listed<const N: usize>(rings: &Rings<N>, anchor: u32, many: u32) -> Queues {
+/// Of damaged rings too: what is no id of 1 to n is the last one listed, and so is entry n + 1.
+fn listed<const N: usize>(rings: &Rings<N>, anchor: u32, many: u32, n: u32) -> Queues {
+    let onward = |id: &u32| (1..=n).contains(id).then(|| rings.next(*id));
     let queue = |anchor| {
-        let all = std::iter::successors(Some(rings.next(anchor)), |id| Some(rings.next(*id)));
-        all.take_while(|id| *id != anchor).collect()
+        let all = std::iter::successors(Some(rings.next(anchor)), onward);
+        let back = all.take_while(|id| *id != anchor);
+        back.take(n as usize + 1).collect()
     };
     (anchor..anchor + many).map(queue).collect()
 }
@@ -134,7 +138,7 @@ fn task_of(task: &Task) -> picture::Task {
 }
 
 fn shown(k: &Kernel) -> Picture {
-    let of_tasks = |anchor, many| listed(&k.queue, anchor, many);
+    let of_tasks = |anchor, many| listed(&k.queue, anchor, many, k.tasks);
     let free = |p: usize| {
         (0..k.size[p])
             .map(|block| k.free[p] >> block & 1 == 1)
@@ -156,7 +160,7 @@ fn shown(k: &Kernel) -> Picture {
         flag_waiters: of_tasks(wait_anchor(FLAG, 1), k.flags),
         mailbox_waiters: of_tasks(wait_anchor(MAILBOX, 1), k.mailboxes),
         pool_waiters: of_tasks(wait_anchor(POOL, 1), k.pools),
-        mail: listed(&k.mail, mail_anchor(1), k.mailboxes),
+        mail: listed(&k.mail, mail_anchor(1), k.mailboxes, k.messages),
     }
 }
 
@@ -352,50 +356,113 @@ fn kinds_are_judged_first() {
     }
 }
 
-/// The check sees damage of each kind.
+/// The check sees damage of each kind, and tells its code and id.
 #[test]
 fn damage_is_found() {
     let setup = script::setup(&mut Random::new(2), SIZES[2]);
     let mut sound = Kernel::start(&setup::bytes(&setup)).unwrap();
+    let waits = sound.running;
     assert!(sound.event(&[0, 18, 1, 1 << 31, 0]).code >= 0);
     assert!(sound.event(&[0, 20, 1, 1, 0]).code >= 0);
     assert!(sound.event(&[0, 10, 9, 0, 0]).code >= 0);
     assert!(sound.is_sound());
     let t = sound.running;
-    let damages: [fn(&mut Kernel, u32); 14] = [
-        |k, _| k.priorities = 17,
-        |k, _| k.ready ^= 1 << 3,
-        |k, _| k.timed ^= 1,
-        |k, _| k.count[1] = 65536,
-        |k, _| k.size[1] = 33,
-        |k, _| k.mailbox[1] ^= 1,
-        |k, _| k.mailbox[200] = 1,
-        |k, _| k.mail.link[1].prev = 2,
-        |k, t| k.queue.link[t as usize].next = t,
-        |k, t| k.at_mut(t).wakeups = 16,
-        |k, t| k.at_mut(t).status = SUSPEND,
-        |k, t| k.at_mut(t).code = 7,
-        |k, _| k.running = 0,
-        |k, _| k.depth = 16,
+    type Damage = fn(&mut Kernel, u32);
+    let damages: [(Damage, i32, u32); 18] = [
+        (|k, _| k.priorities = 17, H_NUMBER, 0),
+        (|k, _| k.ready ^= 1 << 3, H_NUMBER, 0),
+        (|k, _| k.timed ^= 1, H_NUMBER, 0),
+        (|k, _| k.count[1] = 65536, H_NUMBER, 0),
+        (|k, _| k.size[1] = 33, H_NUMBER, 0),
+        (|k, _| k.mailbox[1] ^= 1, H_NUMBER, 0),
+        (|k, _| k.mailbox[200] = 1, H_NUMBER, 0),
+        (|k, _| k.mailbox[200] = u32::MAX - 255, H_NUMBER, 0),
+        (|k, _| k.mail.link[1].prev = 2, H_NUMBER, 0),
+        (|k, _| k.mail.link[1].next = 1, H_TWICE, 1),
+        (|k, t| k.queue.link[t as usize].next = t, H_QUEUE, t),
+        (|k, t| k.at_mut(t).wakeups = 16, H_NUMBER, 0),
+        (|k, t| k.at_mut(t).status = SUSPEND, H_QUEUE, t),
+        (|k, t| k.at_mut(t).code = 7, H_NUMBER, 0),
+        (|k, _| k.pattern[1] = 1 << 31, H_SERVED, waits),
+        (|k, _| k.running = 0, H_NUMBER, 0),
+        (|k, _| k.depth = 16, H_NUMBER, 0),
+        (|k, _| k.clock = 1 << 48, H_NUMBER, 0),
     ];
-    for (i, damage) in damages.iter().enumerate() {
+    for (i, (damage, code, id)) in damages.into_iter().enumerate() {
         let mut k = sound.clone();
         damage(&mut k, t);
-        assert_eq!(
-            k.checked_event(&[0, 26, 0, 0, 0]).code,
-            H_STATE,
-            "damage {i}"
-        );
+        let told = k.checked_event(&[0, 26, 0, 0, 0]);
+        let refused = Answer {
+            code,
+            w1: id,
+            ..Answer::default()
+        };
+        assert_eq!(told, refused, "damage {i}");
     }
 }
 
-/// The check, and the second decision on the picture, of rings with such a depth and interrupted task.
+/// One change of what a picture shows, or of a link.
+fn hurt(random: &mut Random, k: &mut Kernel) {
+    let t = random.within(1, k.tasks);
+    let j = random.below(k.messages + 1) as usize;
+    let node = |random: &mut Random, most| match random.below(8) {
+        0 => random.word(),
+        _ => random.within(1, most),
+    };
+    match random.below(12) {
+        0 => k.queue.link[random.below(105) as usize].next = node(random, k.tasks),
+        1 => k.queue.link[random.below(105) as usize].prev = node(random, k.tasks),
+        2 => k.mail.link[random.below(273) as usize].next = node(random, k.messages.max(1)),
+        3 => k.mail.link[j].next = node(random, k.messages.max(1)),
+        4 => k.mail.link[j].prev = node(random, k.messages.max(1)),
+        5 => k.at_mut(t).status = random.pick(&[DORMANT, READY, WAIT, SUSPEND, WAIT_SUSPEND]),
+        6 => k.at_mut(t).priority = random.below(k.priorities + 2),
+        7 => k.at_mut(t).object = random.below(18),
+        8 => k.count[random.below(17) as usize] = random.pick(&[0, 1, 65535, 65536]),
+        9 => k.pattern[random.below(17) as usize] = random.word(),
+        10 => k.mailbox[j] = node(random, k.mailboxes + 1),
+        _ => k.depth = random.below(17),
+    }
+}
+
+/// Damaged rings tell what the second decision says of their picture. What only the rings know (backward links, masks, who runs) comes
+/// behind: where the picture is sound it is a breach with no code of its own.
+#[test]
+fn damage_is_named() {
+    let mut times = DAMAGE_CODES.map(|code| (code, 0));
+    for seed in 0..DAMAGED {
+        let (mut random, setup) = drawn(seed);
+        let mut k = standing(&sketch::picture(&mut random, &setup));
+        for _ in 0..random.within(1, 3) {
+            hurt(&mut random, &mut k);
+        }
+        let second = shown(&k).sound();
+        if k.is_sound() {
+            assert_eq!(second, Ok(()), "seed {seed}");
+            continue;
+        }
+        let breach = second.err().unwrap_or(Breach::number("the rings"));
+        assert_eq!(
+            k.breach(),
+            (breach.code, breach.id),
+            "{breach}, seed {seed}"
+        );
+        for (code, times) in &mut times {
+            *times += u32::from(*code == breach.code);
+        }
+    }
+    assert!(times.iter().all(|(_, times)| *times > 100), "{times:?}");
+}
+
+/// The check, and the second decision on the picture, of rings with such a depth and interrupted task. Damage is a number out of range.
 fn judged(open: &Kernel, depth: u32, interrupted: u32) -> [bool; 2] {
     let mut k = open.clone();
     k.depth = depth;
     k.running = interrupted;
     let told = k.checked_event(&[3, 0, 0, 0, 0]);
-    [told.code != H_STATE, shown(&k).sound().is_ok()]
+    let second = shown(&k).sound().map_err(|breach| breach.code);
+    assert_ne!(second.is_ok(), second == Err(H_NUMBER));
+    [told.code != H_NUMBER, second.is_ok()]
 }
 
 /// The depth is 0 to 15; above 0 the interrupted task is 0 or one that is ready or suspended, and nothing else.

@@ -9,20 +9,20 @@ use Rattle.kernel_batches.proofs.serve_all.Statement.{statement}
 use Rattle.kernel_batches.proofs.serve_all.Tie as tie
 
 abbrev Inv-loop : tie.InvT-loop
-Inv-loop words₀ messages₀ events codes₀ answers₀ sound me₀ n i₀ words messages codes answers me i =
-    Running events sound me i (lent words₀ messages₀ codes₀ answers₀) (lent words messages codes answers)
+Inv-loop words₀ messages₀ events codes₀ answers₀ found me₀ n i₀ words messages codes answers me i =
+    Running events found me i (lent words₀ messages₀ codes₀ answers₀) (lent words messages codes answers)
 
 abbrev μ-loop : tie.MeasureT-loop
-μ-loop words₀ messages₀ events codes₀ answers₀ sound me₀ n i₀ words messages codes answers me i = n - i
+μ-loop words₀ messages₀ events codes₀ answers₀ found me₀ n i₀ words messages codes answers me i = n - i
 
-accepts-requires : tie.Need-accepts-requires Inv-loop μ-loop
-accepts-requires c κs = search needs
+judged-requires : tie.Need-judged-requires Inv-loop μ-loop
+judged-requires c κs = search needs
 
 running-task-requires : tie.Need-running-task-requires Inv-loop μ-loop
 running-task-requires c κs = search needs
 
 loop-holds : tie.Need-loop-holds Inv-loop μ-loop
-loop-holds c = begins _ _ (c .before .before .accepts .ensures) (c .running-task .ensures)
+loop-holds c = begins _ _ (c .before .before .judged .ensures) (c .running-task .ensures)
 
 -- where the loop goes on there is place for one event more
 room : (c : tie.In-loop Inv-loop μ-loop)
@@ -66,7 +66,7 @@ serve-all-spec =
     (tie.spec
     Inv-loop
     μ-loop
-    accepts-requires
+    judged-requires
     running-task-requires
     loop-holds
     serve-one-requires

@@ -1,4 +1,5 @@
 -- `kernel_cells::cell` meets its contract. By the verdict on the memory and the id. Assumes nothing.
+use mathlib.Core.Path.{_∙_}
 use mir.Facts.{toZ-ofZ}
 use borrow.Author.Tests.{not-true, not-false}
 use Rattle.rules.specs.Codes.{number}
@@ -11,11 +12,14 @@ use Rattle.kernel_cells.proofs.cell.Tie as tie
 accepts-requires : tie.Need-accepts-requires
 accepts-requires c κs = search needs
 
+first-breach-requires : tie.Need-first-breach-requires
+first-breach-requires c κs = search needs
+
 returns : tie.Need-returns
-unfolding number
 returns c =
-    let at-accepts = c .before in
-    unreadable (at-accepts .accepts .ensures) _ (not-true _ (c .if1 .taken))
+    let at-breach = c .before in
+    let first = at-breach .before in
+    unreadable (first .before .accepts .ensures) _ (not-true _ (first .if1 .taken)) (λ h. toZ-ofZ (record { sfits = c .struct-told .given .0 .1 }) ∙ at-breach .first-breach .ensures .0)
 
 named-requires : tie.Need-named-requires
 named-requires c κs = search needs
@@ -61,4 +65,4 @@ returns-3 c =
     let f = rw (toZ-ofZ (start .fits .task)) at (at-named .named .ensures) in readable (at-accepts .accepts .ensures) (not-false _ (first .if1 .left)) (start .args .task) (at-system .system .ensures) (rw f at (at-is-outside .is-outside .ensures)) (second .if2 .left) (rw f at (at-code .code .ensures)) (saying _ (at-code-of .code-of .ok) (at-code-of .code-of .ensures)) (rw f at (c .word .ensures))
 
 pub cell-spec : {M : Type 1} → statement M
-cell-spec = tie.close (tie.spec accepts-requires returns named-requires system-requires is-outside-requires returns-2 code-requires code-of-requires word-requires returns-3)
+cell-spec = tie.close (tie.spec accepts-requires first-breach-requires returns named-requires system-requires is-outside-requires returns-2 code-requires code-of-requires word-requires returns-3)

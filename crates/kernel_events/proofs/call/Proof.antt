@@ -5,8 +5,8 @@ use borrow.Author.Needs.{needs}
 use Rattle.kernel_events.proofs.call.Statement.{statement}
 use Rattle.kernel_events.proofs.call.Tie as tie
 
-accepts-requires : tie.Need-accepts-requires
-accepts-requires c κs = search needs
+judged-requires : tie.Need-judged-requires
+judged-requires c κs = search needs
 
 running-task-requires : tie.Need-running-task-requires
 running-task-requires c κs = search needs
@@ -19,7 +19,7 @@ returns c =
     let r = c .before .before .before in
     let a = r .before .before in
     let g = a .before .before .before in
-    (rw (toZ-ofZ (g .fits .context), toZ-ofZ (g .fits .number), toZ-ofZ (g .fits .a), toZ-ofZ (g .fits .b), toZ-ofZ (g .fits .c)) at (c .serve-call .ensures)) (known-first _ _ (a .accepts .ensures) (r .running-task .ensures))
+    (rw (toZ-ofZ (g .fits .context), toZ-ofZ (g .fits .number), toZ-ofZ (g .fits .a), toZ-ofZ (g .fits .b), toZ-ofZ (g .fits .c)) at (c .serve-call .ensures)) (known-first _ _ (a .judged .ensures) (r .running-task .ensures))
 
 pub call-spec : {M : Type 1} → statement M
-call-spec = tie.close (tie.spec accepts-requires running-task-requires serve-call-requires returns)
+call-spec = tie.close (tie.spec judged-requires running-task-requires serve-call-requires returns)

@@ -4,8 +4,8 @@ use borrow.Author.Needs.{needs}
 use Rattle.kernel_events.proofs.leave.Statement.{statement}
 use Rattle.kernel_events.proofs.leave.Tie as tie
 
-accepts-requires : tie.Need-accepts-requires
-accepts-requires c κs = search needs
+judged-requires : tie.Need-judged-requires
+judged-requires c κs = search needs
 
 running-task-requires : tie.Need-running-task-requires
 running-task-requires c κs = search needs
@@ -14,7 +14,7 @@ serve-leave-requires : tie.Need-serve-leave-requires
 serve-leave-requires c κs = search needs
 
 returns : tie.Need-returns
-returns c = let r = c .before .before in c .serve-leave .ensures (known-first _ _ (r .before .before .accepts .ensures) (r .running-task .ensures))
+returns c = let r = c .before .before in c .serve-leave .ensures (known-first _ _ (r .before .before .judged .ensures) (r .running-task .ensures))
 
 pub leave-spec : {M : Type 1} → statement M
-leave-spec = tie.close (tie.spec accepts-requires running-task-requires serve-leave-requires returns)
+leave-spec = tie.close (tie.spec judged-requires running-task-requires serve-leave-requires returns)

@@ -1,12 +1,12 @@
 -- `kernel_events::serve_call` meets its contract. By what is known, the context and the number. Assumes nothing.
-use borrow.Author.Tests.{not-true, not-false}
+use mathlib.Core.Path.{_∙_}
 use mir.Facts.{toZ-ofZ}
 use mathlib.Core.Path.{_≡_, ap}
 use Prim.Native.Nat.{ℕ}
 use lib.Dec.{eqb}
 use Rattle.rules.specs.Codes.{number}
 use Rattle.rules.specs.Events.{call, Words}
-use Rattle.kernel_events.proofs.Served.{call-words, unsound-step, not-sound, call-misnamed, call-done}
+use Rattle.kernel_events.proofs.Served.{call-words, unsound-step, word-sound, word-damaged, not-sound, call-misnamed, call-done}
 use borrow.Author.Needs.{needs}
 use Rattle.kernel_events.proofs.serve_call.Statement.{statement}
 use Rattle.kernel_events.proofs.serve_call.Tie as tie
@@ -20,7 +20,7 @@ damaged-requires c κs = search needs
 returns : tie.Need-returns
 returns c =
     let first = c .before in
-    λ K. unsound-step _ _ _ _ (words-fit (first .before)) (not-sound K (not-true _ (first .if1 .taken))) (c .damaged .ensures)
+    λ K. unsound-step _ _ _ _ (words-fit (first .before .before .before)) (not-sound K (word-damaged _ (first .if1 .taken))) (c .damaged .ensures ∙ K .2 (not-sound K (word-damaged _ (first .if1 .taken))))
 
 is-above-requires : tie.Need-is-above-requires
 is-above-requires c κs = search needs
@@ -38,8 +38,8 @@ returns-2 c =
     let second = at-refuse .before in
     let at-is-above = second .before in
     let first = at-is-above .before in
-    let start = first .before in
-    rw (c .answer-of .ensures) (λ K. call-misnamed K (not-false _ (first .if1 .left)) _ _ _ _ _ (words-fit start) (rw (toZ-ofZ (start .fits .context)) at (at-is-above .is-above .ensures)) (second .if2 .taken) (at-refuse .refuse .ensures))
+    let start = first .before .before .before in
+    rw (c .answer-of .ensures) (λ K. call-misnamed K (word-sound _ (first .before .struct-told .given .0 .1) (first .if1 .left)) _ _ _ _ _ (words-fit start) (rw (toZ-ofZ (start .fits .context)) at (at-is-above .is-above .ensures)) (second .if2 .taken) (at-refuse .refuse .ensures))
 
 named-requires : tie.Need-named-requires
 named-requires c κs = search needs
@@ -77,9 +77,9 @@ returns-3 c =
     let second = at-named .before in
     let at-is-above = second .before in
     let first = at-is-above .before in
-    let start = first .before in
+    let start = first .before .before .before in
     let context = rw (toZ-ofZ (start .fits .context)) at (at-named .named .ensures) in
-    rw (c .answer-of2 .ensures) (λ K. call-done K (not-false _ (first .if1 .left)) _ _ _ _ _ (words-fit start) (rw (toZ-ofZ (start .fits .context)) at (at-is-above .is-above .ensures)) (second .if2 .left)
+    rw (c .answer-of2 .ensures) (λ K. call-done K (word-sound _ (first .before .struct-told .given .0 .1) (first .if1 .left)) _ _ _ _ _ (words-fit start) (rw (toZ-ofZ (start .fits .context)) at (at-is-above .is-above .ensures)) (second .if2 .left)
     (ap (λ (x : ℕ). eqb x 1) context) (rw (toZ-ofZ (start .fits .number)) at (at-named2 .named2 .ensures)) (at-is-open .is-open .ensures) (at-caller .caller .ensures) (at-handles .handles .ensures)
     (rw (toZ-ofZ (start .fits .a), toZ-ofZ (start .fits .b), toZ-ofZ (start .fits .c)) at (at-dispatch .dispatch .ensures)) (at-running-task .running-task .ensures))
 

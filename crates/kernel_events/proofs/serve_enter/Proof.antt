@@ -1,6 +1,6 @@
 -- `kernel_events::serve_enter` meets its contract. By what is known, and the entry. Assumes nothing.
-use borrow.Author.Tests.{not-true, not-false}
-use Rattle.kernel_events.proofs.Served.{unsound-step, not-sound, enter-done}
+use mathlib.Core.Path.{_∙_}
+use Rattle.kernel_events.proofs.Served.{unsound-step, word-sound, word-damaged, not-sound, enter-done}
 use borrow.Author.Needs.{needs}
 use Rattle.kernel_events.proofs.serve_enter.Statement.{statement}
 use Rattle.kernel_events.proofs.serve_enter.Tie as tie
@@ -11,7 +11,7 @@ damaged-requires c κs = search needs
 returns : tie.Need-returns
 returns c =
     let first = c .before in
-    λ K. unsound-step _ _ _ _ tt (not-sound K (not-true _ (first .if1 .taken))) (c .damaged .ensures)
+    λ K. unsound-step _ _ _ _ tt (not-sound K (word-damaged _ (first .if1 .taken))) (c .damaged .ensures ∙ K .2 (not-sound K (word-damaged _ (first .if1 .taken))))
 
 enter-requires : tie.Need-enter-requires
 enter-requires c κs = search needs
@@ -27,7 +27,7 @@ returns-2 c =
     let at-running-task = c .before in
     let at-enter = at-running-task .before .before in
     let first = at-enter .before .before in
-    rw (c .answer-of .ensures) (λ K. enter-done K (not-false _ (first .if1 .left)) (at-running-task .running-task .ensures) (at-enter .enter .ensures))
+    rw (c .answer-of .ensures) (λ K. enter-done K (word-sound _ (first .before .struct-told .given .0 .1) (first .if1 .left)) (at-running-task .running-task .ensures) (at-enter .enter .ensures))
 
 pub serve-enter-spec : {M : Type 1} → statement M
 serve-enter-spec = tie.close (tie.spec damaged-requires returns enter-requires running-task-requires answer-of-requires returns-2)

@@ -1,0 +1,4 @@
+-- Laws of the naming of damage.
+pub mod Walks
+pub mod Steps
+pub mod Named

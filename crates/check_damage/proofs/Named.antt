@@ -1,0 +1,309 @@
+-- What the naming tells of a memory is what the rules tell of the view that it shows. Assumes nothing.
+use mathlib.Core.Bool.{Bool, true, false, cond, _&&_, true≢false, false≢true, Bool-discrete}
+use mathlib.Core.List.{List, [], _∷_, map}
+use mathlib.Core.Option.{Option, none, some}
+use mathlib.Core.Path.{_≡_, refl, sym, ap, _∙_, subst}
+use Prim.Native.Nat.{ℕ, zero, suc, _+_, _≤_, _<_, _^_}
+use native.Mathlib.Decide.{decLe}
+use native.Mathlib.Nat.{zero-add}
+use native.Mathlib.Numerals.{add-one}
+use native.Mathlib.Omega.{arith}
+use lib.Dec.{eqb, leb}
+use lib.ListN.{length, getD}
+use borrow.Author.Tests.{eq-eqb, ne-eqb, eqb-true, eqb-false, le-leb, lt-leb, leb-true, leb-false}
+use Rattle.rules.specs.Ids.{from, ids, In, once, times}
+use Rattle.rules.specs.Codes.{Code, number, H-NUMBER, H-QUEUE, H-SERVED, H-TWICE}
+use Rattle.rules.specs.State.{Kind, semaphore, flag, mailbox, pool, Wait, on, Store, task, waitOf}
+use Rattle.rules.specs.Places.{Place, readyAt, waiters, mail, many, belongs, Exists, tabulate}
+use Rattle.rules.specs.View.{View, line}
+use Rattle.rules.specs.Sound.{Known, SoundBody}
+use Rattle.rules.specs.Breach.{Breach, breach-at, Ranged, ranged?, Stands, InPlace, in-place?, Alone, some?, served-beside, beside, held, HeldOnce, rulesOf, is-yes, firstBad, unless, firstOf, breachBy, breach}
+use Rattle.rules.proofs.Ids.{length-ids}
+use Rattle.rules.proofs.Lines.{shape-tabulate}
+use Rattle.rules.proofs.Breach.{breach-number}
+use Rattle.memory_rings.specs.Links.{firstOf as headNode}
+use Rattle.memory_rings.specs.Rings.{walk, lineOf}
+use Rattle.memory_columns.specs.Layout as Layout
+use Rattle.memory_columns.specs.Layout.{stateWords, maxMessages, maxObjects, waitNode, mailNode, words, entry, atMost}
+use Rattle.memory_queues.specs.Moves.{mailAnchor}
+use Rattle.memory_picture.specs.Picture.{taskShown, tasksShown, messagesShown, storeShown, bodyShown, kindNumber, anchor, lineShown, viewShown}
+use Rattle.memory_picture.proofs.Cases.{asked}
+use Rattle.memory_picture.proofs.FormHomes.{TaskQueue, MailQueue, task-exists, mail-exists}
+use Rattle.check_ranges.specs.Ranges.{every, within, rangesOk}
+use Rattle.check_ranges.specs.Ranges as Counts
+use Rattle.check_ranges.proofs.Decisions.{Decides, decides-as, decides-and, decides-yes, decides-eq, decides-in, decides-every}
+use Rattle.check_ranges.proofs.Ranges.{manyOf, objects-shown, Ranges, ranges-law}
+use Rattle.check_queues.specs.Queues.{home, taskRanges}
+use Rattle.check_queues.proofs.Homes.{belongs-home, anchorsOf}
+use Rattle.check_queues.proofs.Queued.{task-is, tasks-few, messages-few, priorities-few, objects-few, taskHomeOf, task-homes, task-home-is}
+use Rattle.check_state.specs.Unserved.{waitFree, unservedOk}
+use Rattle.check_state.proofs.Unserved.{semaphore-law, flag-law, pool-law, waiter-law}
+use Rattle.check_state.proofs.Accepted.{tasks-many, mails-many, task-line, mail-line, count, body-sound, sound-shown}
+use Rattle.check_damage.specs.Lists.{known, standsRight, atMostOnce}
+use Rattle.check_damage.specs.Damage.{few, everyIn, taskLines, mailLines, tasksKnown, mailsKnown, numbersOk, placed, messageOnce, Told, told, idsFrom, rulesFrom, firstBroken}
+
+-- ---- lists
+
+known-law : (n : ℕ) (l : List ℕ) → Decides (known n l) (Known n l)
+unfolding known
+known-law n [] = decides-yes tt
+known-law n (x ∷ l) = decides-and (decides-in x n) (λ h. known-law n l)
+
+-- the line of an anchor is empty just where no node is its first
+first-law : (n : ℕ) (nx : List ℕ) (a : ℕ) → Known n (lineOf n nx a) → Decides (eqb (headNode nx a) 0) (some? (lineOf n nx a) ≡ false)
+unfolding lineOf walk headNode
+first-law n nx a = go (eqb (getD nx a 0) a) refl
+  where
+    go : (t : Bool) → eqb (getD nx a 0) a ≡ t
+        → Known n (cond t [] (getD nx a 0 ∷ cond (leb 1 (getD nx a 0) && leb (getD nx a 0) n) (walk n n nx a (getD nx (getD nx a 0) 0)) []))
+        → Decides (eqb (cond t 0 (getD nx a 0)) 0) (some? (cond t [] (getD nx a 0 ∷ cond (leb 1 (getD nx a 0) && leb (getD nx a 0) n) (walk n n nx a (getD nx (getD nx a 0) 0)) [])) ≡ false)
+    go true e k = decides-yes refl
+    go false e k = ((λ z. absurd (omega (arith, k .0 .0, eqb-true (getD nx a 0) 0 z))), (λ z. absurd (true≢false z)))
+
+-- a sum over lines, from some found before on
+sum-law : (n : ℕ) (nx : List ℕ) (i before k o left : ℕ) → k ≤ 1 → Decides (atMostOnce n nx i before k o left) (k + held i (map (λ m. lineOf n nx (before + m)) (from o left)) ≤ 1)
+unfolding atMostOnce held
+sum-law n nx i before k o zero h = decides-yes (omega arith)
+sum-law n nx i before k o (suc left) h = go (leb (k + times i (lineOf n nx (before + o))) 1) refl (sum-law n nx i before (k + times i (lineOf n nx (before + o))) (suc o) left)
+  where
+    rest : ℕ
+    rest = held i (map (λ m. lineOf n nx (before + m)) (from (suc o) left))
+
+    go : (t : Bool) → leb (k + times i (lineOf n nx (before + o))) 1 ≡ t
+        → (k + times i (lineOf n nx (before + o)) ≤ 1 → Decides (atMostOnce n nx i before (k + times i (lineOf n nx (before + o))) (suc o) left) (k + times i (lineOf n nx (before + o)) + rest ≤ 1))
+        → Decides (cond t (atMostOnce n nx i before (k + times i (lineOf n nx (before + o))) (suc o) left) false) (k + (times i (lineOf n nx (before + o)) + rest) ≤ 1)
+    go true e d = decides-as (d (leb-true _ 1 e)) (λ z. omega (arith, z)) (λ z. omega (arith, z))
+    go false e d = ((λ z. absurd (false≢true z)), (λ z. absurd (omega (arith, leb-false (k + times i (lineOf n nx (before + o))) 1 e, z))))
+
+module _ (b msgs : List ℕ) (size : length b ≡ stateWords) (R : Ranges b msgs) where
+  abbrev u : Store
+  u = storeShown b msgs
+
+  abbrev v : View
+  v = viewShown b msgs
+
+  -- ---- the counts are whole
+
+  whole : (k : ℕ) → Counts.many b k ≤ maxMessages → few b k ≡ Counts.many b k
+  whole k h = rw (le-leb (Counts.many b k) maxMessages h)
+
+  few-objects : (k : Kind) → manyOf b k ≤ maxMessages
+  few-objects k = omega (arith, objects-few b msgs size R k)
+
+  -- ---- all queues of tasks, and all mailboxes
+
+  -- the node of an object's waiters
+  node-is : (k : Kind) (o : ℕ) → waitNode (kindNumber k) 0 + o ≡ anchor (waiters k o)
+  unfolding anchor
+  node-is semaphore o = omega arith
+  node-is flag o = omega arith
+  node-is mailbox o = omega arith
+  node-is pool o = omega arith
+
+  ranged-over : (f : ℕ → Bool) (node k : ℕ) → Counts.many b k ≤ maxMessages → Decides (every (few b k) 1 (λ o. f (node + o))) ((o : ℕ) → In o (Counts.many b k) → f (node + o) ≡ true)
+  ranged-over f node k h = rw (whole k h) (decides-every (Counts.many b k) (λ o. f (node + o)) (λ o _. ((λ e. e), (λ e. e))))
+
+  tasks-in : (f : ℕ → Bool) → Decides (everyIn (taskLines b) f) ((q : Place) → TaskQueue u q → f (anchor q) ≡ true)
+  unfolding everyIn anchor storeShown
+  tasks-in f = decides-as
+      (decides-and (ranged-over f _ Layout.priorities (omega (arith, priorities-few b msgs size R)))
+      (λ _. decides-and (ranged-over f _ Layout.semaphores (few-objects semaphore)) (λ _. decides-and (ranged-over f _ Layout.flags (few-objects flag))
+      (λ _. decides-and (ranged-over f _ Layout.mailboxes (few-objects mailbox)) (λ _. decides-and (ranged-over f _ Layout.pools (few-objects pool)) (λ _. decides-yes tt))))))
+      to
+      (λ h. ((λ p r. h (readyAt p) r), (back semaphore h, (back flag h, (back mailbox h, (back pool h, tt))))))
+    where
+      Waiting : Kind → Type 0
+      Waiting k = (o : ℕ) → In o (manyOf b k) → f (waitNode (kindNumber k) 0 + o) ≡ true
+
+      at : (k : Kind) → Waiting k → (o : ℕ) → In o (manyOf b k) → f (anchor (waiters k o)) ≡ true
+      at k h o r = subst (λ (a : ℕ). f a ≡ true) (node-is k o) (h o r)
+
+      to : ((o : ℕ) → In o (Counts.many b Layout.priorities) → f (32 + o) ≡ true) × (Waiting semaphore × (Waiting flag × (Waiting mailbox × (Waiting pool × Unit {0}))))
+          → (q : Place) → TaskQueue u q → f (anchor q) ≡ true
+      to h (readyAt p) r = h .0 p r
+      to h (waiters semaphore o) r = at semaphore (h .1 .0) o (subst (In o) (objects-shown b msgs semaphore) r)
+      to h (waiters flag o) r = at flag (h .1 .1 .0) o (subst (In o) (objects-shown b msgs flag) r)
+      to h (waiters mailbox o) r = at mailbox (h .1 .1 .1 .0) o (subst (In o) (objects-shown b msgs mailbox) r)
+      to h (waiters pool o) r = at pool (h .1 .1 .1 .1 .0) o (subst (In o) (objects-shown b msgs pool) r)
+      to h (mail m) r = absurd r
+
+      back : (k : Kind) → ((q : Place) → TaskQueue u q → f (anchor q) ≡ true) → Waiting k
+      back k h o r = subst (λ (a : ℕ). f a ≡ true) (sym (node-is k o)) (h (waiters k o) (subst (In o) (sym (objects-shown b msgs k)) r))
+
+  mails-in : (f : ℕ → Bool) → Decides (everyIn (mailLines b) f) ((q : Place) → MailQueue u q → f (anchor q) ≡ true)
+  unfolding everyIn anchor storeShown
+  mails-in f = decides-as (decides-and (ranged-over f _ Layout.mailboxes (few-objects mailbox)) (λ _. decides-yes tt)) to (λ h. ((λ m r. h (mail m) r), tt))
+    where
+      to : ((o : ℕ) → In o (Counts.many b Layout.mailboxes) → f (256 + o) ≡ true) × Unit {0} → (q : Place) → MailQueue u q → f (anchor q) ≡ true
+      to h (readyAt p) r = absurd r
+      to h (waiters k o) r = absurd r
+      to h (mail m) r = h .0 m r
+
+  -- ---- numbers
+
+  numbers-law : Decides (tasksKnown b && mailsKnown b) ((q : Place) → Exists u q → Known (many (bodyShown b msgs) q) (line v q))
+  numbers-law = decides-as (decides-and (tasks-in _) (λ _. mails-in _)) (λ h. to (h .0) (h .1)) (λ h. (from-tasks h, from-mails h))
+    where
+      Each : (Place → Type 0) → ℕ → List ℕ → Type 0
+      Each Q n nx = (q : Place) → Q q → known n (lineOf n nx (anchor q)) ≡ true
+
+      in-tasks : (q : Place) → TaskQueue u q → Each (TaskQueue u) (tasksShown b) (words Layout.next b) → Known (many (bodyShown b msgs) q) (line v q)
+      in-tasks q r h = rw (tasks-many b msgs q r, task-line b msgs q r) (known-law (tasksShown b) _ .0 (h q r))
+
+      in-mails : (q : Place) → MailQueue u q → Each (MailQueue u) (messagesShown b) (words Layout.mailNext b) → Known (many (bodyShown b msgs) q) (line v q)
+      in-mails q r h = rw (mails-many b msgs q r, mail-line b msgs q r) (known-law (messagesShown b) _ .0 (h q r))
+
+      to : Each (TaskQueue u) (tasksShown b) (words Layout.next b) → Each (MailQueue u) (messagesShown b) (words Layout.mailNext b) → (q : Place) → Exists u q → Known (many (bodyShown b msgs) q) (line v q)
+      to f g (readyAt p) r = in-tasks (readyAt p) r f
+      to f g (waiters k o) r = in-tasks (waiters k o) r f
+      to f g (mail m) r = in-mails (mail m) r g
+
+      from-tasks : ((q : Place) → Exists u q → Known (many (bodyShown b msgs) q) (line v q)) → Each (TaskQueue u) (tasksShown b) (words Layout.next b)
+      from-tasks h q r = known-law (tasksShown b) _ .1 (rw (tasks-many b msgs q r, task-line b msgs q r) at (h q (task-exists u q r)))
+
+      from-mails : ((q : Place) → Exists u q → Known (many (bodyShown b msgs) q) (line v q)) → Each (MailQueue u) (messagesShown b) (words Layout.mailNext b)
+      from-mails h q r = known-law (messagesShown b) _ .1 (rw (mails-many b msgs q r, mail-line b msgs q r) at (h q (mail-exists u q r)))
+
+  -- ---- a task in its queue
+
+  placed-law : (i : ℕ) → In i (tasksShown b) → Decides (placed b (home b i) i) (InPlace v i)
+  unfolding placed standsRight viewShown bodyShown
+  placed-law i h = decides-as (tasks-in _) (λ f q e t. to f q e t) from-place
+    where
+      once-is : (q : Place) → TaskQueue u q → once (eqb (home b i) (anchor q)) ≡ once (belongs (bodyShown b msgs) q i)
+      once-is q r = ap once (same (belongs (bodyShown b msgs) q i) refl)
+        where
+          B : Decides (belongs (bodyShown b msgs) q i) (home b i ≡ anchor q)
+          B = belongs-home (tasksShown b) (anchorsOf (taskRanges b)) (TaskQueue u) (belongs (bodyShown b msgs)) (taskHomeOf b msgs size R) (task-homes b msgs size R) (home b) (task-home-is b msgs size R) q r i h
+
+          same : (t : Bool) → belongs (bodyShown b msgs) q i ≡ t → eqb (home b i) (anchor q) ≡ t
+          same true e = eq-eqb _ _ (B .0 e)
+          same false e = ne-eqb _ _ (λ z. false≢true (sym e ∙ B .1 z))
+
+      stands : (q : Place) → TaskQueue u q → Decides (eqb (times i (lineOf (tasksShown b) (words Layout.next b) (anchor q))) (once (eqb (home b i) (anchor q)))) (Stands v q i)
+      stands q r = rw (task-line b msgs q r, once-is q r) (decides-eq _ _)
+
+      to : ((q : Place) → TaskQueue u q → eqb (times i (lineOf (tasksShown b) (words Layout.next b) (anchor q))) (once (eqb (home b i) (anchor q))) ≡ true) → InPlace v i
+      to f (readyAt p) e t = stands (readyAt p) e .0 (f (readyAt p) e)
+      to f (waiters k o) e t = stands (waiters k o) e .0 (f (waiters k o) e)
+      to f (mail m) e t = absurd (false≢true t)
+
+      from-place : InPlace v i → (q : Place) → TaskQueue u q → eqb (times i (lineOf (tasksShown b) (words Layout.next b) (anchor q))) (once (eqb (home b i) (anchor q))) ≡ true
+      from-place f (readyAt p) e = stands (readyAt p) e .1 (f (readyAt p) e refl)
+      from-place f (waiters k o) e = stands (waiters k o) e .1 (f (waiters k o) e refl)
+      from-place f (mail m) e = absurd e
+
+  -- ---- a waiter
+
+  module _ (K : (q : Place) → Exists u q → Known (many (bodyShown b msgs) q) (line v q)) where
+    mailbox-law : (o : ℕ) → In o (Counts.many b Layout.mailboxes) → Decides (eqb (headNode (words Layout.mailNext b) (mailAnchor o)) 0) (some? (line v (mail o)) ≡ false)
+    mailbox-law o h = rw (at, mail-line b msgs (mail o) r) (first-law (messagesShown b) (words Layout.mailNext b) (anchor (mail o)) k)
+      where
+        r : MailQueue u (mail o)
+        r = unfold storeShown in h
+
+        at : mailAnchor o ≡ anchor (mail o)
+        at = rw (le-leb o maxObjects (omega (arith, h .1, objects-few b msgs size R mailbox))) (unfold anchor in refl)
+
+        k : Known (messagesShown b) (lineOf (messagesShown b) (words Layout.mailNext b) (anchor (mail o)))
+        k = rw (mails-many b msgs (mail o) r, mail-line b msgs (mail o) r) at (K (mail o) r)
+
+    object-law : (c : Kind) (n o p m : ℕ) → n ≡ kindNumber c → In o (manyOf b c) → Decides (waitFree b n o p m) (served-beside v (some (on c o (asked c p) (asked c m))) ≡ false)
+    unfolding waitFree viewShown bodyShown
+    object-law semaphore n o p m e h = rw e (semaphore-law b msgs R o h)
+    object-law flag n o p m e h = rw e (flag-law b msgs R o p m h)
+    object-law mailbox n o p m e h = rw e (mailbox-law o h)
+    object-law pool n o p m e h = rw e (pool-law b msgs R o h)
+
+    alone-law : (i : ℕ) → In i (tasksShown b) → Decides (unservedOk b i) (Alone v i)
+    unfolding viewShown
+    alone-law i h = rw (task-is b msgs i h) (waiter-law b msgs R (λ w. served-beside v w ≡ false) refl refl (λ t. refl) object-law i h)
+
+  -- ---- a message
+
+  once-law : (j : ℕ) → Decides (messageOnce b j) (HeldOnce v j)
+  unfolding messageOnce viewShown tabulate storeShown lineShown anchor ids
+  once-law j = rw (whole Layout.mailboxes (few-objects mailbox)) (decides-as (sum-law (messagesShown b) (words Layout.mailNext b) j (mailNode 0) 0 1 (Counts.many b Layout.mailboxes) (omega arith)) (λ h. omega (arith, h)) (λ h. omega (arith, h)))
+
+-- ---- the rules in order
+
+abbrev pub says : Breach → Told
+says x = told (number (x .code)) (x .id)
+
+same-test : {A : Type 0} {t : Bool} → Decides t A → (d : Dec A) → is-yes d ≡ t
+same-test {t = true} h (yes a) = refl
+same-test {t = true} h (no k) = absurd (k (h .0 refl))
+same-test {t = false} h (yes a) = absurd (false≢true (h .1 a))
+same-test {t = false} h (no k) = refl
+
+-- the ids of one rule, from k on
+ids-law : (f g : ℕ → Bool) (c : Code) (x : Breach) (y : Told) → says x ≡ y → (n k : ℕ) → 1 ≤ k → ((i : ℕ) → k ≤ i → i < k + n → f i ≡ g i)
+    → says (unless (firstBad f (from k n)) c x) ≡ idsFrom g (number c) k n y
+unfolding firstBad idsFrom
+ids-law f g c x y e zero k h same = e
+ids-law f g c x y e (suc n) zero h same = absurd (omega (arith, h))
+ids-law f g c x y e (suc n) (suc k) h same =
+    go (f (suc k)) (g (suc k)) (same (suc k) (omega arith) (omega arith)) (ids-law f g c x y e n (suc (suc k)) (omega arith) (λ i a b. same i (omega arith) (omega arith)))
+  where
+    go : (s t : Bool) → s ≡ t → says (unless (firstBad f (from (suc (suc k)) n)) c x) ≡ idsFrom g (number c) (suc (suc k)) n y
+        → says (unless (cond s (firstBad f (from (suc (suc k)) n)) (suc k)) c x) ≡ cond t (idsFrom g (number c) (suc (suc k)) n y) (told (number c) (suc k))
+    go true true d r = r
+    go false false d r = refl
+    go true false d r = absurd (true≢false d)
+    go false true d r = absurd (false≢true d)
+
+-- one rule, over its ids
+rule-law : (P : ℕ → Type 0) (d : (i : ℕ) → Dec (P i)) (g : ℕ → Bool) (c : Code) (n m : ℕ) (x : Breach) (y : Told) → says x ≡ y → n ≡ m → ((i : ℕ) → In i m → Decides (g i) (P i))
+    → says (unless (firstBad (λ i. is-yes (d i)) (ids n)) c x) ≡ idsFrom g (number c) 1 m y
+unfolding ids
+rule-law P d g c n m x y e q h = rw q (ids-law (λ i. is-yes (d i)) g c x y e m 1 (omega arith) (λ i a b. same-test (h i (a, omega arith)) (d i)))
+
+ranged-is : (v : View) → Ranged v → breach v ≡ firstOf (rulesOf v)
+unfolding breach breachBy
+ranged-is v r = go (ranged? v)
+  where
+    go : (d : Dec (Ranged v)) → breachBy v d ≡ firstOf (rulesOf v)
+    go (yes s) = refl
+    go (no k) = absurd (k r)
+
+-- THE THEOREM
+
+module _ (b msgs : List ℕ) (size : length b ≡ stateWords) (low : entry Layout.system b Layout.clockLow < 2 ^ 32) where
+  ranges-by : SoundBody (bodyShown b msgs) → Ranges b msgs
+  unfolding bodyShown
+  ranges-by S = record { sizes = S .sizes; low = low; store = S .store; tasks = sound-shown b msgs S; handlers = S .handlers }
+
+  ranged-law : Decides (numbersOk b msgs) (Ranged (viewShown b msgs))
+  unfolding numbersOk viewShown bodyShown
+  ranged-law = decides-as (decides-and (ranges-law b msgs) (λ R. numbers-law b msgs size R))
+      (λ h. record { body = body-sound b msgs (h .0); shape = shape-tabulate (storeShown b msgs) (lineShown b); known = h .1 })
+      (λ h. (ranges-by (h .body), h .known))
+
+  pub number-told : numbersOk b msgs ≡ false → breach (viewShown b msgs) ≡ breach-at H-NUMBER 0
+  number-told e = breach-number (viewShown b msgs) (λ h. true≢false (sym (ranged-law .1 h) ∙ e))
+
+  pub rule-told : numbersOk b msgs ≡ true → says (breach (viewShown b msgs)) ≡ firstBroken b
+  unfolding rulesOf firstOf firstBroken rulesFrom viewShown bodyShown storeShown
+  rule-told e =
+      ap says (ranged-is v (ranged-law .0 e))
+      ∙ rule-law (InPlace v) (in-place? v) (λ i. placed b (home b i) i) H-QUEUE (length (v .body .tasks)) (few b Layout.tasks) _ _
+      (rule-law (Alone v) (λ i. Bool-discrete _ false) (unservedOk b) H-SERVED (length (v .body .tasks)) (few b Layout.tasks) _ _
+      (rule-law (HeldOnce v) (λ j. decLe (held j (v .lines .mail)) 1) (messageOnce b) H-TWICE (length (v .body .store .messages)) (few b Layout.messages) _ _ refl
+      messages (λ j h. once-law b msgs size R j))
+      tasks (λ i h. alone-law b msgs size R (ranged-law .0 e .known) i (subst (In i) whole-tasks h)))
+      tasks (λ i h. placed-law b msgs size R i (subst (In i) whole-tasks h))
+    where
+      v : View
+      v = viewShown b msgs
+
+      R : Ranges b msgs
+      R = ranges-by (ranged-law .0 e .body)
+
+      whole-tasks : few b Layout.tasks ≡ tasksShown b
+      whole-tasks = whole b msgs size R Layout.tasks (omega (arith, tasks-few b msgs size R))
+
+      tasks : length (v .body .tasks) ≡ few b Layout.tasks
+      tasks = length-ids (taskShown b) (tasksShown b) ∙ sym whole-tasks
+
+      messages : length (v .body .store .messages) ≡ few b Layout.messages
+      messages = length-ids _ (messagesShown b) ∙ sym (whole b msgs size R Layout.messages (messages-few b msgs size R))

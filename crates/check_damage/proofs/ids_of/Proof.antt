@@ -1,0 +1,20 @@
+-- `check_damage::ids_of` meets its contract. By the cases of the rule. Assumes nothing.
+use borrow.Author.Tests.{ne-eqb}
+use borrow.Author.Needs.{needs}
+use Rattle.check_damage.proofs.ids_of.Statement.{statement}
+use Rattle.check_damage.proofs.ids_of.Tie as tie
+
+few-requires : tie.Need-few-requires
+few-requires c κs = search needs
+
+few-requires-2 : tie.Need-few-requires-2
+few-requires-2 c κs = search needs
+
+returns : tie.Need-returns
+returns c = (rw (c .before .match .keys1) (c .few .ensures .0), c .few .ensures .1)
+
+returns-2 : tie.Need-returns-2
+returns-2 c = (rw (ne-eqb _ 2 (c .before .match .rest .1)) (c .few2 .ensures .0), c .few2 .ensures .1)
+
+pub ids-of-spec : {M : Type 1} → statement M
+ids-of-spec = tie.close (tie.spec few-requires few-requires-2 returns returns-2)

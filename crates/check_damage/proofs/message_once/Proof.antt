@@ -1,0 +1,30 @@
+-- `check_damage::message_once` meets its contract. Lines of a part of the memory. Assumes nothing.
+use mathlib.Core.Path.{_∙_}
+use native.Mathlib.Omega.{arith}
+use Rattle.memory_columns.specs.Layout.{mailNode}
+use Rattle.check_damage.specs.Lists.{atMostOnce}
+use Rattle.check_damage.specs.Damage.{messageOnce}
+use borrow.Author.Needs.{needs}
+use Rattle.check_damage.proofs.message_once.Statement.{statement}
+use Rattle.check_damage.proofs.message_once.Tie as tie
+
+mail-links-requires : tie.Need-mail-links-requires
+mail-links-requires c κs = search needs
+
+system-requires : tie.Need-system-requires
+system-requires c κs = search needs
+
+few-requires : tie.Need-few-requires
+few-requires c κs = search needs
+
+at-most-once-requires : tie.Need-at-most-once-requires
+at-most-once-requires c κs = omega (arith, c .few .ensures .1)
+
+returns : tie.Need-returns
+unfolding messageOnce
+returns c = let f = c .before in let s = f .before in let l = s .before in c .at-most-once .ensures ∙ (λ z. atMostOnce (s .system .ensures z) (l .mail-links .ensures .1 z) (l .before .args .j) (mailNode 0) 0 1 (f .few .ensures .0 z))
+
+pub message-once-spec : {M : Type 1} → statement M
+message-once-spec =
+    tie.close
+    (tie.spec mail-links-requires system-requires few-requires at-most-once-requires returns)

@@ -1,0 +1,4 @@
+-- What is broken in a memory that is no sound state.
+pub mod Lists
+pub mod Damage
+pub mod Judged

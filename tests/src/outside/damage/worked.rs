@@ -1,0 +1,298 @@
+//! Damage worked by hand from the documented layout: which words are overwritten, and what request K6 tells of them.
+use super::{with_word, Tally};
+use crate::pair::Pair;
+use okrozumba::STATE_WORDS;
+use second::layout;
+use second::picture::{H_NUMBER, H_QUEUE, H_SERVED, H_TWICE};
+use second::plain::Event;
+use second::setup;
+
+/// What is done to it, calls of the running task on a fresh state (number, a, b, c), the words overwritten, and code and id told.
+type Worked = (
+    &'static str,
+    &'static [[i32; 4]],
+    &'static [(usize, u32)],
+    (i32, u32),
+);
+
+// ---- places of words
+
+const fn next(node: usize) -> usize {
+    363 + node
+}
+
+const fn prev(node: usize) -> usize {
+    468 + node
+}
+
+const fn mail_next(node: usize) -> usize {
+    625 + node
+}
+
+const fn mark(message: usize) -> usize {
+    STATE_WORDS + message - 1
+}
+
+const WAKEUPS_OF_1: usize = 100;
+const COUNT: usize = 574;
+const PATTERN: usize = 591;
+const FREE: usize = 608;
+const CLOCK_HIGH: usize = 1179;
+const HANDLERS: usize = 1180;
+const INTERRUPTED: usize = 1181;
+const NONEMPTY: usize = 1182;
+
+/// Anchors: of the ready queues of priorities 1 and 2, of the semaphore's waiters, of the mailboxes' lists.
+const READY_1: u32 = 33;
+const READY_2: u32 = 34;
+const WAITERS: u32 = 49;
+const MAIL_1: u32 = 257;
+const MAIL_2: u32 = 258;
+
+// ---- calls
+
+const START_3: [i32; 4] = [1, 3, 0, 0];
+const WAIT_SEMAPHORE: [i32; 4] = [14, 1, 0, 0];
+const SEND_1: [i32; 4] = [20, 1, 1, 0];
+const SEND_2: [i32; 4] = [20, 1, 2, 0];
+const RECEIVE: [i32; 4] = [21, 1, 0, 0];
+const GET_BLOCK: [i32; 4] = [23, 1, 0, 0];
+/// Then the ready queue of priority 2 has the tasks 2, 3 and 1.
+const ALL_AT_2: [[i32; 4]; 3] = [START_3, [4, 3, 2, 0], [5, 2, 0, 0]];
+
+// ---- memories
+
+/// Four priorities, and one of each object. When fresh the ready queue of priority 2 has the tasks 1 and 2, and 3 is dormant at priority 1.
+const SHEET: [u32; 16] = [4, 3, 2, 1, 2, 1, 1, 0, 1, 0, 1, 0, 1, 2, 1, 2];
+
+const ON_SHEET: [Worked; 33] = [
+    ("2 leads to 1", &[], &[(next(2), 1)], (H_QUEUE, 1)),
+    ("2 leads to itself", &[], &[(next(2), 2)], (H_QUEUE, 2)),
+    ("1 is passed over", &[], &[(next(34), 2)], (H_QUEUE, 1)),
+    ("2 is passed over", &[], &[(next(1), READY_2)], (H_QUEUE, 2)),
+    (
+        "3 stands in a queue",
+        &[],
+        &[(next(33), 3), (next(3), READY_1)],
+        (H_QUEUE, 3),
+    ),
+    ("1 is suspended", &[], &[(1, 4)], (H_QUEUE, 1)),
+    ("1 has another priority", &[], &[(34, 3)], (H_QUEUE, 1)),
+    (
+        "3 is led to and leads nowhere",
+        &[],
+        &[(next(33), 3)],
+        (H_NUMBER, 0),
+    ),
+    (
+        "3 stands nowhere and leads on",
+        &[],
+        &[(next(3), READY_1)],
+        (H_NUMBER, 0),
+    ),
+    (
+        "1 leads to another queue's anchor",
+        &[],
+        &[(next(1), READY_1)],
+        (H_NUMBER, 0),
+    ),
+    ("1 leads to nobody", &[], &[(next(1), 4)], (H_NUMBER, 0)),
+    // 2, 3, 1, 2: one entry more than there are tasks, so that 1 is listed once
+    (
+        "the last leads to the first",
+        &ALL_AT_2,
+        &[(next(1), 2)],
+        (H_QUEUE, 2),
+    ),
+    // 2, 3, 3, 3: and 1 is missing
+    (
+        "3 leads to itself",
+        &ALL_AT_2,
+        &[(next(3), 3)],
+        (H_QUEUE, 1),
+    ),
+    (
+        "a semaphore beside its waiter",
+        &[WAIT_SEMAPHORE],
+        &[(COUNT, 1)],
+        (H_SERVED, 1),
+    ),
+    (
+        "a semaphore beside a suspended waiter",
+        &[WAIT_SEMAPHORE, [7, 1, 0, 0]],
+        &[(COUNT, 1)],
+        (H_SERVED, 1),
+    ),
+    // 3 waits first
+    (
+        "a semaphore beside two",
+        &[START_3, WAIT_SEMAPHORE, WAIT_SEMAPHORE],
+        &[(COUNT, 65535)],
+        (H_SERVED, 1),
+    ),
+    (
+        "a pattern beside the second in line alone",
+        &[[18, 1, 4, 0], [18, 1, 1, 0]],
+        &[(PATTERN, 1)],
+        (H_SERVED, 2),
+    ),
+    (
+        "a block beside its waiter",
+        &[GET_BLOCK, GET_BLOCK, GET_BLOCK],
+        &[(FREE, 2)],
+        (H_SERVED, 1),
+    ),
+    (
+        "a message listed beside its waiter, and not marked",
+        &[RECEIVE],
+        &[(mail_next(257), 1), (mail_next(1), MAIL_1)],
+        (H_SERVED, 1),
+    ),
+    (
+        "a message marked beside its waiter, and not listed",
+        &[RECEIVE],
+        &[(mark(1), 1)],
+        (H_NUMBER, 0),
+    ),
+    (
+        "2 leads to 1 in a mailbox",
+        &[SEND_1, SEND_2],
+        &[(mail_next(2), 1)],
+        (H_TWICE, 1),
+    ),
+    (
+        "2 leads to itself in a mailbox",
+        &[SEND_1, SEND_2],
+        &[(mail_next(2), 2)],
+        (H_TWICE, 2),
+    ),
+    (
+        "a mark of no mailbox beside a message held twice",
+        &[SEND_1, SEND_2],
+        &[(mail_next(2), 2), (mark(1), 2)],
+        (H_NUMBER, 0),
+    ),
+    (
+        "a message not marked beside one held twice",
+        &[SEND_1, SEND_2],
+        &[(mail_next(2), 2), (mark(1), 0)],
+        (H_TWICE, 2),
+    ),
+    (
+        "16 wake-ups beside a doubled task",
+        &[],
+        &[(next(2), 1), (WAKEUPS_OF_1, 16)],
+        (H_NUMBER, 0),
+    ),
+    (
+        "the clock past its end beside a message held twice",
+        &[SEND_1],
+        &[(mail_next(1), 1), (CLOCK_HIGH, 65536)],
+        (H_NUMBER, 0),
+    ),
+    (
+        "a dormant task interrupted and a missing one",
+        &[],
+        &[(HANDLERS, 1), (INTERRUPTED, 3), (next(34), READY_2)],
+        (H_NUMBER, 0),
+    ),
+    // task 2 is missing, task 1 waits
+    (
+        "a missing task and a waiter",
+        &[WAIT_SEMAPHORE],
+        &[(next(34), READY_2), (COUNT, 1)],
+        (H_QUEUE, 2),
+    ),
+    // task 1 is missing from the waiters, and so is one
+    (
+        "a waiter that is missing",
+        &[WAIT_SEMAPHORE],
+        &[(next(49), WAITERS), (COUNT, 1)],
+        (H_QUEUE, 1),
+    ),
+    (
+        "a waiter and a message held twice",
+        &[SEND_1, WAIT_SEMAPHORE],
+        &[(mail_next(1), 1), (COUNT, 1)],
+        (H_SERVED, 1),
+    ),
+    ("a link back alone", &[], &[(prev(2), 34)], (H_NUMBER, 0)),
+    (
+        "a link back and a message held twice",
+        &[SEND_1],
+        &[(prev(2), 34), (mail_next(1), 1)],
+        (H_TWICE, 1),
+    ),
+    (
+        "the word of nonempty ready queues and a missing task",
+        &[],
+        &[(NONEMPTY, 0), (next(34), READY_2)],
+        (H_QUEUE, 1),
+    ),
+];
+
+/// One task, two mailboxes, two messages.
+const TWO_MAILBOXES: [u32; 9] = [1, 1, 1, 1, 0, 0, 2, 2, 0];
+
+const ON_TWO_MAILBOXES: [Worked; 3] = [
+    // it lists 2, 1 and the first one's anchor
+    (
+        "the second mailbox leads into the first",
+        &[SEND_2, SEND_1],
+        &[(mail_next(258), 2)],
+        (H_NUMBER, 0),
+    ),
+    // both list 2, 1, 2
+    (
+        "neither mailbox ends",
+        &[SEND_2, SEND_1],
+        &[(mail_next(258), 2), (mail_next(1), 2)],
+        (H_TWICE, 1),
+    ),
+    // 1 lies in the second by its links, in the first by its mark
+    (
+        "a message in another mailbox",
+        &[SEND_1],
+        &[
+            (mail_next(257), MAIL_1),
+            (mail_next(258), 1),
+            (mail_next(1), MAIL_2),
+        ],
+        (H_NUMBER, 0),
+    ),
+];
+
+fn judge(tally: &mut Tally, words: &[u32], worked: &Worked) -> Result<(), String> {
+    let (what, calls, overwritten, told) = worked;
+    let setup = setup::read(&setup::bytes_of(words.iter().copied()));
+    let mut pair = Pair::fresh(&setup.map_err(|fault| format!("{words:?}: {fault:?}"))?)?;
+    for [number, a, b, c] in calls.iter().copied() {
+        pair.event(Event::Call {
+            context: 0,
+            number,
+            a,
+            b,
+            c,
+        })?;
+    }
+    let mut state = pair.kernel;
+    for (at, word) in overwritten.iter() {
+        state = with_word(&state, *at, *word);
+    }
+    let second = layout::shown(&state).map_err(|breach| (breach.code, breach.id));
+    if second.as_ref().err() != Some(told) {
+        return Err(format!("{what}: {second:?}, by hand {told:?}"));
+    }
+    tally.judge(&state).map_err(|d| format!("{what}: {d}"))
+}
+
+/// Gives how many there are.
+pub fn check(tally: &mut Tally) -> Result<usize, String> {
+    for worked in &ON_SHEET {
+        judge(tally, &SHEET, worked)?;
+    }
+    for worked in &ON_TWO_MAILBOXES {
+        judge(tally, &TWO_MAILBOXES, worked)?;
+    }
+    Ok(ON_SHEET.len() + ON_TWO_MAILBOXES.len())
+}
