@@ -34,11 +34,13 @@ use Rattle.memory_rings.specs.Rings.{Out, Stands, Distinct, headOf, without, li
 use Rattle.memory_rings.proofs.Lists.{stands-out, out-rest, without-mid, few}
 use Rattle.memory_rings.proofs.Ways.{head-link}
 use Rattle.memory_rings.proofs.Laws.{once-law, follow-law}
+use Rattle.memory_columns.specs.declared.Rings.the-variants.{Tasks}
 use Rattle.memory_columns.specs.Layout as Layout
 use Rattle.memory_columns.specs.Layout.{words}
 use Rattle.memory_columns.specs.Layout.{entry}
 use Rattle.memory_tasks.specs.Moves.{released}
-use Rattle.memory_picture.specs.Picture.{waitShown, stateShown, taskShown, tasksShown, storeShown, UsedByTasks, anchor, lineShown, viewShown, wait-queue, Accepted}
+use Rattle.memory_picture.specs.Picture.{waitShown, stateShown, taskShown, tasksShown, storeShown, Used, anchor, lineShown, viewShown, Accepted}
+use Rattle.memory_picture.proofs.Done.{used-at}
 use Rattle.memory_picture.specs.Perform.{performed, performedMarks}
 use Rattle.memory_picture.proofs.Lines.{keep-without}
 use Rattle.memory_picture.proofs.Cases.{asked, kind-cases, status-cases}
@@ -130,8 +132,8 @@ module _ {b : Body} {m : List ℕ} {i n : ℕ} {c : List ℕ} {have : ℕ} {seen
     small = P .small;
   }
 
-  used : UsedByTasks (storeShown c m) (anchor (waiters flag i))
-  used = wait-queue flag i (there flag i c m (P .accepted) (P .exists))
+  used : Used (storeShown c m) Tasks (anchor (waiters flag i))
+  used = used-at (waiters flag i) (there flag i c m (P .accepted) (P .exists))
 
   shown : lineOf (tasksShown c) (words Layout.next c) (anchor (waiters flag i)) ≡ seen ++ x ∷ rest
   unfolding lineShown
@@ -139,10 +141,10 @@ module _ {b : Body} {m : List ℕ} {i n : ℕ} {c : List ℕ} {have : ℕ} {seen
 
   -- the node behind it is the next of the line, or the anchor
   behind : entry Layout.next c x ≡ headOf rest (anchor (waiters flag i))
-  behind = follow-law (P .accepted .whole .tasks) (anchor (waiters flag i)) seen x rest used shown
+  behind = follow-law (P .accepted .whole .rings Tasks) (anchor (waiters flag i)) seen x rest used shown
 
   distinct : Distinct (seen ++ x ∷ rest)
-  distinct = subst Distinct shown (once-law (P .accepted .whole .tasks) (anchor (waiters flag i)) used)
+  distinct = subst Distinct shown (once-law (P .accepted .whole .rings Tasks) (anchor (waiters flag i)) used)
 
   -- it is released
   A′ : Accepted (released x 0 have c) m
@@ -233,7 +235,7 @@ module _ (b m : List ℕ) (A : Accepted b m) (i : ℕ) (h : NamesObject flag i (
   ring : Ring (tasksShown b) (words Layout.next b) (words Layout.prev b) (anchor (waiters flag i)) queue × Distinct queue
   unfolding queue lineShown
   ring = rw (line-is flag i b m A h)
-      (A .whole .tasks .ring (anchor (waiters flag i)) (wait-queue flag i (there flag i b m A h)), once-law (A .whole .tasks) (anchor (waiters flag i)) (wait-queue flag i (there flag i b m A h)))
+      (A .whole .rings Tasks .ring (anchor (waiters flag i)) (used-at (waiters flag i) (there flag i b m A h)), once-law (A .whole .rings Tasks) (anchor (waiters flag i)) (used-at (waiters flag i) (there flag i b m A h)))
 
   flag-serves : (have : ℕ) → have < 2 ^ 32
       → Serves i have m (served i have b) b 0 (serve-until-clear (viewShown b m .body) i have (line (viewShown b m) (waiters flag i))) 0 (looked-at (viewShown b m .body) have (line (viewShown b m) (waiters flag i)))

@@ -12,6 +12,7 @@ use call_words::waits;
 use memory_columns::CELL_OK;
 use memory_columns::FLAG;
 use memory_columns::MAX_TASKS;
+use memory_columns::Rings;
 use memory_columns::STATE_WORDS;
 use memory_columns::TASKS;
 use memory_columns::at_most;
@@ -84,7 +85,7 @@ fn serve(words: &mut [u32; STATE_WORDS], i: u32, pattern: u32) -> Walked
     ensures { λ r. ⌜ made (now (words .exit)) (r .released) (r .looked) (r .cleared) ≡ served i pattern (now (words .entry)) ⌝ }
 {
     let n = at_most(system(words, TASKS), MAX_TASKS);
-    let mut x = follow(words, wait_anchor(FLAG, i));
+    let mut x = follow(words, Rings::Tasks, wait_anchor(FLAG, i));
     let mut count: u32 = 0;
     let mut looked: u32 = 0;
     let mut left = n;
@@ -97,7 +98,7 @@ fn serve(words: &mut [u32; STATE_WORDS], i: u32, pattern: u32) -> Walked
             };
         }
         // A release changes the links of x.
-        let behind = follow(words, x);
+        let behind = follow(words, Rings::Tasks, x);
         let w = look(words, x, pattern, count, looked);
         if w.cleared {
             return w;

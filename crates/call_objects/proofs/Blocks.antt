@@ -1,4 +1,4 @@
--- The mask of a pool: its lowest set bit, how many are set, and one of them, are what the view's marks say. Assumes nothing.
+-- The mask of a pool: how many bits are set, and one of them, are what the view's marks say. Assumes nothing.
 use mathlib.Core.Bool.{Bool, true, false, cond, _||_}
 use mathlib.Core.List.{List, [], _∷_}
 use mathlib.Core.Path.{_≡_, refl, sym, ap, _∙_}
@@ -13,13 +13,13 @@ use borrow.Author.Tests.{eqb-true, eqb-false, le-leb, lt-leb}
 use Rattle.rules.specs.Ids.{of, In}
 use Rattle.rules.specs.Events.{outside}
 use Rattle.rules.specs.State.{pool}
-use Rattle.rules.specs.Objects.{blocksOf, lowest, free}
+use Rattle.rules.specs.Objects.{blocksOf, free}
 use Rattle.rules.proofs.Ids.{of-ids}
 use Rattle.rules.proofs.Waits.{in-by}
 use Rattle.memory_columns.specs.Layout as Layout
 use Rattle.memory_columns.specs.Layout.{entry}
 use Rattle.memory_picture.specs.Picture.{bitsOf, poolShown, storeShown, bodyShown, viewShown, Accepted}
-use Rattle.memory_running.specs.Running.{lowestMark}
+use Rattle.memory_picture.proofs.PoolBits.{length-bits, bits-at}
 use Rattle.call_words.specs.Naming.{NamesObject}
 use Rattle.call_objects.proofs.Waiters.{counted}
 use Rattle.call_objects.specs.Blocks.{bitCount, notOut}
@@ -28,21 +28,6 @@ use Rattle.call_objects.specs.Blocks.{bitCount, notOut}
 
 half : (k m : ℕ) → m / 2 ^ suc k ≡ 0 → m / 2 / 2 ^ k ≡ 0
 half k m h = div-div-eq-div-mul m 2 (2 ^ k) ∙ ap (λ (x : ℕ). m / x) (sym (pow-succ' 2 k)) ∙ h
-
-none-set : (k p m : ℕ) → m ≡ 0 → lowestMark k p m ≡ 0
-unfolding lowestMark
-none-set zero p m e = refl
-none-set (suc k) p m e = rw e (none-set k (suc p) 0 refl)
-
-bits-lowest : (n k p m : ℕ) → n ≤ k → m / 2 ^ n ≡ 0 → lowestMark k p m ≡ lowest p (bitsOf n m)
-unfolding bitsOf lowestMark
-bits-lowest zero k p m l h = none-set k p m (omega arith)
-bits-lowest (suc n) zero p m l h = absurd (omega arith)
-bits-lowest (suc n) (suc k) p m l h = go (eqb (m % 2) 1) (bits-lowest n k (suc p) (m / 2) (omega arith) (half n m h))
-  where
-    go : (t : Bool) → lowestMark k (suc p) (m / 2) ≡ lowest (suc p) (bitsOf n (m / 2)) → cond t p (lowestMark k (suc p) (m / 2)) ≡ lowest p (t ∷ bitsOf n (m / 2))
-    go true r = refl
-    go false r = r
 
 none-counted : (k m : ℕ) → m ≡ 0 → bitCount k m ≡ 0
 unfolding bitCount
@@ -59,17 +44,6 @@ bits-count (suc n) (suc k) m l h = go (eqb (m % 2) 1) refl (bits-count n k (m / 
     go true e r = let o = eqb-true (m % 2) 1 e in omega arith
     go false e r = let o = eqb-false (m % 2) 1 e in omega arith
 
-bits-length : (n m : ℕ) → length (bitsOf n m) ≡ n
-unfolding bitsOf
-bits-length zero m = refl
-bits-length (suc n) m = ap suc (bits-length n (m / 2))
-
-bits-at : (n i m : ℕ) → i < n → getD (bitsOf n m) i true ≡ eqb ((m / 2 ^ i) % 2) 1
-unfolding bitsOf
-bits-at zero i m h = absurd (omega arith)
-bits-at (suc n) zero m h = let e : m ≡ m / 2 ^ 0 = omega arith in ap (λ (x : ℕ). eqb (x % 2) 1) e
-bits-at (suc n) (suc i) m h = bits-at n i (m / 2) (omega arith) ∙ ap (λ (x : ℕ). eqb (x % 2) 1) (div-div-eq-div-mul m 2 (2 ^ i) ∙ ap (λ (x : ℕ). m / x) (sym (pow-succ' 2 i)))
-
 -- ---- a pool that has blocks shows its bits
 
 pub record Bits (l : List Bool) (n m : ℕ) : Type 0 where
@@ -82,7 +56,7 @@ unfolding poolShown
 pool-bits n m = go (eqb (m / 2 ^ n) 0) refl
   where
     go : (t : Bool) → eqb (m / 2 ^ n) 0 ≡ t → In (length (cond t (bitsOf n m) [])) 32 → Bits (cond t (bitsOf n m) []) n m
-    go true e h = record { are = refl; whole = eqb-true _ 0 e; few = omega (arith, h .1, bits-length n m) }
+    go true e h = record { are = refl; whole = eqb-true _ 0 e; few = omega (arith, h .1, length-bits n m) }
     go false e h = absurd (omega (arith, h .0))
 
 module _ (i : ℕ) (b m : List ℕ) (A : Accepted b m) (h : NamesObject pool i (viewShown b m)) where
@@ -97,16 +71,13 @@ module _ (i : ℕ) (b m : List ℕ) (A : Accepted b m) (h : NamesObject pool i (
   bits : Bits (blocksOf (viewShown b m) (pos i)) (entry Layout.size b i) (entry Layout.free b i)
   bits = rw blocks-are (pool-bits _ _ (rw blocks-are at some-blocks))
 
-  pub lowest-read : lowestMark 32 1 (entry Layout.free b i) ≡ lowest 1 (blocksOf (viewShown b m) (pos i))
-  lowest-read = bits-lowest _ 32 1 _ (bits .few) (bits .whole) ∙ ap (lowest 1) (sym (bits .are))
-
   pub free-read : bitCount 32 (entry Layout.free b i) ≡ free (blocksOf (viewShown b m) (pos i))
   free-read = bits-count _ 32 _ (bits .few) (bits .whole) ∙ ap free (sym (bits .are))
 
   -- the rule's test of a block that is given back
   pub out-read : (k : ℕ) → (outside (pos k) (length (blocksOf (viewShown b m) (pos i))) || of (blocksOf (viewShown b m) (pos i)) k true) ≡ notOut b i k
   unfolding notOut
-  out-read k = rw (bits .are, bits-length (entry Layout.size b i) (entry Layout.free b i)) (go (outside (pos k) (entry Layout.size b i)) refl)
+  out-read k = rw (bits .are, length-bits (entry Layout.size b i) (entry Layout.free b i)) (go (outside (pos k) (entry Layout.size b i)) refl)
     where
       go : (t : Bool) → outside (pos k) (entry Layout.size b i) ≡ t
           → (t || of (bitsOf (entry Layout.size b i) (entry Layout.free b i)) k true) ≡ (t || (leb 33 k || eqb ((entry Layout.free b i / 2 ^ pred k) % 2) 1))
@@ -115,7 +86,7 @@ module _ (i : ℕ) (b m : List ℕ) (A : Accepted b m) (h : NamesObject pool i (
         where
           here : (j : ℕ) → In j (entry Layout.size b i) → of (bitsOf (entry Layout.size b i) (entry Layout.free b i)) j true ≡ (leb 33 j || eqb ((entry Layout.free b i / 2 ^ pred j) % 2) 1)
           here zero r = absurd (omega (arith, r .0))
-          here (suc j) r = rw (lt-leb 33 (suc j) (omega (arith, r .1, bits .few))) (bits-at _ j _ (omega (arith, r .1)))
+          here (suc j) r = rw (lt-leb 33 (suc j) (omega (arith, r .1, bits .few))) (bits-at _ j _ true (omega (arith, r .1)))
 
 -- ---- the loop that counts, and the tests of one block, as the code makes them
 

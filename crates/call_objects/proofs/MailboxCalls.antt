@@ -19,12 +19,14 @@ use Rattle.rules.proofs.Ids.{of-ids, length-ids}
 use Rattle.rules.proofs.Lines.{line-tabulate}
 use Rattle.memory_rings.specs.Links.{firstOf}
 use Rattle.memory_rings.proofs.Laws.{first-law}
+use Rattle.memory_columns.specs.declared.Rings.the-variants.{Messages}
 use Rattle.memory_columns.specs.Layout as Layout
 use Rattle.memory_columns.specs.Layout.{words}
-use Rattle.memory_queues.specs.Moves.{mailAnchor, mailed, unmailed}
+use Rattle.memory_queues.specs.Moves.{mailAnchor, linked, unlinked}
 use Rattle.memory_tasks.specs.Moves.{released, waited}
 use Rattle.memory_picture.specs.Perform.{put-to-wait, performed, performedMarks}
-use Rattle.memory_picture.specs.Picture.{messageShown, messagesShown, storeShown, bodyShown, viewShown, anchor, lineShown, mailbox-queue, Accepted}
+use Rattle.memory_picture.specs.Picture.{messageShown, messagesShown, storeShown, bodyShown, viewShown, anchor, lineShown, Accepted}
+use Rattle.memory_picture.proofs.Done.{used-at}
 use Rattle.memory_running.proofs.Lowest.{HeadOf, head-of}
 use Rattle.call_words.specs.declared.Outcome.{Outcome}
 use Rattle.call_words.specs.Outcomes.{outcome}
@@ -52,8 +54,8 @@ module _ (o : ℕ) (b m : List ℕ) (A : Accepted b m) (h : NamesObject mailbox 
   message-law : HeadOf (firstMessage o b) (line (viewShown b m) (mail o))
   unfolding firstMessage lineShown viewShown
   message-law = subst (HeadOf _) (sym (line-tabulate (storeShown b m) (lineShown b) (mail o) there))
-      (head-of (messagesShown b) _ (lineShown b (mail o)) (ap (firstOf (words Layout.mailNext b)) anchor-is ∙ first-law (A .whole .mails) (anchor (mail o)) (mailbox-queue o there))
-      (A .whole .mails .ring (anchor (mail o)) (mailbox-queue o there) .ids))
+      (head-of (messagesShown b) _ (lineShown b (mail o)) (ap (firstOf (words Layout.mailNext b)) anchor-is ∙ first-law (A .whole .rings Messages) (anchor (mail o)) (used-at (mail o) there))
+      (A .whole .rings Messages .ring (anchor (mail o)) (used-at (mail o) there) .ids))
 
 -- a message's mark
 mark-read : (j : ℕ) (b m : List ℕ) {x : ℕ} → x ≡ of m j 0 → NamesMessage j (viewShown b m) → of (viewShown b m .body .store .messages) j none ≡ messageShown x
@@ -72,7 +74,7 @@ module _ (i : ℕ) {b : List ℕ} {s : Outcome} where
 
     -- rcv_msg, prcv_msg: it is taken, or as r says
     module _ {m : List ℕ} where
-      pub takes : (r : Verdict) → (j ≡ 0 → ⊥) → {b′ m′ : List ℕ} → (b′ ≡ unmailed j b) × (m′ ≡ put m j 0) → s ≡ outcome (pos 0) j 0 0 → DoesOnBoth (NamesObject mailbox i) (λ v. take-msg v (pos i) r) s b m b′ m′
+      pub takes : (r : Verdict) → (j ≡ 0 → ⊥) → {b′ m′ : List ℕ} → (b′ ≡ unlinked Messages j b) × (m′ ≡ put m j 0) → s ≡ outcome (pos 0) j 0 0 → DoesOnBoth (NamesObject mailbox i) (λ v. take-msg v (pos i) r) s b m b′ m′
       unfolding take-msg performs performsMarks performed performedMarks number
       takes r z g e A k = first-some _ r _ z (subst (λ (x : ℕ). HeadOf x (line (viewShown b m) (mail i))) (sym (read i b ey ej)) (message-law i b m A k))
           (record { says = e; words = g .0; marks = g .1 })
@@ -100,7 +102,7 @@ module _ (i : ℕ) {b : List ℕ} {s : Outcome} where
       unfolding snd-msg
       snd-serves ne g e A k = check-passes H-MSG _ (ap laid (mark-read j b m ex (k .1)) ∙ rw z) (to-waiter mailbox i b m A (k .0) ew ne j _ g e)
 
-      pub snd-posts : w ≡ 0 → {b′ m′ : List ℕ} → (b′ ≡ mailed (mailAnchor i) j b) × (m′ ≡ put m j i) → s ≡ outcome (pos 0) 0 0 0
+      pub snd-posts : w ≡ 0 → {b′ m′ : List ℕ} → (b′ ≡ linked Messages (mailAnchor i) j b) × (m′ ≡ put m j i) → s ≡ outcome (pos 0) 0 0 0
           → DoesOnBoth (λ v. NamesObject mailbox i v × NamesMessage j v) (λ v. snd-msg v (pos i) (pos j)) s b m b′ m′
       unfolding snd-msg performs performsMarks performed performedMarks number
       snd-posts y g e A k = check-passes H-MSG _ (ap laid (mark-read j b m ex (k .1)) ∙ rw z) (to-nobody mailbox i b m A (k .0) ew y j _ (record { says = e; words = g .0; marks = g .1 }))

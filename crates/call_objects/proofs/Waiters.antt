@@ -16,14 +16,16 @@ use Rattle.rules.specs.Objects.{to-first, obj-sts}
 use Rattle.rules.proofs.Lines.{line-tabulate}
 use Rattle.memory_rings.specs.Links.{firstOf}
 use Rattle.memory_rings.proofs.Laws.{first-law}
+use Rattle.memory_columns.specs.declared.Rings.the-variants.{Tasks}
 use Rattle.memory_columns.specs.Layout as Layout
 use Rattle.memory_columns.specs.Layout.{words}
 use Rattle.memory_columns.specs.Layout.{entry}
 use Rattle.memory_queues.specs.Moves.{waitAnchor}
 use Rattle.memory_tasks.specs.Moves.{released}
-use Rattle.memory_picture.specs.Picture.{kindNumber, tasksShown, storeShown, bodyShown, anchor, lineShown, viewShown, wait-queue, Accepted}
+use Rattle.memory_picture.specs.Picture.{kindNumber, tasksShown, storeShown, bodyShown, anchor, lineShown, viewShown, Accepted}
 use Rattle.memory_picture.specs.Perform.{performed, performedMarks}
 use Rattle.memory_running.proofs.Lowest.{HeadOf, head-of}
+use Rattle.memory_picture.proofs.Done.{used-at}
 use Rattle.call_words.specs.declared.Outcome.{Outcome}
 use Rattle.call_words.specs.Outcomes.{outcome}
 use Rattle.call_words.specs.Doing.{Does}
@@ -69,8 +71,8 @@ module _ (k : Kind) (o : ℕ) (b m : List ℕ) (A : Accepted b m) (h : NamesObje
   pub waiter-law : HeadOf (firstWaiter (kindNumber k) o b) (line (viewShown b m) (waiters k o))
   unfolding firstWaiter lineShown
   waiter-law = subst (HeadOf _) (sym line-is)
-      (head-of (tasksShown b) _ (lineShown b (waiters k o)) (ap (firstOf (words Layout.next b)) anchor-is ∙ first-law (A .whole .tasks) (anchor (waiters k o)) (wait-queue k o there))
-      (A .whole .tasks .ring (anchor (waiters k o)) (wait-queue k o there) .ids))
+      (head-of (tasksShown b) _ (lineShown b (waiters k o)) (ap (firstOf (words Layout.next b)) anchor-is ∙ first-law (A .whole .rings Tasks) (anchor (waiters k o)) (used-at (waiters k o) there))
+      (A .whole .rings Tasks .ring (anchor (waiters k o)) (used-at (waiters k o) there) .ids))
 
   -- by the first waiter x, as the code has read it
   module _ {x : ℕ} (ex : x ≡ firstWaiter (kindNumber k) o b) where

@@ -5,6 +5,7 @@ pub mod mailboxes;
 pub mod pools;
 pub mod semaphores;
 
+use memory_columns::Rings;
 use memory_columns::STATE_WORDS;
 use memory_queues::first;
 use memory_queues::wait_anchor;
@@ -15,5 +16,5 @@ ghost use Rattle.call_objects.specs.Waiting.{firstWaiter};
 pub fn first_waiter(words: &[u32; STATE_WORDS], kind: u32, o: u32) -> u32
     ensures { λ r. ⌜ r ≡ firstWaiter kind o (now (words .entry)) ⌝ }
 {
-    first(words, wait_anchor(kind, o))
+    first(words, Rings::Tasks, wait_anchor(kind, o))
 }

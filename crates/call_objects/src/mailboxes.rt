@@ -10,16 +10,17 @@ use call_words::releases;
 use call_words::waits;
 use memory_columns::CELL_OK;
 use memory_columns::MAILBOX;
+use memory_columns::Rings;
 use memory_columns::STATE_WORDS;
 use memory_objects::marks::mark_of;
 use memory_objects::marks::post;
 use memory_objects::marks::receive;
+use memory_queues::first;
 use memory_queues::mail_anchor;
-use memory_queues::mail_first;
 use memory_tasks::release;
 use memory_tasks::wait;
 ghost use lib.IntN.{pos};
-ghost use Rattle.rules.specs.Ids.{first};
+ghost use Rattle.rules.specs.Ids as Ids;
 ghost use Rattle.rules.specs.State.{mailbox};
 ghost use Rattle.rules.specs.Places.{mail};
 ghost use Rattle.rules.specs.View.{line};
@@ -52,7 +53,7 @@ pub fn rcv_msg(
 ) -> Outcome
     ensures { λ r. ⌜ DoesOnBoth (NamesObject mailbox i) (λ v. take-msg v (pos i) (waits-on me mailbox (pos i))) r (now (words .entry)) (now (messages .entry)) (now (words .exit)) (now (messages .exit)) ⌝ }
 {
-    let j = mail_first(words, mail_anchor(i));
+    let j = first(words, Rings::Messages, mail_anchor(i));
     if j == 0 {
         wait(words, me, MAILBOX, i, 0, 0);
         return waits();
@@ -65,7 +66,7 @@ pub fn rcv_msg(
 pub fn prcv_msg(words: &mut [u32; STATE_WORDS], messages: &mut [u32; 256], i: u32) -> Outcome
     ensures { λ r. ⌜ DoesOnBoth (NamesObject mailbox i) (λ v. take-msg v (pos i) polls) r (now (words .entry)) (now (messages .entry)) (now (words .exit)) (now (messages .exit)) ⌝ }
 {
-    let j = mail_first(words, mail_anchor(i));
+    let j = first(words, Rings::Messages, mail_anchor(i));
     if j == 0 {
         return refuse(H_POLL);
     }
@@ -75,9 +76,9 @@ pub fn prcv_msg(words: &mut [u32; STATE_WORDS], messages: &mut [u32; 256], i: u3
 
 // 30 mbx_sts: the first waiter, and the first message.
 pub fn mbx_sts(words: &[u32; STATE_WORDS], i: u32) -> Outcome
-    ensures { λ r. ⌜ DoesOnWords (NamesObject mailbox i) (λ v. obj-sts v mailbox (pos i) (first (line v (mail i)))) r (now (words .entry)) (now (words .entry)) ⌝ }
+    ensures { λ r. ⌜ DoesOnWords (NamesObject mailbox i) (λ v. obj-sts v mailbox (pos i) (Ids.first (line v (mail i)))) r (now (words .entry)) (now (words .entry)) ⌝ }
 {
     let x = first_waiter(words, MAILBOX, i);
-    let j = mail_first(words, mail_anchor(i));
+    let j = first(words, Rings::Messages, mail_anchor(i));
     gives(x, j)
 }

@@ -11,10 +11,14 @@ use call_words::waits;
 use memory_columns::CELL_OK;
 use memory_columns::MAX_BLOCKS;
 use memory_columns::POOL;
+use memory_columns::Rings;
 use memory_columns::STATE_WORDS;
 use memory_columns::free;
 use memory_columns::size;
 use memory_objects::marks::mark_block;
+use memory_queues::block_node;
+use memory_queues::first;
+use memory_queues::free_anchor;
 use memory_tasks::release;
 use memory_tasks::wait;
 ghost use mathlib.Core.Path.{_≡_};
@@ -22,17 +26,18 @@ ghost use lib.IntN.{pos};
 ghost use Rattle.rules.specs.State.{pool};
 ghost use Rattle.rules.specs.Objects.{polls, waits-on, obj-sts, blocksOf, take-blk, rel-blk};
 ghost use Rattle.rules.specs.Objects as Objects;
-ghost use Rattle.memory_running.specs.Running.{lowestMark};
 ghost use Rattle.call_words.specs.Doing.{DoesOnWords};
 ghost use Rattle.call_words.specs.Naming.{NamesObject};
+ghost use Rattle.call_objects.specs.Waiting.{firstBlock};
 ghost use Rattle.call_objects.specs.Blocks.{bitCount, notOut};
 
-// The lowest block that is free in a mask; 0 if none is.
-fn lowest_block(mask: u32) -> u32
-    ensures { λ r. ⌜ r ≡ lowestMark 32 1 mask ⌝ }
+// The block of a pool that is longest free, the first in its queue of free blocks; 0 if none is.
+fn first_block(words: &[u32; STATE_WORDS], pool: u32) -> u32
+    ensures { λ r. ⌜ r ≡ firstBlock pool (now (words .entry)) ⌝ }
 {
-    let z = u32::trailing_zeros(mask);
-    if z < MAX_BLOCKS { z + 1 } else { 0 }
+    let x = first(words, Rings::Blocks, free_anchor(pool));
+    let before = block_node(pool, 0);
+    if x <= before { 0 } else { x - before }
 }
 
 // How many blocks are free in a mask.
@@ -66,11 +71,11 @@ fn is_not_out(words: &[u32; STATE_WORDS], pool: u32, k: u32) -> bool
     (free(words, pool) >> (k - 1)) % 2 == 1
 }
 
-// 23 get_blk: the caller takes the lowest free block, or waits.
+// 23 get_blk: the caller takes the block longest free, or waits.
 pub fn get_blk(words: &mut [u32; STATE_WORDS], me: u32, i: u32) -> Outcome
     ensures { λ r. ⌜ DoesOnWords (NamesObject pool i) (λ v. take-blk v (pos i) (waits-on me pool (pos i))) r (now (words .entry)) (now (words .exit)) ⌝ }
 {
-    let k = lowest_block(free(words, i));
+    let k = first_block(words, i);
     if k == 0 {
         wait(words, me, POOL, i, 0, 0);
         return waits();
@@ -79,11 +84,11 @@ pub fn get_blk(words: &mut [u32; STATE_WORDS], me: u32, i: u32) -> Outcome
     gives(k, 0)
 }
 
-// 24 pget_blk: the lowest free block is taken, if there is one.
+// 24 pget_blk: the block longest free is taken, if there is one.
 pub fn pget_blk(words: &mut [u32; STATE_WORDS], i: u32) -> Outcome
     ensures { λ r. ⌜ DoesOnWords (NamesObject pool i) (λ v. take-blk v (pos i) polls) r (now (words .entry)) (now (words .exit)) ⌝ }
 {
-    let k = lowest_block(free(words, i));
+    let k = first_block(words, i);
     if k == 0 {
         return refuse(H_POLL);
     }
@@ -91,7 +96,7 @@ pub fn pget_blk(words: &mut [u32; STATE_WORDS], i: u32) -> Outcome
     gives(k, 0)
 }
 
-// 25 rel_blk: block k goes to the first waiter, else it is free.
+// 25 rel_blk: block k goes to the first waiter, else it is free, behind the other free ones.
 pub fn rel_blk(words: &mut [u32; STATE_WORDS], i: u32, k: u32) -> Outcome
     ensures { λ r. ⌜ DoesOnWords (NamesObject pool i) (λ v. rel-blk v (pos i) (pos k)) r (now (words .entry)) (now (words .exit)) ⌝ }
 {

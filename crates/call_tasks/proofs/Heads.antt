@@ -12,9 +12,11 @@ use Rattle.rules.specs.View.{line, nonempty, best}
 use Rattle.rules.proofs.Lines.{line-tabulate}
 use Rattle.memory_rings.specs.Rings.{IsId, All}
 use Rattle.memory_rings.proofs.Laws.{first-law}
+use Rattle.memory_columns.specs.declared.Rings.the-variants.{Tasks}
 use Rattle.memory_columns.specs.Layout as Layout
 use Rattle.memory_columns.specs.Layout.{entry}
-use Rattle.memory_picture.specs.Picture.{tasksShown, storeShown, bodyShown, anchor, lineShown, viewShown, ready-queue, Accepted}
+use Rattle.memory_picture.specs.Picture.{tasksShown, storeShown, bodyShown, anchor, lineShown, viewShown, Accepted}
+use Rattle.memory_picture.proofs.Done.{used-at}
 use Rattle.memory_running.specs.Running.{headAt, bestOf}
 use Rattle.memory_running.proofs.Lowest.{HeadOf, head-of}
 use Rattle.memory_running.proofs.Running.{best-law}
@@ -47,14 +49,14 @@ module _ (b m : List ℕ) (A : Accepted b m) where
   pub ready-head : (p : ℕ) → In p (entry Layout.system b 0) → HeadOf (headAt b p) (line (viewShown b m) (readyAt p))
   unfolding lineShown anchor
   ready-head p h = rw (line-is (readyAt p) (there p h), le-leb p 16 (omega (arith, few, h .1)))
-      (head-of (tasksShown b) _ (lineShown b (readyAt p)) (first-law (A .whole .tasks) _ (ready-queue p (there p h))) (A .whole .tasks .ring _ (ready-queue p (there p h)) .ids))
+      (head-of (tasksShown b) _ (lineShown b (readyAt p)) (first-law (A .whole .rings Tasks) _ (used-at (readyAt p) (there p h))) (A .whole .rings Tasks .ring _ (used-at (readyAt p) (there p h)) .ids))
 
   pub best-head : HeadOf (bestOf b) (best (viewShown b m))
   best-head = subst (λ (x : ℕ). HeadOf x (best (viewShown b m))) (sym (best-law b m A)) go
     where
       go : HeadOf (first (best (viewShown b m))) (best (viewShown b m))
       go = unfold viewShown tabulate ids storeShown lineShown in nonempty-head (tasksShown b) (λ p. lineShown b (readyAt p)) 1 (entry Layout.system b 0)
-          (λ q h k. A .whole .tasks .ring (anchor (readyAt q)) (ready-queue q (h, omega arith)) .ids)
+          (λ q h k. A .whole .rings Tasks .ring (anchor (readyAt q)) (used-at (readyAt q) (h, omega arith)) .ids)
 
 -- the queue that rot_rdq names
 pub turn-head : (b m : List ℕ) → Accepted b m → (p : ℕ) → NamesQueue p (viewShown b m)

@@ -1,6 +1,7 @@
 // What is asked of a task's state.
 use memory_columns::READY;
 use memory_columns::RUN;
+use memory_columns::Rings;
 use memory_columns::STATE_WORDS;
 use memory_columns::SUSPEND;
 use memory_columns::TASKS;
@@ -78,6 +79,6 @@ pub fn ready_head(words: &[u32; STATE_WORDS], p: u32) -> u32
     if p == 0 {
         best_task(words)
     } else {
-        first(words, ready_anchor(p))
+        first(words, Rings::Tasks, ready_anchor(p))
     }
 }

@@ -3,7 +3,7 @@ use mathlib.Core.Bool.{Bool, true, false, cond, _&&_, true≢false, false≢true
 use mathlib.Core.List.{List, [], _∷_, map}
 use mathlib.Core.Option.{Option, none, some}
 use mathlib.Core.Path.{_≡_, refl, sym, ap, _∙_, subst}
-use Prim.Native.Nat.{ℕ, zero, suc, _+_, _≤_, _<_, _^_}
+use Prim.Native.Nat.{ℕ, zero, suc, _+_, _-_, _/_, _≤_, _<_, _^_}
 use native.Mathlib.Decide.{decLe}
 use native.Mathlib.Nat.{zero-add}
 use native.Mathlib.Numerals.{add-one}
@@ -11,43 +11,61 @@ use native.Mathlib.Omega.{arith}
 use lib.Dec.{eqb, leb}
 use lib.ListN.{length, getD}
 use borrow.Author.Tests.{eq-eqb, ne-eqb, eqb-true, eqb-false, le-leb, lt-leb, leb-true, leb-false}
-use Rattle.rules.specs.Ids.{from, ids, In, once, times}
-use Rattle.rules.specs.Codes.{Code, number, H-NUMBER, H-QUEUE, H-SERVED, H-TWICE}
+use Rattle.rules.specs.Ids.{of, from, ids, In, once, times}
+use Rattle.rules.specs.Codes.{Code, number, H-NUMBER, H-QUEUE, H-SERVED, H-TWICE, H-FREE}
 use Rattle.rules.specs.State.{Kind, semaphore, flag, mailbox, pool, Wait, on, Store, task, waitOf}
-use Rattle.rules.specs.Places.{Place, readyAt, waiters, mail, many, belongs, Exists, tabulate}
+use Rattle.rules.specs.Places.{Place, readyAt, waiters, mail, freeIn, many, belongs, Exists, tabulate, population}
 use Rattle.rules.specs.View.{View, line}
 use Rattle.rules.specs.Sound.{Known, SoundBody}
-use Rattle.rules.specs.Breach.{Breach, breach-at, Ranged, ranged?, Stands, InPlace, in-place?, Alone, some?, served-beside, beside, held, HeldOnce, rulesOf, is-yes, firstBad, unless, firstOf, breachBy, breach}
+use Rattle.rules.specs.Breach.{Breach, breach-at, Ranged, ranged?, Stands, InPlace, in-place?, Alone, some?, served-beside, beside, held, HeldOnce, Listed, listed?, rulesOf, is-yes, firstBad, unless, firstOf, breachBy, breach}
 use Rattle.rules.proofs.Ids.{length-ids}
 use Rattle.rules.proofs.Lines.{shape-tabulate}
 use Rattle.rules.proofs.Breach.{breach-number}
 use Rattle.memory_rings.specs.Links.{firstOf as headNode}
 use Rattle.memory_rings.specs.Rings.{walk, lineOf}
+use Rattle.memory_columns.specs.declared.Rings.{Rings}
+use Rattle.memory_columns.specs.declared.Rings.the-variants.{Tasks, Messages, Blocks}
 use Rattle.memory_columns.specs.Layout as Layout
-use Rattle.memory_columns.specs.Layout.{stateWords, maxMessages, maxObjects, waitNode, mailNode, words, entry, atMost}
-use Rattle.memory_queues.specs.Moves.{mailAnchor}
-use Rattle.memory_picture.specs.Picture.{taskShown, tasksShown, messagesShown, storeShown, bodyShown, kindNumber, anchor, lineShown, viewShown}
+use Rattle.memory_columns.specs.Layout.{stateWords, maxMessages, maxObjects, maxPools, maxBlocks, waitNode, mailNode, beforePool, blockNode, words, entry, atMost}
+use Rattle.memory_queues.specs.Moves.{mailAnchor, freeAnchor, nodeOfBlock}
+use Rattle.memory_picture.specs.Picture.{taskShown, tasksShown, messagesShown, poolsShown, bitsOf, poolShown, storeShown, bodyShown, kindNumber, anchor, idsShown, lineShown, viewShown}
 use Rattle.memory_picture.proofs.Cases.{asked}
-use Rattle.memory_picture.proofs.FormHomes.{TaskQueue, MailQueue, task-exists, mail-exists}
+use Rattle.memory_picture.proofs.Lines.{differ}
+use Rattle.memory_picture.proofs.PoolBits.{length-bits}
 use Rattle.check_ranges.specs.Ranges.{every, within, rangesOk}
 use Rattle.check_ranges.specs.Ranges as Counts
 use Rattle.check_ranges.proofs.Decisions.{Decides, decides-as, decides-and, decides-yes, decides-eq, decides-in, decides-every}
 use Rattle.check_ranges.proofs.Ranges.{manyOf, objects-shown, Ranges, ranges-law}
-use Rattle.check_queues.specs.Queues.{home, taskRanges}
-use Rattle.check_queues.proofs.Homes.{belongs-home, anchorsOf}
-use Rattle.check_queues.proofs.Queued.{task-is, tasks-few, messages-few, priorities-few, objects-few, taskHomeOf, task-homes, task-home-is}
+use Rattle.check_queues.specs.Queues.{home, blockHome, homeIn}
+use Rattle.check_queues.proofs.BlockLines.{has-block, times-block}
+use Rattle.check_queues.proofs.Standing.{task-is, pool-is, belongsAt, InRings, tasks-few, messages-few, priorities-few, objects-few, pools-few, ids-are, belongs-home, many-messages}
 use Rattle.check_state.specs.Unserved.{waitFree, unservedOk}
 use Rattle.check_state.proofs.Unserved.{semaphore-law, flag-law, pool-law, waiter-law}
-use Rattle.check_state.proofs.Accepted.{tasks-many, mails-many, task-line, mail-line, count, body-sound, sound-shown}
+use Rattle.check_state.proofs.Accepted.{line-is, count, body-sound, sound-shown}
 use Rattle.check_damage.specs.Lists.{known, standsRight, atMostOnce}
-use Rattle.check_damage.specs.Damage.{few, everyIn, taskLines, mailLines, tasksKnown, mailsKnown, numbersOk, placed, messageOnce, Told, told, idsFrom, rulesFrom, firstBroken}
+use Rattle.check_damage.specs.Damage.{few, everyIn, taskLines, mailLines, lineKnown, tasksKnown, mailsKnown, poolKnown, poolsKnown, numbersOk, placed, messageOnce, blockListed, poolListed, Told, told, idsFrom, rulesFrom, firstBroken}
 
 -- ---- lists
 
-known-law : (n : ℕ) (l : List ℕ) → Decides (known n l) (Known n l)
+known-law : (low m : ℕ) (l : List ℕ) → Decides (known low m l) (Known m (map (λ x. x - low) l))
 unfolding known
-known-law n [] = decides-yes tt
-known-law n (x ∷ l) = decides-and (decides-in x n) (λ h. known-law n l)
+known-law low m [] = decides-yes tt
+known-law low m (x ∷ l) = decides-and (decides-in (x - low) m) (λ h. known-law low m l)
+
+less-none : (l : List ℕ) → map (λ x. x - 0) l ≡ l
+less-none [] = refl
+less-none (x ∷ l) = let e : x - 0 ≡ x = omega arith in rw e (ap (λ (m : List ℕ). x ∷ m) (less-none l))
+
+known-ids : (n : ℕ) (l : List ℕ) → Decides (known 0 n l) (Known n l)
+known-ids n l = decides-as (known-law 0 n l) (λ h. rw (less-none l) at h) (λ h. rw (less-none l) h)
+
+pool-long : (n m : ℕ) → In (length (poolShown n m)) maxBlocks → length (poolShown n m) ≡ n
+unfolding poolShown
+pool-long n m = go (eqb (m / 2 ^ n) 0)
+  where
+    go : (t : Bool) → In (length (cond t (bitsOf n m) [])) maxBlocks → length (cond t (bitsOf n m) []) ≡ n
+    go true h = length-bits n m
+    go false h = absurd (omega (arith, h .0))
 
 -- the line of an anchor is empty just where no node is its first
 first-law : (n : ℕ) (nx : List ℕ) (a : ℕ) → Known n (lineOf n nx a) → Decides (eqb (headNode nx a) 0) (some? (lineOf n nx a) ≡ false)
@@ -90,7 +108,7 @@ module _ (b msgs : List ℕ) (size : length b ≡ stateWords) (R : Ranges b msgs
   few-objects : (k : Kind) → manyOf b k ≤ maxMessages
   few-objects k = omega (arith, objects-few b msgs size R k)
 
-  -- ---- all queues of tasks, and all mailboxes
+  -- ---- all queues of tasks, all mailboxes, and all pools
 
   -- the node of an object's waiters
   node-is : (k : Kind) (o : ℕ) → waitNode (kindNumber k) 0 + o ≡ anchor (waiters k o)
@@ -103,14 +121,14 @@ module _ (b msgs : List ℕ) (size : length b ≡ stateWords) (R : Ranges b msgs
   ranged-over : (f : ℕ → Bool) (node k : ℕ) → Counts.many b k ≤ maxMessages → Decides (every (few b k) 1 (λ o. f (node + o))) ((o : ℕ) → In o (Counts.many b k) → f (node + o) ≡ true)
   ranged-over f node k h = rw (whole k h) (decides-every (Counts.many b k) (λ o. f (node + o)) (λ o _. ((λ e. e), (λ e. e))))
 
-  tasks-in : (f : ℕ → Bool) → Decides (everyIn (taskLines b) f) ((q : Place) → TaskQueue u q → f (anchor q) ≡ true)
+  tasks-in : (f : ℕ → Bool) → Decides (everyIn (taskLines b) f) ((q : Place) → InRings u Tasks q → f (anchor q) ≡ true)
   unfolding everyIn anchor storeShown
   tasks-in f = decides-as
       (decides-and (ranged-over f _ Layout.priorities (omega (arith, priorities-few b msgs size R)))
       (λ _. decides-and (ranged-over f _ Layout.semaphores (few-objects semaphore)) (λ _. decides-and (ranged-over f _ Layout.flags (few-objects flag))
       (λ _. decides-and (ranged-over f _ Layout.mailboxes (few-objects mailbox)) (λ _. decides-and (ranged-over f _ Layout.pools (few-objects pool)) (λ _. decides-yes tt))))))
       to
-      (λ h. ((λ p r. h (readyAt p) r), (back semaphore h, (back flag h, (back mailbox h, (back pool h, tt))))))
+      (λ h. ((λ p r. h (readyAt p) (r, refl)), (back semaphore h, (back flag h, (back mailbox h, (back pool h, tt))))))
     where
       Waiting : Kind → Type 0
       Waiting k = (o : ℕ) → In o (manyOf b k) → f (waitNode (kindNumber k) 0 + o) ≡ true
@@ -119,94 +137,126 @@ module _ (b msgs : List ℕ) (size : length b ≡ stateWords) (R : Ranges b msgs
       at k h o r = subst (λ (a : ℕ). f a ≡ true) (node-is k o) (h o r)
 
       to : ((o : ℕ) → In o (Counts.many b Layout.priorities) → f (32 + o) ≡ true) × (Waiting semaphore × (Waiting flag × (Waiting mailbox × (Waiting pool × Unit {0}))))
-          → (q : Place) → TaskQueue u q → f (anchor q) ≡ true
-      to h (readyAt p) r = h .0 p r
-      to h (waiters semaphore o) r = at semaphore (h .1 .0) o (subst (In o) (objects-shown b msgs semaphore) r)
-      to h (waiters flag o) r = at flag (h .1 .1 .0) o (subst (In o) (objects-shown b msgs flag) r)
-      to h (waiters mailbox o) r = at mailbox (h .1 .1 .1 .0) o (subst (In o) (objects-shown b msgs mailbox) r)
-      to h (waiters pool o) r = at pool (h .1 .1 .1 .1 .0) o (subst (In o) (objects-shown b msgs pool) r)
-      to h (mail m) r = absurd r
+          → (q : Place) → InRings u Tasks q → f (anchor q) ≡ true
+      to h (readyAt p) r = h .0 p (r .0)
+      to h (waiters semaphore o) r = at semaphore (h .1 .0) o (subst (In o) (objects-shown b msgs semaphore) (r .0))
+      to h (waiters flag o) r = at flag (h .1 .1 .0) o (subst (In o) (objects-shown b msgs flag) (r .0))
+      to h (waiters mailbox o) r = at mailbox (h .1 .1 .1 .0) o (subst (In o) (objects-shown b msgs mailbox) (r .0))
+      to h (waiters pool o) r = at pool (h .1 .1 .1 .1 .0) o (subst (In o) (objects-shown b msgs pool) (r .0))
+      to h (mail m) r = absurd (differ (r .1) (λ z. omega arith))
+      to h (freeIn p) r = absurd (differ (r .1) (λ z. omega arith))
 
-      back : (k : Kind) → ((q : Place) → TaskQueue u q → f (anchor q) ≡ true) → Waiting k
-      back k h o r = subst (λ (a : ℕ). f a ≡ true) (sym (node-is k o)) (h (waiters k o) (subst (In o) (sym (objects-shown b msgs k)) r))
+      back : (k : Kind) → ((q : Place) → InRings u Tasks q → f (anchor q) ≡ true) → Waiting k
+      back k h o r = subst (λ (a : ℕ). f a ≡ true) (sym (node-is k o)) (h (waiters k o) (subst (In o) (sym (objects-shown b msgs k)) r, refl))
 
-  mails-in : (f : ℕ → Bool) → Decides (everyIn (mailLines b) f) ((q : Place) → MailQueue u q → f (anchor q) ≡ true)
+  mails-in : (f : ℕ → Bool) → Decides (everyIn (mailLines b) f) ((m : ℕ) → In m (u .mailboxes) → f (anchor (mail m)) ≡ true)
   unfolding everyIn anchor storeShown
-  mails-in f = decides-as (decides-and (ranged-over f _ Layout.mailboxes (few-objects mailbox)) (λ _. decides-yes tt)) to (λ h. ((λ m r. h (mail m) r), tt))
-    where
-      to : ((o : ℕ) → In o (Counts.many b Layout.mailboxes) → f (256 + o) ≡ true) × Unit {0} → (q : Place) → MailQueue u q → f (anchor q) ≡ true
-      to h (readyAt p) r = absurd r
-      to h (waiters k o) r = absurd r
-      to h (mail m) r = h .0 m r
+  mails-in f = decides-as (decides-and (ranged-over f _ Layout.mailboxes (few-objects mailbox)) (λ _. decides-yes {A = Unit {0}} tt)) (λ h. h .0) (λ h. (h, tt))
+
+  pools-in : (f : ℕ → Bool) → Decides (every (few b Layout.pools) 1 f) ((p : ℕ) → In p (poolsShown b) → f p ≡ true)
+  pools-in f = rw (whole Layout.pools (few-objects pool)) (decides-every (poolsShown b) f (λ p _. ((λ e. e), (λ e. e))))
+
+  pool-there : (p : ℕ) → In p (length (u .pools)) → In p (poolsShown b)
+  pool-there p r = subst (In p) (objects-shown b msgs pool) r
+
+  there-pool : (p : ℕ) → In p (poolsShown b) → In p (length (u .pools))
+  there-pool p r = subst (In p) (sym (objects-shown b msgs pool)) r
+
+  pool-many : (p : ℕ) → In p (length (u .pools)) → length (of (u .pools) p []) ≡ entry Layout.size b p
+  pool-many p r =
+      let e = pool-is b msgs p (pool-there p r) in
+      ap (λ (l : List Bool). length l) e ∙ pool-long _ _ (subst (λ (l : List Bool). In (length l) maxBlocks) e (R .store .pools p r))
 
   -- ---- numbers
 
-  numbers-law : Decides (tasksKnown b && mailsKnown b) ((q : Place) → Exists u q → Known (many (bodyShown b msgs) q) (line v q))
-  numbers-law = decides-as (decides-and (tasks-in _) (λ _. mails-in _)) (λ h. to (h .0) (h .1)) (λ h. (from-tasks h, from-mails h))
+  abbrev Each : Place → Type 0
+  Each q = Known (many (bodyShown b msgs) q) (line v q)
+
+  task-known : (q : Place) → InRings u Tasks q → Decides (lineKnown b Tasks (anchor q)) (Each q)
+  unfolding population bodyShown lineShown
+  task-known (readyAt p) r = rw (line-is b msgs (readyAt p) (r .0), length-ids (taskShown b) (tasksShown b)) (known-ids (tasksShown b) _)
+  task-known (waiters k o) r = rw (line-is b msgs (waiters k o) (r .0), length-ids (taskShown b) (tasksShown b)) (known-ids (tasksShown b) _)
+  task-known (mail m) r = absurd (differ (r .1) (λ z. omega arith))
+  task-known (freeIn p) r = absurd (differ (r .1) (λ z. omega arith))
+
+  mail-known : (m : ℕ) → In m (u .mailboxes) → Decides (lineKnown b Messages (anchor (mail m))) (Each (mail m))
+  unfolding population lineShown bodyShown
+  mail-known m r = rw (line-is b msgs (mail m) r, many-messages b msgs size R) (known-ids (messagesShown b) _)
+
+  free-known : (p : ℕ) → In p (length (u .pools)) → Decides (poolKnown b p) (Each (freeIn p))
+  unfolding population lineShown bodyShown anchor
+  free-known p r = rw (line-is b msgs (freeIn p) r, pool-many p r, ids-are b msgs size R Blocks) (known-law (beforePool p) (entry Layout.size b p) _)
+
+  numbers-law : Decides (tasksKnown b && (mailsKnown b && poolsKnown b)) ((q : Place) → Exists u q → Each q)
+  numbers-law = decides-as (decides-and (tasks-in _) (λ _. decides-and (mails-in _) (λ _. pools-in _))) (λ h q e. to (h .0) (h .1 .0) (h .1 .1) q e)
+      (λ h. ((λ q r. task-known q r .1 (h q (r .0))), ((λ m r. mail-known m r .1 (h (mail m) r)), (λ p r. free-known p (there-pool p r) .1 (h (freeIn p) (there-pool p r))))))
     where
-      Each : (Place → Type 0) → ℕ → List ℕ → Type 0
-      Each Q n nx = (q : Place) → Q q → known n (lineOf n nx (anchor q)) ≡ true
-
-      in-tasks : (q : Place) → TaskQueue u q → Each (TaskQueue u) (tasksShown b) (words Layout.next b) → Known (many (bodyShown b msgs) q) (line v q)
-      in-tasks q r h = rw (tasks-many b msgs q r, task-line b msgs q r) (known-law (tasksShown b) _ .0 (h q r))
-
-      in-mails : (q : Place) → MailQueue u q → Each (MailQueue u) (messagesShown b) (words Layout.mailNext b) → Known (many (bodyShown b msgs) q) (line v q)
-      in-mails q r h = rw (mails-many b msgs q r, mail-line b msgs q r) (known-law (messagesShown b) _ .0 (h q r))
-
-      to : Each (TaskQueue u) (tasksShown b) (words Layout.next b) → Each (MailQueue u) (messagesShown b) (words Layout.mailNext b) → (q : Place) → Exists u q → Known (many (bodyShown b msgs) q) (line v q)
-      to f g (readyAt p) r = in-tasks (readyAt p) r f
-      to f g (waiters k o) r = in-tasks (waiters k o) r f
-      to f g (mail m) r = in-mails (mail m) r g
-
-      from-tasks : ((q : Place) → Exists u q → Known (many (bodyShown b msgs) q) (line v q)) → Each (TaskQueue u) (tasksShown b) (words Layout.next b)
-      from-tasks h q r = known-law (tasksShown b) _ .1 (rw (tasks-many b msgs q r, task-line b msgs q r) at (h q (task-exists u q r)))
-
-      from-mails : ((q : Place) → Exists u q → Known (many (bodyShown b msgs) q) (line v q)) → Each (MailQueue u) (messagesShown b) (words Layout.mailNext b)
-      from-mails h q r = known-law (messagesShown b) _ .1 (rw (mails-many b msgs q r, mail-line b msgs q r) at (h q (mail-exists u q r)))
+      to : ((q : Place) → InRings u Tasks q → lineKnown b Tasks (anchor q) ≡ true) → ((m : ℕ) → In m (u .mailboxes) → lineKnown b Messages (anchor (mail m)) ≡ true) → ((p : ℕ) → In p (poolsShown b) → poolKnown b p ≡ true)
+          → (q : Place) → Exists u q → Each q
+      to f g k (readyAt p) r = task-known (readyAt p) (r, refl) .0 (f (readyAt p) (r, refl))
+      to f g k (waiters i o) r = task-known (waiters i o) (r, refl) .0 (f (waiters i o) (r, refl))
+      to f g k (mail m) r = mail-known m r .0 (g m r)
+      to f g k (freeIn p) r = free-known p r .0 (k p (pool-there p r))
 
   -- ---- a task in its queue
+
+  -- an id stands in a line as its home says just where it stands there as it belongs
+  home-stands : (r : Rings) (q : Place) → InRings u r q → (i : ℕ) → In i (idsShown b r) → (k : ℕ) → k ≡ once (eqb (homeIn b msgs r i) (anchor q)) → k ≡ once (belongsAt (bodyShown b msgs) q i)
+  home-stands r q e i h k z = z ∙ ap once (same (belongsAt (bodyShown b msgs) q i) refl)
+    where
+      B : Decides (belongsAt (bodyShown b msgs) q i) (homeIn b msgs r i ≡ anchor q)
+      B = belongs-home b msgs size R r q e i h
+
+      same : (t : Bool) → belongsAt (bodyShown b msgs) q i ≡ t → eqb (homeIn b msgs r i) (anchor q) ≡ t
+      same true x = eq-eqb _ _ (B .0 x)
+      same false x = ne-eqb _ _ (λ y. false≢true (sym x ∙ B .1 y))
 
   placed-law : (i : ℕ) → In i (tasksShown b) → Decides (placed b (home b i) i) (InPlace v i)
   unfolding placed standsRight viewShown bodyShown
   placed-law i h = decides-as (tasks-in _) (λ f q e t. to f q e t) from-place
     where
-      once-is : (q : Place) → TaskQueue u q → once (eqb (home b i) (anchor q)) ≡ once (belongs (bodyShown b msgs) q i)
-      once-is q r = ap once (same (belongs (bodyShown b msgs) q i) refl)
-        where
-          B : Decides (belongs (bodyShown b msgs) q i) (home b i ≡ anchor q)
-          B = belongs-home (tasksShown b) (anchorsOf (taskRanges b)) (TaskQueue u) (belongs (bodyShown b msgs)) (taskHomeOf b msgs size R) (task-homes b msgs size R) (home b) (task-home-is b msgs size R) q r i h
+      once-is : (q : Place) → InRings u Tasks q → once (eqb (home b i) (anchor q)) ≡ once (belongsAt (bodyShown b msgs) q i)
+      once-is q r = home-stands Tasks q r i h (once (eqb (home b i) (anchor q))) refl
 
-          same : (t : Bool) → belongs (bodyShown b msgs) q i ≡ t → eqb (home b i) (anchor q) ≡ t
-          same true e = eq-eqb _ _ (B .0 e)
-          same false e = ne-eqb _ _ (λ z. false≢true (sym e ∙ B .1 z))
+      stands : (q : Place) → InRings u Tasks q → once (belongsAt (bodyShown b msgs) q i) ≡ once (belongs (bodyShown b msgs) q i) → lineShown b q ≡ lineOf (tasksShown b) (words Layout.next b) (anchor q)
+          → Decides (eqb (times i (lineOf (tasksShown b) (words Layout.next b) (anchor q))) (once (eqb (home b i) (anchor q)))) (Stands v q i)
+      stands q r x y = rw (line-is b msgs q (r .0), y, once-is q r, x) (decides-eq _ _)
 
-      stands : (q : Place) → TaskQueue u q → Decides (eqb (times i (lineOf (tasksShown b) (words Layout.next b) (anchor q))) (once (eqb (home b i) (anchor q)))) (Stands v q i)
-      stands q r = rw (task-line b msgs q r, once-is q r) (decides-eq _ _)
+      ready : (p : ℕ) → Exists u (readyAt p) → Decides (eqb (times i (lineOf (tasksShown b) (words Layout.next b) (anchor (readyAt p)))) (once (eqb (home b i) (anchor (readyAt p))))) (Stands v (readyAt p) i)
+      ready p e = stands (readyAt p) (e, refl) refl (unfold lineShown in refl)
 
-      to : ((q : Place) → TaskQueue u q → eqb (times i (lineOf (tasksShown b) (words Layout.next b) (anchor q))) (once (eqb (home b i) (anchor q))) ≡ true) → InPlace v i
-      to f (readyAt p) e t = stands (readyAt p) e .0 (f (readyAt p) e)
-      to f (waiters k o) e t = stands (waiters k o) e .0 (f (waiters k o) e)
+      wait : (k : Kind) (o : ℕ) → Exists u (waiters k o) → Decides (eqb (times i (lineOf (tasksShown b) (words Layout.next b) (anchor (waiters k o)))) (once (eqb (home b i) (anchor (waiters k o))))) (Stands v (waiters k o) i)
+      wait k o e = stands (waiters k o) (e, refl) refl (unfold lineShown in refl)
+
+      to : ((q : Place) → InRings u Tasks q → eqb (times i (lineOf (tasksShown b) (words Layout.next b) (anchor q))) (once (eqb (home b i) (anchor q))) ≡ true) → InPlace v i
+      to f (readyAt p) e t = ready p e .0 (f (readyAt p) (e, refl))
+      to f (waiters k o) e t = wait k o e .0 (f (waiters k o) (e, refl))
       to f (mail m) e t = absurd (false≢true t)
+      to f (freeIn p) e t = absurd (false≢true t)
 
-      from-place : InPlace v i → (q : Place) → TaskQueue u q → eqb (times i (lineOf (tasksShown b) (words Layout.next b) (anchor q))) (once (eqb (home b i) (anchor q))) ≡ true
-      from-place f (readyAt p) e = stands (readyAt p) e .1 (f (readyAt p) e refl)
-      from-place f (waiters k o) e = stands (waiters k o) e .1 (f (waiters k o) e refl)
-      from-place f (mail m) e = absurd e
+      from-place : InPlace v i → (q : Place) → InRings u Tasks q → eqb (times i (lineOf (tasksShown b) (words Layout.next b) (anchor q))) (once (eqb (home b i) (anchor q))) ≡ true
+      from-place f (readyAt p) e = ready p (e .0) .1 (f (readyAt p) (e .0) refl)
+      from-place f (waiters k o) e = wait k o (e .0) .1 (f (waiters k o) (e .0) refl)
+      from-place f (mail m) e = absurd (differ (e .1) (λ z. omega arith))
+      from-place f (freeIn p) e = absurd (differ (e .1) (λ z. omega arith))
 
   -- ---- a waiter
 
   module _ (K : (q : Place) → Exists u q → Known (many (bodyShown b msgs) q) (line v q)) where
     mailbox-law : (o : ℕ) → In o (Counts.many b Layout.mailboxes) → Decides (eqb (headNode (words Layout.mailNext b) (mailAnchor o)) 0) (some? (line v (mail o)) ≡ false)
-    mailbox-law o h = rw (at, mail-line b msgs (mail o) r) (first-law (messagesShown b) (words Layout.mailNext b) (anchor (mail o)) k)
+    mailbox-law o h = rw (at, line-is b msgs (mail o) r, is-line) (first-law (messagesShown b) (words Layout.mailNext b) (anchor (mail o)) k)
       where
-        r : MailQueue u (mail o)
+        r : Exists u (mail o)
         r = unfold storeShown in h
 
         at : mailAnchor o ≡ anchor (mail o)
         at = rw (le-leb o maxObjects (omega (arith, h .1, objects-few b msgs size R mailbox))) (unfold anchor in refl)
 
+        is-line : lineShown b (mail o) ≡ lineOf (messagesShown b) (words Layout.mailNext b) (anchor (mail o))
+        is-line = unfold lineShown in refl
+
         k : Known (messagesShown b) (lineOf (messagesShown b) (words Layout.mailNext b) (anchor (mail o)))
-        k = rw (mails-many b msgs (mail o) r, mail-line b msgs (mail o) r) at (K (mail o) r)
+        k = unfold population bodyShown in rw (line-is b msgs (mail o) r, is-line, many-messages b msgs size R) at (K (mail o) r)
 
     object-law : (c : Kind) (n o p m : ℕ) → n ≡ kindNumber c → In o (manyOf b c) → Decides (waitFree b n o p m) (served-beside v (some (on c o (asked c p) (asked c m))) ≡ false)
     unfolding waitFree viewShown bodyShown
@@ -224,6 +274,37 @@ module _ (b msgs : List ℕ) (size : length b ≡ stateWords) (R : Ranges b msgs
   once-law : (j : ℕ) → Decides (messageOnce b j) (HeldOnce v j)
   unfolding messageOnce viewShown tabulate storeShown lineShown anchor ids
   once-law j = rw (whole Layout.mailboxes (few-objects mailbox)) (decides-as (sum-law (messagesShown b) (words Layout.mailNext b) j (mailNode 0) 0 1 (Counts.many b Layout.mailboxes) (omega arith)) (λ h. omega (arith, h)) (λ h. omega (arith, h)))
+
+  -- ---- a pool
+
+  block-law : (p k : ℕ) → In p (length (u .pools)) → In k (entry Layout.size b p) → Decides (blockListed b p k) (Stands v (freeIn p) k)
+  unfolding standsRight viewShown
+  block-law p k r h =
+      rw (node, is-anchor, ids-are b msgs size R Blocks, line-is b msgs (freeIn p) r, is-line, times-block p (belongs (bodyShown b msgs) (freeIn p)) (r .0) k (h .0) (lineOf (idsShown b Blocks) (words Layout.blockNext b) (anchor (freeIn p))), said) (decides-eq _ _)
+    where
+      few-blocks : k ≤ maxBlocks
+      few-blocks = omega (arith, h .1, pool-many p r, R .store .pools p r .1)
+
+      few-pools : p ≤ maxPools
+      few-pools = omega (arith, pools-few b msgs size R, pool-there p r .1)
+
+      node : nodeOfBlock p k ≡ blockNode p k
+      node = rw (le-leb 1 p (r .0), le-leb p maxPools few-pools, le-leb k maxBlocks few-blocks)
+
+      is-anchor : freeAnchor p ≡ anchor (freeIn p)
+      is-anchor = unfold anchor in rw (le-leb p maxPools few-pools)
+
+      is-line : lineShown b (freeIn p) ≡ map (λ x. x - beforePool p) (lineOf (idsShown b Blocks) (words Layout.blockNext b) (anchor (freeIn p)))
+      is-line = unfold lineShown in refl
+
+      said : once (eqb (blockHome b (blockNode p k)) (anchor (freeIn p))) ≡ once (belongs (bodyShown b msgs) (freeIn p) k)
+      said =
+          home-stands Blocks (freeIn p) (r, refl) (blockNode p k) (omega (arith, h .0), omega (arith, few-blocks, r .0, pool-there p r .1)) (once (eqb (blockHome b (blockNode p k)) (anchor (freeIn p)))) refl
+          ∙ ap once (has-block p (belongs (bodyShown b msgs) (freeIn p)) (r .0) k (h .0, few-blocks))
+
+  listed-law : (p : ℕ) → In p (length (u .pools)) → Decides (poolListed b p) (Listed v p)
+  unfolding poolListed viewShown population bodyShown
+  listed-law p r = decides-as (decides-every (entry Layout.size b p) (blockListed b p) (λ k h. block-law p k r h)) (λ f k h. f k (subst (In k) (pool-many p r) h)) (λ f k h. f k (subst (In k) (sym (pool-many p r)) h))
 
 -- ---- the rules in order
 
@@ -288,7 +369,9 @@ module _ (b msgs : List ℕ) (size : length b ≡ stateWords) (low : entry Layou
       ap says (ranged-is v (ranged-law .0 e))
       ∙ rule-law (InPlace v) (in-place? v) (λ i. placed b (home b i) i) H-QUEUE (length (v .body .tasks)) (few b Layout.tasks) _ _
       (rule-law (Alone v) (λ i. Bool-discrete _ false) (unservedOk b) H-SERVED (length (v .body .tasks)) (few b Layout.tasks) _ _
-      (rule-law (HeldOnce v) (λ j. decLe (held j (v .lines .mail)) 1) (messageOnce b) H-TWICE (length (v .body .store .messages)) (few b Layout.messages) _ _ refl
+      (rule-law (HeldOnce v) (λ j. decLe (held j (v .lines .mail)) 1) (messageOnce b) H-TWICE (length (v .body .store .messages)) (few b Layout.messages) _ _
+      (rule-law (Listed v) (listed? v) (poolListed b) H-FREE (length (v .body .store .pools)) (few b Layout.pools) _ _ refl
+      pools (λ p h. listed-law b msgs size R p (subst (In p) (sym pools) h)))
       messages (λ j h. once-law b msgs size R j))
       tasks (λ i h. alone-law b msgs size R (ranged-law .0 e .known) i (subst (In i) whole-tasks h)))
       tasks (λ i h. placed-law b msgs size R i (subst (In i) whole-tasks h))
@@ -307,3 +390,6 @@ module _ (b msgs : List ℕ) (size : length b ≡ stateWords) (low : entry Layou
 
       messages : length (v .body .store .messages) ≡ few b Layout.messages
       messages = length-ids _ (messagesShown b) ∙ sym (whole b msgs size R Layout.messages (messages-few b msgs size R))
+
+      pools : length (v .body .store .pools) ≡ few b Layout.pools
+      pools = length-ids _ (poolsShown b) ∙ sym (whole b msgs size R Layout.pools (omega (arith, pools-few b msgs size R)))

@@ -8,7 +8,13 @@ use native.Mathlib.Omega.{arith}
 use Rattle.rules.specs.Codes.{minus, number}
 use Rattle.check_ranges.specs.Ranges.{every}
 use Rattle.check_ranges.proofs.Steps.{failed, passed}
-use Rattle.check_damage.specs.Damage.{everyIn, codeOf, idsOf, keeps, rules, Told, told, idsFrom, rulesFrom, firstBroken}
+use Rattle.memory_columns.specs.declared.Rings.the-variants.{Blocks}
+use Rattle.memory_columns.specs.Layout as Layout
+use Rattle.memory_columns.specs.Layout.{words}
+use Rattle.memory_queues.specs.Moves.{freeAnchor, nodeOfBlock}
+use Rattle.check_queues.specs.Queues.{idsIn, blockHome}
+use Rattle.check_damage.specs.Lists.{standsRight}
+use Rattle.check_damage.specs.Damage.{blockListed, everyIn, codeOf, idsOf, keeps, rules, Told, told, idsFrom, rulesFrom, firstBroken}
 
 -- ---- ranges of lines
 
@@ -24,6 +30,12 @@ module _ (f : ℕ → Bool) (r : ℕ × ℕ) {t : Bool} (e : t ≡ every (r .1) 
   pub range-last : t ≡ everyIn (r ∷ []) f
   unfolding everyIn
   range-last = e ∙ sym (and-true _)
+
+-- ---- a block in its pool's queue
+
+pub block-right : (b : List ℕ) (p k : ℕ) {x n h a : ℕ} {nx : List ℕ} {t : Bool} → x ≡ nodeOfBlock p k → nx ≡ words Layout.blockNext b → n ≡ idsIn b Blocks → a ≡ freeAnchor p → h ≡ blockHome b x → t ≡ standsRight n nx h x a
+    → t ≡ blockListed b p k
+block-right b p k ex el en ea eh e = e ∙ rw (eh, ex, el, en, ea)
 
 -- ---- rules and their ids
 

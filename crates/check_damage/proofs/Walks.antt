@@ -13,7 +13,7 @@ use borrow.Author.Tests.{eq-eqb, ne-eqb, le-leb, lt-leb}
 use Rattle.rules.specs.Ids.{once, times}
 use Rattle.memory_rings.specs.Rings.{walk, lineOf}
 use Rattle.check_ranges.specs.Ranges.{within}
-use Rattle.check_damage.specs.Lists.{known, standsRight, atMostOnce}
+use Rattle.check_damage.specs.Lists.{shows, known, standsRight, atMostOnce}
 
 module _ (n : ℕ) (nx : List ℕ) (a : ℕ) where
   spent : (left x : ℕ) → left ≤ 0 → walk left n nx a x ≡ []
@@ -36,33 +36,57 @@ module _ (n : ℕ) (nx : List ℕ) (a : ℕ) where
   on zero x h d e = absurd (omega arith)
   on (suc left) x h d e = rw (ne-eqb x a d, e, sub-one)
 
-  -- ---- all nodes are ids
+  -- ---- all nodes show numbers
 
-  -- what is left of the walk decides as the whole line does
-  abbrev pub Deciding : ℕ → ℕ → Type 0
-  Deciding left x = known n (walk left n nx a x) ≡ known n (lineOf n nx a)
+  module _ (low m : ℕ) where
+    -- what is left of the walk decides as the whole line does
+    abbrev pub Deciding : ℕ → ℕ → Type 0
+    Deciding left x = known low m (walk left n nx a x) ≡ known low m (lineOf n nx a)
 
-  pub deciding-starts : {x : ℕ} → x ≡ getD nx a 0 → Deciding (n + 1) x
-  unfolding lineOf
-  deciding-starts e = rw (e, add-one)
+    pub deciding-starts : {x : ℕ} → x ≡ getD nx a 0 → Deciding (n + 1) x
+    unfolding lineOf
+    deciding-starts e = rw (e, add-one)
 
-  module _ (left x : ℕ) (g : Deciding left x) where
-    pub known-spent : left ≤ 0 → true ≡ known n (lineOf n nx a)
-    unfolding known
-    known-spent h = ap (known n) (sym (spent left x h)) ∙ g
-
-    pub known-back : x ≡ a → true ≡ known n (lineOf n nx a)
-    unfolding known
-    known-back e = ap (known n) (sym (back left x e)) ∙ g
-
-    module _ (h : 0 < left) (d : x ≢ a) where
-      pub known-stray : within x n ≡ false → false ≡ known n (lineOf n nx a)
+    module _ (left x : ℕ) (g : Deciding left x) where
+      pub known-spent : left ≤ 0 → true ≡ known low m (lineOf n nx a)
       unfolding known
-      known-stray e = rw e at (ap (known n) (sym (stray left x h d e)) ∙ g)
+      known-spent h = ap (known low m) (sym (spent left x h)) ∙ g
 
-      pub known-on : within x n ≡ true → {y : ℕ} → y ≡ getD nx x 0 → Deciding (left - 1) y
+      pub known-back : x ≡ a → true ≡ known low m (lineOf n nx a)
       unfolding known
-      known-on e f = rw f (ap (λ t. t && known n (walk (left - 1) n nx a (getD nx x 0))) (sym e) ∙ ap (known n) (sym (on left x h d e)) ∙ g)
+      known-back e = ap (known low m) (sym (back left x e)) ∙ g
+
+      module _ (h : 0 < left) (d : x ≢ a) where
+        -- the rest of the walk from x on, whatever it is
+        behind : List ℕ
+        behind = cond (within x n) (walk (left - 1) n nx a (getD nx x 0)) []
+
+        from-here : walk left n nx a x ≡ x ∷ behind
+        unfolding behind
+        from-here = go (within x n) refl
+          where
+            go : (t : Bool) → within x n ≡ t → walk left n nx a x ≡ x ∷ cond t (walk (left - 1) n nx a (getD nx x 0)) []
+            go true e = on left x h d e
+            go false e = stray left x h d e
+
+        test : (shows low m x && known low m behind) ≡ known low m (lineOf n nx a)
+        unfolding known
+        test = ap (known low m) (sym from-here) ∙ g
+
+        pub known-wrong : shows low m x ≡ false → false ≡ known low m (lineOf n nx a)
+        known-wrong e = ap (λ t. t && known low m behind) (sym e) ∙ test
+
+        module _ (s : shows low m x ≡ true) where
+          rest : known low m behind ≡ known low m (lineOf n nx a)
+          rest = ap (λ t. t && known low m behind) (sym s) ∙ test
+
+          pub known-stray : within x n ≡ false → true ≡ known low m (lineOf n nx a)
+          unfolding known behind
+          known-stray e = rw e at rest
+
+          pub known-on : within x n ≡ true → {y : ℕ} → y ≡ getD nx x 0 → Deciding (left - 1) y
+          unfolding behind
+          known-on e f = rw f (rw e at rest)
 
   -- ---- how often i stands there
 

@@ -4,12 +4,15 @@ use mathlib.Core.List.{List, [], _∷_}
 use Prim.Native.Nat.{ℕ, zero, suc, _+_}
 use lib.Dec.{eqb}
 use lib.IntN.{ℤ}
-use Rattle.rules.specs.Codes.{number, H-NUMBER, H-QUEUE, H-SERVED, H-TWICE}
+use Rattle.rules.specs.Codes.{number, H-NUMBER, H-QUEUE, H-SERVED, H-TWICE, H-FREE}
 use Rattle.memory_rings.specs.Rings.{lineOf}
+use Rattle.memory_columns.specs.declared.Rings.{Rings}
+use Rattle.memory_columns.specs.declared.Rings.the-variants.{Tasks, Messages, Blocks}
 use Rattle.memory_columns.specs.Layout as Layout
-use Rattle.memory_columns.specs.Layout.{maxMessages, readyNode, waitNode, mailNode, words, entry, atMost}
+use Rattle.memory_columns.specs.Layout.{maxMessages, readyNode, waitNode, mailNode, freeNode, beforePool, nextOf, words, entry, atMost}
+use Rattle.memory_queues.specs.Moves.{freeAnchor, nodeOfBlock}
 use Rattle.check_ranges.specs.Ranges.{every, many, rangesOk}
-use Rattle.check_queues.specs.Queues.{home}
+use Rattle.check_queues.specs.Queues.{home, blockHome, idsIn}
 use Rattle.check_state.specs.Unserved.{unservedOk}
 use Rattle.check_damage.specs.Lists.{known, standsRight, atMostOnce}
 
@@ -34,37 +37,55 @@ mailLines b = (mailNode 0, few b Layout.mailboxes) ∷ []
 
 -- ---- numbers
 
+-- of tasks and of messages a node is the number
+abbrev pub lineKnown : List ℕ → Rings → ℕ → Bool
+lineKnown b r a = known 0 (idsIn b r) (lineOf (idsIn b r) (words (nextOf r) b) a)
+
 abbrev pub tasksKnown : List ℕ → Bool
-tasksKnown b = everyIn (taskLines b) (λ a. known (many b Layout.tasks) (lineOf (many b Layout.tasks) (words Layout.next b) a))
+tasksKnown b = everyIn (taskLines b) (lineKnown b Tasks)
 
 abbrev pub mailsKnown : List ℕ → Bool
-mailsKnown b = everyIn (mailLines b) (λ a. known (many b Layout.messages) (lineOf (many b Layout.messages) (words Layout.mailNext b) a))
+mailsKnown b = everyIn (mailLines b) (lineKnown b Messages)
+
+-- a pool's queue has its own blocks alone, as many as it has
+abbrev pub poolKnown : List ℕ → ℕ → Bool
+poolKnown b p = known (beforePool p) (entry Layout.size b p) (lineOf (idsIn b Blocks) (words Layout.blockNext b) (freeNode p))
+
+abbrev pub poolsKnown : List ℕ → Bool
+poolsKnown b = every (few b Layout.pools) 1 (poolKnown b)
 
 unfoldable pub numbersOk : List ℕ → List ℕ → Bool
-numbersOk b msgs = rangesOk b msgs && (tasksKnown b && mailsKnown b)
+numbersOk b msgs = rangesOk b msgs && (tasksKnown b && (mailsKnown b && poolsKnown b))
 
 -- ---- the rules that name an id
 
 -- the task i, whose home is the anchor a
 unfoldable pub placed : List ℕ → ℕ → ℕ → Bool
-placed b a i = everyIn (taskLines b) (standsRight (many b Layout.tasks) (words Layout.next b) a i)
+placed b a i = everyIn (taskLines b) (standsRight (idsIn b Tasks) (words Layout.next b) a i)
 
 unfoldable pub messageOnce : List ℕ → ℕ → Bool
-messageOnce b j = atMostOnce (many b Layout.messages) (words Layout.mailNext b) j (mailNode 0) 0 1 (few b Layout.mailboxes)
+messageOnce b j = atMostOnce (idsIn b Messages) (words Layout.mailNext b) j (mailNode 0) 0 1 (few b Layout.mailboxes)
+
+-- block k of pool p, in the pool's queue
+abbrev pub blockListed : List ℕ → ℕ → ℕ → Bool
+blockListed b p k = standsRight (idsIn b Blocks) (words Layout.blockNext b) (blockHome b (nodeOfBlock p k)) (nodeOfBlock p k) (freeAnchor p)
+
+unfoldable pub poolListed : List ℕ → ℕ → Bool
+poolListed b p = every (entry Layout.size b p) 1 (blockListed b p)
 
 -- the rule of a number: its code, how many ids, and its test
 abbrev pub codeOf : ℕ → ℤ
-codeOf r = cond (eqb r 0) (number H-QUEUE) (cond (eqb r 1) (number H-SERVED) (number H-TWICE))
+codeOf r = cond (eqb r 0) (number H-QUEUE) (cond (eqb r 1) (number H-SERVED) (cond (eqb r 2) (number H-TWICE) (number H-FREE)))
 
 abbrev pub idsOf : List ℕ → ℕ → ℕ
-idsOf b r = cond (eqb r 2) (few b Layout.messages) (few b Layout.tasks)
+idsOf b r = cond (eqb r 2) (few b Layout.messages) (cond (eqb r 3) (few b Layout.pools) (few b Layout.tasks))
 
 abbrev pub keeps : List ℕ → ℕ → ℕ → Bool
-keeps b r i = cond (eqb r 0) (placed b (home b i) i) (cond (eqb r 1) (unservedOk b i) (messageOnce b i))
+keeps b r i = cond (eqb r 0) (placed b (home b i) i) (cond (eqb r 1) (unservedOk b i) (cond (eqb r 2) (messageOnce b i) (poolListed b i)))
 
 -- how many such rules there are
 abbrev pub rules : ℕ
-rules = 3
+rules = 4
 
 -- what is told
 pub record Told : Type 0 where

@@ -1,16 +1,20 @@
--- Lines read off links that may be damaged, for any links: are all of their nodes ids, and does an id stand where it belongs?
+-- Lines read off links that may be damaged, for any links: do all of their nodes show numbers of what there is, and does an id stand where it belongs?
 use mathlib.Core.Bool.{Bool, true, false, cond, _&&_}
 use mathlib.Core.List.{List, [], _∷_}
-use Prim.Native.Nat.{ℕ, zero, suc, _+_}
+use Prim.Native.Nat.{ℕ, zero, suc, _+_, _-_}
 use lib.Dec.{eqb, leb}
 use Rattle.rules.specs.Ids.{once, times}
 use Rattle.memory_rings.specs.Rings.{lineOf}
 use Rattle.check_ranges.specs.Ranges.{within}
 
--- every node of the line is an id
-unfoldable pub known : ℕ → List ℕ → Bool
-known n [] = true
-known n (x ∷ l) = within x n && known n l
+-- a node shows one of the numbers 1 to m, behind the nodes up to `low`
+abbrev pub shows : ℕ → ℕ → ℕ → Bool
+shows low m x = within (x - low) m
+
+-- every node of the line does
+unfoldable pub known : ℕ → ℕ → List ℕ → Bool
+known low m [] = true
+known low m (x ∷ l) = shows low m x && known low m l
 
 -- i stands in the line of anchor a once if that is its home, else not at all
 unfoldable pub standsRight : ℕ → List ℕ → ℕ → ℕ → ℕ → Bool

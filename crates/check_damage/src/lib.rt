@@ -5,16 +5,22 @@ mod lines;
 use crate::lines::all_known;
 use crate::lines::all_right;
 use crate::lines::at_most_once;
+use crate::lines::line_known;
+use crate::lines::stands_right;
+use check_queues::block_home;
 use check_queues::home;
+use check_queues::ids_in;
 use check_ranges::ranges_ok;
 use check_state::accepts;
 use check_state::unserved_ok;
 use memory_columns::CLOCK_LOW;
 use memory_columns::FLAG;
 use memory_columns::FLAGS;
+use memory_columns::FREE_ANCHORS;
 use memory_columns::MAIL_ANCHORS;
 use memory_columns::MAILBOX;
 use memory_columns::MAILBOXES;
+use memory_columns::MAX_BLOCKS;
 use memory_columns::MAX_MESSAGES;
 use memory_columns::MAX_OBJECTS;
 use memory_columns::MESSAGE_WORDS;
@@ -23,31 +29,35 @@ use memory_columns::POOL;
 use memory_columns::POOLS;
 use memory_columns::PRIORITIES;
 use memory_columns::READY_ANCHORS;
+use memory_columns::Rings;
 use memory_columns::SEMAPHORE;
 use memory_columns::SEMAPHORES;
 use memory_columns::STATE_WORDS;
 use memory_columns::TASKS;
 use memory_columns::WAIT_ANCHORS;
 use memory_columns::at_most;
+use memory_columns::size;
 use memory_columns::system;
+use memory_queues::block_node;
+use memory_queues::free_anchor;
 use memory_queues::links;
-use memory_queues::mail_links;
 ghost use mathlib.Core.Path.{_≡_};
 ghost use Prim.Native.Nat.{_+_, _≤_};
 ghost use Rattle.rules.specs.Codes.{number};
 ghost use Rattle.rules.specs.Breach as Rules;
 ghost use Rattle.memory_rings.specs.Rings.{lineOf};
+ghost use Rattle.memory_columns.specs.declared.Rings.the-variants.{Tasks};
 ghost use Rattle.memory_columns.specs.Layout as Layout;
-ghost use Rattle.memory_columns.specs.Layout.{maxMessages, words as wordsOf};
+ghost use Rattle.memory_columns.specs.Layout.{maxMessages, nextOf, words as wordsOf};
 ghost use Rattle.memory_picture.specs.Picture.{viewShown};
-ghost use Rattle.check_ranges.specs.Ranges.{every, many};
-ghost use Rattle.check_queues.specs.Queues.{home as homeOf};
+ghost use Rattle.check_ranges.specs.Ranges.{every};
+ghost use Rattle.check_queues.specs.Queues.{home as homeOf, idsIn};
 ghost use Rattle.check_damage.specs.Lists.{known, standsRight};
 ghost use Rattle.check_damage.specs.Damage as Damage;
 ghost use Rattle.check_damage.specs.Judged.{Judged};
 
 // A number out of range, or a breach that no other code names; a task missing from, doubled in or foreign to a queue; a waiter beside what
-// would serve it; a message held twice.
+// would serve it; a message held twice; a free block missing from, doubled in or foreign to the queue of its pool.
 pub const H_NUMBER: i32 = -20;
 
 pub const H_QUEUE: i32 = -21;
@@ -56,6 +66,8 @@ pub const H_SERVED: i32 = -22;
 
 pub const H_TWICE: i32 = -23;
 
+pub const H_FREE: i32 = -24;
+
 // The rules that name an id, in order.
 const TASK_PLACED: u32 = 0;
 
@@ -63,7 +75,9 @@ const TASK_UNSERVED: u32 = 1;
 
 const MESSAGE_ONCE: u32 = 2;
 
-const RULES: u32 = 3;
+const POOL_LISTED: u32 = 3;
+
+const RULES: u32 = 4;
 
 // The nodes before the first anchors of the waiters on each kind of object.
 const SEMAPHORE_ANCHORS: u32 = WAIT_ANCHORS + MAX_OBJECTS * SEMAPHORE;
@@ -92,41 +106,69 @@ fn few(words: &[u32; STATE_WORDS], k: u32) -> u32
 
 // ---- numbers
 
-// Nobody but tasks that exist in the queues behind `before`, as many as the count k says.
-fn queues_known(words: &[u32; STATE_WORDS], before: u32, k: u32) -> bool
+// Nobody but those that exist in the queues behind `before`, as many as the count k says.
+fn queues_known(words: &[u32; STATE_WORDS], rings: Rings, before: u32, k: u32) -> bool
     requires { ⌜ before ≤ maxMessages ⌝ }
-    ensures { λ r. ⌜ r ≡ every (Damage.few (now (words .entry)) k) 1 (λ o. known (many (now (words .entry)) Layout.tasks) (lineOf (many (now (words .entry)) Layout.tasks) (wordsOf Layout.next (now (words .entry))) (before + o))) ⌝ }
+    ensures { λ r. ⌜ r ≡ every (Damage.few (now (words .entry)) k) 1 (λ o. known 0 (idsIn (now (words .entry)) rings) (lineOf (idsIn (now (words .entry)) rings) (wordsOf (nextOf rings) (now (words .entry))) (before + o))) ⌝ }
 {
-    all_known(links(words), system(words, TASKS), before, few(words, k))
+    all_known(
+        links(words, rings),
+        ids_in(words, rings),
+        before,
+        few(words, k),
+    )
 }
 
 fn tasks_known(words: &[u32; STATE_WORDS]) -> bool
     ensures { λ r. ⌜ r ≡ Damage.tasksKnown (now (words .entry)) ⌝ }
 {
-    if !queues_known(words, READY_ANCHORS, PRIORITIES) {
+    if !queues_known(words, Rings::Tasks, READY_ANCHORS, PRIORITIES) {
         return false;
     }
-    if !queues_known(words, SEMAPHORE_ANCHORS, SEMAPHORES) {
+    if !queues_known(words, Rings::Tasks, SEMAPHORE_ANCHORS, SEMAPHORES) {
         return false;
     }
-    if !queues_known(words, FLAG_ANCHORS, FLAGS) {
+    if !queues_known(words, Rings::Tasks, FLAG_ANCHORS, FLAGS) {
         return false;
     }
-    if !queues_known(words, MAILBOX_ANCHORS, MAILBOXES) {
+    if !queues_known(words, Rings::Tasks, MAILBOX_ANCHORS, MAILBOXES) {
         return false;
     }
-    queues_known(words, POOL_ANCHORS, POOLS)
+    queues_known(words, Rings::Tasks, POOL_ANCHORS, POOLS)
 }
 
 fn mails_known(words: &[u32; STATE_WORDS]) -> bool
     ensures { λ r. ⌜ r ≡ Damage.mailsKnown (now (words .entry)) ⌝ }
 {
-    all_known(
-        mail_links(words),
-        system(words, MESSAGES),
-        MAIL_ANCHORS,
-        few(words, MAILBOXES),
+    queues_known(words, Rings::Messages, MAIL_ANCHORS, MAILBOXES)
+}
+
+// Nothing but blocks of pool p, as many as it has, in its queue of free blocks.
+fn pool_known(words: &[u32; STATE_WORDS], p: u32) -> bool
+    requires { ⌜ (1 ≤ p) × (p ≤ maxMessages) ⌝ }
+    ensures { λ r. ⌜ r ≡ Damage.poolKnown (now (words .entry)) p ⌝ }
+{
+    line_known(
+        links(words, Rings::Blocks),
+        ids_in(words, Rings::Blocks),
+        FREE_ANCHORS + p,
+        MAX_BLOCKS * (p - 1),
+        size(words, p),
     )
+}
+
+fn pools_known(words: &[u32; STATE_WORDS]) -> bool
+    ensures { λ r. ⌜ r ≡ Damage.poolsKnown (now (words .entry)) ⌝ }
+{
+    let n = few(words, POOLS);
+    let mut p: u32 = 0;
+    while p < n {
+        p += 1;
+        if !pool_known(words, p) {
+            return false;
+        }
+    }
+    true
 }
 
 // Every number lies in its range, those that stand in queues too.
@@ -139,7 +181,10 @@ fn numbers_ok(words: &[u32; STATE_WORDS], messages: &[u32; MESSAGE_WORDS]) -> bo
     if !tasks_known(words) {
         return false;
     }
-    mails_known(words)
+    if !mails_known(words) {
+        return false;
+    }
+    pools_known(words)
 }
 
 // ---- the rules that name an id
@@ -147,11 +192,11 @@ fn numbers_ok(words: &[u32; STATE_WORDS], messages: &[u32; MESSAGE_WORDS]) -> bo
 // Task t stands as often as it belongs there in the queues behind `before`, as many as the count k says.
 fn placed_in(words: &[u32; STATE_WORDS], before: u32, k: u32, home: u32, t: u32) -> bool
     requires { ⌜ before ≤ maxMessages ⌝ }
-    ensures { λ r. ⌜ r ≡ every (Damage.few (now (words .entry)) k) 1 (λ o. standsRight (many (now (words .entry)) Layout.tasks) (wordsOf Layout.next (now (words .entry))) home t (before + o)) ⌝ }
+    ensures { λ r. ⌜ r ≡ every (Damage.few (now (words .entry)) k) 1 (λ o. standsRight (idsIn (now (words .entry)) Tasks) (wordsOf Layout.next (now (words .entry))) home t (before + o)) ⌝ }
 {
     all_right(
-        links(words),
-        system(words, TASKS),
+        links(words, Rings::Tasks),
+        ids_in(words, Rings::Tasks),
         before,
         few(words, k),
         home,
@@ -190,12 +235,41 @@ fn message_once(words: &[u32; STATE_WORDS], j: u32) -> bool
     ensures { λ r. ⌜ r ≡ Damage.messageOnce (now (words .entry)) j ⌝ }
 {
     at_most_once(
-        mail_links(words),
-        system(words, MESSAGES),
+        links(words, Rings::Messages),
+        ids_in(words, Rings::Messages),
         MAIL_ANCHORS,
         few(words, MAILBOXES),
         j,
     )
+}
+
+// Block k of pool p stands in the pool's queue once if it is free, else not at all.
+fn block_listed(words: &[u32; STATE_WORDS], p: u32, k: u32) -> bool
+    ensures { λ r. ⌜ r ≡ Damage.blockListed (now (words .entry)) p k ⌝ }
+{
+    let x = block_node(p, k);
+    stands_right(
+        links(words, Rings::Blocks),
+        ids_in(words, Rings::Blocks),
+        free_anchor(p),
+        block_home(words, x),
+        x,
+    )
+}
+
+// No free block of pool p is missing or doubled in its queue, and no other stands there.
+fn pool_listed(words: &[u32; STATE_WORDS], p: u32) -> bool
+    ensures { λ r. ⌜ r ≡ Damage.poolListed (now (words .entry)) p ⌝ }
+{
+    let n = size(words, p);
+    let mut k: u32 = 0;
+    while k < n {
+        k += 1;
+        if !block_listed(words, p, k) {
+            return false;
+        }
+    }
+    true
 }
 
 // The rule of a number: its code, how many ids there are, and its test at an id.
@@ -205,7 +279,8 @@ fn code_of(rule: u32) -> i32
     match rule {
         TASK_PLACED => H_QUEUE,
         TASK_UNSERVED => H_SERVED,
-        _ => H_TWICE,
+        MESSAGE_ONCE => H_TWICE,
+        _ => H_FREE,
     }
 }
 
@@ -214,6 +289,7 @@ fn ids_of(words: &[u32; STATE_WORDS], rule: u32) -> u32
 {
     match rule {
         MESSAGE_ONCE => few(words, MESSAGES),
+        POOL_LISTED => few(words, POOLS),
         _ => few(words, TASKS),
     }
 }
@@ -224,7 +300,8 @@ fn keeps(words: &[u32; STATE_WORDS], rule: u32, id: u32) -> bool
     match rule {
         TASK_PLACED => task_placed(words, id),
         TASK_UNSERVED => unserved_ok(words, id),
-        _ => message_once(words, id),
+        MESSAGE_ONCE => message_once(words, id),
+        _ => pool_listed(words, id),
     }
 }
 

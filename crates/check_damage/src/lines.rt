@@ -11,9 +11,16 @@ ghost use Rattle.memory_rings.specs.Rings.{lineOf};
 ghost use Rattle.check_ranges.specs.Ranges.{every};
 ghost use Rattle.check_damage.specs.Lists as Lists;
 
-// Every node in the line of anchor a is an id.
-fn line_known(links: &[u32], n: u32, a: u32) -> bool
-    ensures { λ r. ⌜ r ≡ Lists.known n (lineOf n (nexts (now (links .entry))) a) ⌝ }
+// A node shows one of the numbers 1 to `most`, behind the nodes up to `low`.
+fn shows(x: u32, low: u32, most: u32) -> bool
+    ensures { λ r. ⌜ r ≡ Lists.shows low most x ⌝ }
+{
+    if x <= low { false } else { x - low <= most }
+}
+
+// Every node in the line of anchor a shows such a number.
+pub fn line_known(links: &[u32], n: u32, a: u32, low: u32, most: u32) -> bool
+    ensures { λ r. ⌜ r ≡ Lists.known low most (lineOf n (nexts (now (links .entry))) a) ⌝ }
 {
     let mut x = follow(links, a);
     let mut left = n as usize + 1;
@@ -21,8 +28,11 @@ fn line_known(links: &[u32], n: u32, a: u32) -> bool
         if x == a {
             return true;
         }
-        if !within(x, n) {
+        if !shows(x, low, most) {
             return false;
+        }
+        if !within(x, n) {
+            return true;
         }
         x = follow(links, x);
         left -= 1;
@@ -58,7 +68,7 @@ fn times_in(links: &[u32], n: u32, a: u32, i: u32) -> usize
 }
 
 // The id i stands in the line of anchor a as often as it belongs there: once if that is its home, else not at all.
-fn stands_right(links: &[u32], n: u32, a: u32, home: u32, i: u32) -> bool
+pub fn stands_right(links: &[u32], n: u32, a: u32, home: u32, i: u32) -> bool
     ensures { λ r. ⌜ r ≡ Lists.standsRight n (nexts (now (links .entry))) home i a ⌝ }
 {
     let found = times_in(links, n, a, i);
@@ -69,12 +79,12 @@ fn stands_right(links: &[u32], n: u32, a: u32, home: u32, i: u32) -> bool
 
 pub fn all_known(links: &[u32], n: u32, before: u32, count: u32) -> bool
     requires { ⌜ before + count < 2 ^ 32 ⌝ }
-    ensures { λ r. ⌜ r ≡ every count 1 (λ o. Lists.known n (lineOf n (nexts (now (links .entry))) (before + o))) ⌝ }
+    ensures { λ r. ⌜ r ≡ every count 1 (λ o. Lists.known 0 n (lineOf n (nexts (now (links .entry))) (before + o))) ⌝ }
 {
     let mut o: u32 = 0;
     while o < count {
         o += 1;
-        if !line_known(links, n, before + o) {
+        if !line_known(links, n, before + o, 0, n) {
             return false;
         }
     }

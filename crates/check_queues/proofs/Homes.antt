@@ -1,4 +1,4 @@
--- The check of the queues of one sort, tasks or messages: from clean marks, a survey that marks each id with the anchor of its home decides
+-- The check of the queues of one sort: from clean marks, a survey that marks each id with the anchor of its home decides
 -- that the links are rings and that each line holds just those that belong to it. Assumes nothing.
 use mathlib.Core.Bool.{Bool, true, false, cond, _&&_, false≢true}
 use mathlib.Core.List.{List, [], _∷_, _++_}
@@ -20,7 +20,7 @@ use Rattle.memory_rings.proofs.Lists.{stands-or-out, stands-out, stands-left, s
 use Rattle.memory_rings.proofs.Laws.{once-law, linked-use}
 use Rattle.check_links.proofs.Surveys.{survey-append, marks-law, check-law, from-stands, from-distinct, ranged-is}
 use Rattle.memory_picture.specs.Picture.{anchor}
-use Rattle.memory_picture.proofs.FormHomes.{stands-times, times-stands}
+use Rattle.memory_picture.proofs.Counts.{stands-times, times-stands}
 use Rattle.check_ranges.specs.Ranges.{every}
 use Rattle.check_queues.specs.Queues.{ranges}
 use Rattle.check_ranges.proofs.Decisions.{Decides, decides-as, decides-and, decides-eq, decides-every}
@@ -102,7 +102,7 @@ ids-known : (n : ℕ) (l : List ℕ) → All (IsId n) l → Known n l
 ids-known n [] h = tt
 ids-known n (x ∷ l) h = (h .0, ids-known n l (h .1))
 
-times-none : (i : ℕ) (l : List ℕ) → Out i l → times i l ≡ 0
+pub times-none : (i : ℕ) (l : List ℕ) → Out i l → times i l ≡ 0
 unfolding times
 times-none i [] o = refl
 times-none i (x ∷ l) o = rw (ne-eqb x i (o .0), times-none i l (o .1))

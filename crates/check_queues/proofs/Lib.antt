@@ -1,4 +1,5 @@
 -- Laws of the check of queues.
 pub mod Homes
-pub mod Queued
+pub mod BlockLines
+pub mod Standing
 pub mod Steps

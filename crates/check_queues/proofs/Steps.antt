@@ -1,12 +1,19 @@
 -- The steps of the survey: a range that fails decides, a range that passes leaves the rest. Assumes nothing.
-use Prim.Native.Nat.{ℕ}
-use mathlib.Core.Path.{_≡_, refl, _∙_}
+use Prim.Native.Nat.{ℕ, _+_, _-_, _/_, _%_, _^_}
+use native.Mathlib.Numerals.{add-one, sub-one}
+use mathlib.Core.Logic.{_≢_}
+use mathlib.Core.Path.{_≡_, refl, sym, ap, _∙_}
+use lib.Dec.{eqb}
+use borrow.Author.Tests.{eq-eqb, ne-eqb}
+use Rattle.memory_columns.specs.Layout as Layout
+use Rattle.memory_columns.specs.Layout.{maxBlocks, entry}
+use Rattle.memory_queues.specs.Moves.{freeAnchor}
 use mathlib.Core.Bool.{Bool, true, false, cond, not, _&&_, and-false}
 use mathlib.Core.List.{List, [], _∷_}
 use Rattle.check_links.specs.Survey.{Survey, ranged, loose}
 use Rattle.check_links.specs.Survey as survey
 use Rattle.check_ranges.specs.Ranges.{every}
-use Rattle.check_queues.specs.Queues.{ranges}
+use Rattle.check_queues.specs.Queues.{ranges, blockFree, blockHome}
 use Rattle.check_ranges.proofs.Steps.{failed, passed, also}
 
 -- ---- surveys
@@ -33,6 +40,30 @@ module _ (n : ℕ) (l : List ℕ) (a k : ℕ) (m : List ℕ) {t : Bool} {m₁ : 
       go : (u : Bool) → ranged n l a k m .ok ≡ u → Told t m₁ (cond u (survey.passed (ranged n l a k m .marks)) (ranged n l a k m))
       go true z = (e .0 ∙ z, e .1)
       go false z = e
+
+-- the survey of the rings of a sort that is known
+pub told-by : {A : Type 0} {x y : A} {t : Bool} {m : List ℕ} (f : A → Survey) → x ≡ y → Told t m (f y) → Told t m (f x)
+told-by f e h = (h .0 ∙ sym (ap (λ z. f z .ok) e), h .1 ∙ sym (ap (λ z. f z .marks) e))
+
+-- ---- the home of a block, as the code tests it
+
+module _ (b : List ℕ) (x : ℕ) where
+  pub block-none : x ≡ 0 → 0 ≡ blockHome b x
+  unfolding blockHome
+  block-none e = rw e
+
+  module _ (ne : x ≢ 0) {m : ℕ} (e : m ≡ entry Layout.free b ((x - 1) / maxBlocks + 1)) where
+    -- the pool and the block of the node, as the definition has them
+    test : eqb ((m / 2 ^ ((x - 1) % maxBlocks)) % 2) 1 ≡ blockFree b x
+    test = rw (e, add-one, sub-one)
+
+    pub block-free : (m / 2 ^ ((x - 1) % maxBlocks)) % 2 ≡ 1 → {a : ℕ} → a ≡ freeAnchor ((x - 1) / maxBlocks + 1) → a ≡ blockHome b x
+    unfolding blockHome
+    block-free h f = f ∙ rw (ne-eqb x 0 ne, ← test, eq-eqb ((m / 2 ^ ((x - 1) % maxBlocks)) % 2) 1 h, add-one, sub-one)
+
+    pub block-out : (m / 2 ^ ((x - 1) % maxBlocks)) % 2 ≢ 1 → 0 ≡ blockHome b x
+    unfolding blockHome
+    block-out h = rw (ne-eqb x 0 ne, ← test, ne-eqb ((m / 2 ^ ((x - 1) % maxBlocks)) % 2) 1 h)
 
 -- a survey, no loose ends, and everyone at home
 abbrev pub Queued : Survey → ℕ → List ℕ → (List ℕ → ℕ → Bool) → Bool

@@ -1,5 +1,7 @@
-// The second part of the check of a memory: each task and message stands where it belongs, once, and nowhere else. Each ring is walked once.
+// The second part of the check of a memory: each task, message and free block stands where it belongs, once, and nowhere else. Each ring is walked
+// once. One set of functions serves the rings of every sort.
 use memory_columns::FIRST_FLAG;
+use memory_columns::FIRST_FREE;
 use memory_columns::FIRST_MAIL;
 use memory_columns::FIRST_MAILBOX;
 use memory_columns::FIRST_POOL;
@@ -7,42 +9,48 @@ use memory_columns::FIRST_READY;
 use memory_columns::FIRST_SEMAPHORE;
 use memory_columns::FLAGS;
 use memory_columns::MAILBOXES;
+use memory_columns::MAX_BLOCKS;
+use memory_columns::MAX_POOLS;
 use memory_columns::MESSAGE_WORDS;
 use memory_columns::MESSAGES;
 use memory_columns::POOLS;
 use memory_columns::PRIORITIES;
 use memory_columns::READY;
+use memory_columns::Rings;
 use memory_columns::SEMAPHORE;
 use memory_columns::SEMAPHORES;
 use memory_columns::STATE_WORDS;
 use memory_columns::TASKS;
 use memory_columns::WAIT;
 use memory_columns::WAIT_SUSPEND;
+use memory_columns::at_most;
+use memory_columns::free;
 use memory_columns::kind;
 use memory_columns::object;
 use memory_columns::priority;
 use memory_columns::status;
 use memory_columns::system;
 use memory_objects::marks::mark_of;
+use memory_queues::free_anchor;
 use memory_queues::links;
 use memory_queues::mail_anchor;
-use memory_queues::mail_links;
 use memory_queues::ready_anchor;
 use memory_queues::wait_anchor;
 ghost use mathlib.Core.Path.{_≡_};
 ghost use lib.ListN.{getD};
+ghost use Rattle.memory_columns.specs.declared.Rings.the-variants.{Tasks};
 ghost use Rattle.check_links.specs.Survey.{ranged};
-ghost use Rattle.memory_columns.specs.Layout as Layout;
+ghost use Rattle.memory_columns.specs.Layout.{linksOf};
 ghost use Rattle.memory_columns.specs.Layout.{words as wordsOf};
 ghost use Rattle.check_ranges.specs.Ranges.{every, many};
 ghost use Rattle.check_queues.specs.Queues as Queues;
 
-// A mark for each task and each message; entry 0 is unused.
-const TASK_MARKS: usize = 33;
+// A mark for each id of a sort; entry 0 is unused.
+const MARKS: usize = 257;
 
-const MESSAGE_MARKS: usize = 257;
+// ---- homes: the anchor of the queue to which one belongs, 0 if to none
 
-// The anchor of the queue of a wait, 0 for a sleeper's.
+// Of a wait; a sleeper's is 0.
 fn wait_home(kind: u32, object: u32) -> u32
     ensures { λ r. ⌜ r ≡ Queues.waitHome kind object ⌝ }
 {
@@ -53,7 +61,7 @@ fn wait_home(kind: u32, object: u32) -> u32
     }
 }
 
-// The anchor of the queue to which a task belongs, 0 if to none.
+// Of a task.
 pub fn home(words: &[u32; STATE_WORDS], t: u32) -> u32
     ensures { λ r. ⌜ r ≡ Queues.home (now (words .entry)) t ⌝ }
 {
@@ -70,14 +78,70 @@ pub fn home(words: &[u32; STATE_WORDS], t: u32) -> u32
     0
 }
 
-// Walks the rings of the anchors from `anchor` on, as many as the count k says, and marks each task with its ring's anchor.
-fn survey_queues(words: &[u32; STATE_WORDS], anchor: u32, k: u32, marks: &mut [u32]) -> bool
-    ensures { λ r. ⌜ r ≡ ranged (many (now (words .entry)) Layout.tasks) (wordsOf Layout.links (now (words .entry))) anchor (many (now (words .entry)) k) (now (marks .entry)) .ok ⌝ }
-    ensures { λ _. ⌜ now (marks .exit) ≡ ranged (many (now (words .entry)) Layout.tasks) (wordsOf Layout.links (now (words .entry))) anchor (many (now (words .entry)) k) (now (marks .entry)) .marks ⌝ }
+// Of a message, by its mark, the number of a mailbox.
+fn mail_home(mark: u32) -> u32
+    ensures { λ r. ⌜ r ≡ Queues.markAnchor mark ⌝ }
+{
+    if mark == 0 { 0 } else { mail_anchor(mark) }
+}
+
+// Of the block of a node, by its mark: it is free.
+pub fn block_home(words: &[u32; STATE_WORDS], x: u32) -> u32
+    ensures { λ r. ⌜ r ≡ Queues.blockHome (now (words .entry)) x ⌝ }
+{
+    if x == 0 {
+        return 0;
+    }
+    let p = (x - 1) / MAX_BLOCKS + 1;
+    if (free(words, p) >> ((x - 1) % MAX_BLOCKS)) % 2 == 1 {
+        return free_anchor(p);
+    }
+    0
+}
+
+// Of an id of a sort.
+fn home_of(
+    words: &[u32; STATE_WORDS],
+    messages: &[u32; MESSAGE_WORDS],
+    rings: Rings,
+    i: u32,
+) -> u32
+    ensures { λ r. ⌜ r ≡ Queues.homeIn (now (words .entry)) (now (messages .entry)) rings i ⌝ }
+{
+    match rings {
+        Rings::Tasks => home(words, i),
+        Rings::Messages => mail_home(mark_of(messages, i)),
+        Rings::Blocks => block_home(words, i),
+    }
+}
+
+// ---- the rings of a sort
+
+// How many of their nodes are ids; of a number of pools out of range none.
+pub fn ids_in(words: &[u32; STATE_WORDS], rings: Rings) -> u32
+    ensures { λ r. ⌜ r ≡ Queues.idsIn (now (words .entry)) rings ⌝ }
+{
+    match rings {
+        Rings::Tasks => system(words, TASKS),
+        Rings::Messages => system(words, MESSAGES),
+        Rings::Blocks => MAX_BLOCKS * at_most(system(words, POOLS), MAX_POOLS),
+    }
+}
+
+// Walks the rings of the anchors from `anchor` on, as many as the count k says, and marks each id with its ring's anchor.
+fn survey_queues(
+    words: &[u32; STATE_WORDS],
+    rings: Rings,
+    anchor: u32,
+    k: u32,
+    marks: &mut [u32],
+) -> bool
+    ensures { λ r. ⌜ r ≡ ranged (Queues.idsIn (now (words .entry)) rings) (wordsOf (linksOf rings) (now (words .entry))) anchor (many (now (words .entry)) k) (now (marks .entry)) .ok ⌝ }
+    ensures { λ _. ⌜ now (marks .exit) ≡ ranged (Queues.idsIn (now (words .entry)) rings) (wordsOf (linksOf rings) (now (words .entry))) anchor (many (now (words .entry)) k) (now (marks .entry)) .marks ⌝ }
 {
     check_links::survey(
-        links(words),
-        system(words, TASKS),
+        links(words, rings),
+        ids_in(words, rings),
         anchor,
         system(words, k),
         marks,
@@ -86,22 +150,34 @@ fn survey_queues(words: &[u32; STATE_WORDS], anchor: u32, k: u32, marks: &mut [u
 
 // All ready queues and wait queues in use.
 fn survey_tasks(words: &[u32; STATE_WORDS], marks: &mut [u32]) -> bool
-    ensures { λ r. ⌜ r ≡ Queues.ranges (many (now (words .entry)) Layout.tasks) (wordsOf Layout.links (now (words .entry))) (Queues.taskRanges (now (words .entry))) (now (marks .entry)) .ok ⌝ }
-    ensures { λ _. ⌜ now (marks .exit) ≡ Queues.ranges (many (now (words .entry)) Layout.tasks) (wordsOf Layout.links (now (words .entry))) (Queues.taskRanges (now (words .entry))) (now (marks .entry)) .marks ⌝ }
+    ensures { λ r. ⌜ r ≡ Queues.rangesIn (now (words .entry)) Tasks (now (marks .entry)) .ok ⌝ }
+    ensures { λ _. ⌜ now (marks .exit) ≡ Queues.rangesIn (now (words .entry)) Tasks (now (marks .entry)) .marks ⌝ }
 {
-    if !survey_queues(words, FIRST_READY, PRIORITIES, marks) {
+    if !survey_queues(words, Rings::Tasks, FIRST_READY, PRIORITIES, marks) {
         return false;
     }
-    if !survey_queues(words, FIRST_SEMAPHORE, SEMAPHORES, marks) {
+    if !survey_queues(words, Rings::Tasks, FIRST_SEMAPHORE, SEMAPHORES, marks) {
         return false;
     }
-    if !survey_queues(words, FIRST_FLAG, FLAGS, marks) {
+    if !survey_queues(words, Rings::Tasks, FIRST_FLAG, FLAGS, marks) {
         return false;
     }
-    if !survey_queues(words, FIRST_MAILBOX, MAILBOXES, marks) {
+    if !survey_queues(words, Rings::Tasks, FIRST_MAILBOX, MAILBOXES, marks) {
         return false;
     }
-    survey_queues(words, FIRST_POOL, POOLS, marks)
+    survey_queues(words, Rings::Tasks, FIRST_POOL, POOLS, marks)
+}
+
+// All queues of a sort.
+fn survey_all(words: &[u32; STATE_WORDS], rings: Rings, marks: &mut [u32]) -> bool
+    ensures { λ r. ⌜ r ≡ Queues.rangesIn (now (words .entry)) rings (now (marks .entry)) .ok ⌝ }
+    ensures { λ _. ⌜ now (marks .exit) ≡ Queues.rangesIn (now (words .entry)) rings (now (marks .entry)) .marks ⌝ }
+{
+    match rings {
+        Rings::Tasks => survey_tasks(words, marks),
+        Rings::Messages => survey_queues(words, Rings::Messages, FIRST_MAIL, MAILBOXES, marks),
+        Rings::Blocks => survey_queues(words, Rings::Blocks, FIRST_FREE, POOLS, marks),
+    }
 }
 
 fn mark_at(marks: &[u32], i: u32) -> u32
@@ -111,89 +187,48 @@ fn mark_at(marks: &[u32], i: u32) -> u32
     if k < marks.len() { marks[k] } else { 0 }
 }
 
-// Task t is marked with the anchor of the queue to which it belongs.
-fn task_home_ok(words: &[u32; STATE_WORDS], marks: &[u32], t: u32) -> bool
-    ensures { λ r. ⌜ r ≡ Queues.taskHome (now (words .entry)) (now (marks .entry)) t ⌝ }
+// Id i is marked with the anchor of the queue to which it belongs.
+fn home_ok(
+    words: &[u32; STATE_WORDS],
+    messages: &[u32; MESSAGE_WORDS],
+    rings: Rings,
+    marks: &[u32],
+    i: u32,
+) -> bool
+    ensures { λ r. ⌜ r ≡ Queues.atHome (now (words .entry)) (now (messages .entry)) rings (now (marks .entry)) i ⌝ }
 {
-    mark_at(marks, t) == home(words, t)
+    mark_at(marks, i) == home_of(words, messages, rings, i)
 }
 
-fn task_homes_ok(words: &[u32; STATE_WORDS], marks: &[u32], n: u32) -> bool
-    ensures { λ r. ⌜ r ≡ every n 1 (Queues.taskHome (now (words .entry)) (now (marks .entry))) ⌝ }
+fn homes_ok(
+    words: &[u32; STATE_WORDS],
+    messages: &[u32; MESSAGE_WORDS],
+    rings: Rings,
+    marks: &[u32],
+    n: u32,
+) -> bool
+    ensures { λ r. ⌜ r ≡ every n 1 (Queues.atHome (now (words .entry)) (now (messages .entry)) rings (now (marks .entry))) ⌝ }
 {
     let mut i: u32 = 0;
     while i < n {
         i += 1;
-        if !task_home_ok(words, marks, i) {
+        if !home_ok(words, messages, rings, marks, i) {
             return false;
         }
     }
     true
 }
 
-// Whether every task stands where it belongs, once, and nowhere else.
-pub fn tasks_queued(words: &[u32; STATE_WORDS]) -> bool
-    ensures { λ r. ⌜ r ≡ Queues.tasksQueued (now (words .entry)) ⌝ }
+// Whether each of a sort stands where it belongs, once, and nowhere else.
+pub fn queued(words: &[u32; STATE_WORDS], messages: &[u32; MESSAGE_WORDS], rings: Rings) -> bool
+    ensures { λ r. ⌜ r ≡ Queues.queuedIn (now (words .entry)) (now (messages .entry)) rings ⌝ }
 {
-    let mut marks = [0u32; TASK_MARKS];
-    if !survey_tasks(words, &mut marks) {
+    let mut marks = [0u32; MARKS];
+    if !survey_all(words, rings, &mut marks) {
         return false;
     }
-    if !check_links::loose(links(words), system(words, TASKS), &marks) {
+    if !check_links::loose(links(words, rings), ids_in(words, rings), &marks) {
         return false;
     }
-    task_homes_ok(words, &marks, system(words, TASKS))
-}
-
-// The same for the messages.
-fn survey_mail(words: &[u32; STATE_WORDS], marks: &mut [u32]) -> bool
-    ensures { λ r. ⌜ r ≡ Queues.ranges (many (now (words .entry)) Layout.messages) (wordsOf Layout.mailLinks (now (words .entry))) (Queues.mailRanges (now (words .entry))) (now (marks .entry)) .ok ⌝ }
-    ensures { λ _. ⌜ now (marks .exit) ≡ Queues.ranges (many (now (words .entry)) Layout.messages) (wordsOf Layout.mailLinks (now (words .entry))) (Queues.mailRanges (now (words .entry))) (now (marks .entry)) .marks ⌝ }
-{
-    check_links::survey(
-        mail_links(words),
-        system(words, MESSAGES),
-        FIRST_MAIL,
-        system(words, MAILBOXES),
-        marks,
-    )
-}
-
-// The anchor of the mailbox whose number is a message's mark, 0 if it lies in none.
-fn mail_home(mark: u32) -> u32
-    ensures { λ r. ⌜ r ≡ Queues.markAnchor mark ⌝ }
-{
-    if mark == 0 { 0 } else { mail_anchor(mark) }
-}
-
-fn message_home_ok(messages: &[u32; MESSAGE_WORDS], marks: &[u32], j: u32) -> bool
-    ensures { λ r. ⌜ r ≡ Queues.mailHome (now (messages .entry)) (now (marks .entry)) j ⌝ }
-{
-    mark_at(marks, j) == mail_home(mark_of(messages, j))
-}
-
-fn message_homes_ok(messages: &[u32; MESSAGE_WORDS], marks: &[u32], n: u32) -> bool
-    ensures { λ r. ⌜ r ≡ every n 1 (Queues.mailHome (now (messages .entry)) (now (marks .entry))) ⌝ }
-{
-    let mut i: u32 = 0;
-    while i < n {
-        i += 1;
-        if !message_home_ok(messages, marks, i) {
-            return false;
-        }
-    }
-    true
-}
-
-pub fn mail_queued(words: &[u32; STATE_WORDS], messages: &[u32; MESSAGE_WORDS]) -> bool
-    ensures { λ r. ⌜ r ≡ Queues.mailQueued (now (words .entry)) (now (messages .entry)) ⌝ }
-{
-    let mut marks = [0u32; MESSAGE_MARKS];
-    if !survey_mail(words, &mut marks) {
-        return false;
-    }
-    if !check_links::loose(mail_links(words), system(words, MESSAGES), &marks) {
-        return false;
-    }
-    message_homes_ok(messages, &marks, system(words, MESSAGES))
+    homes_ok(words, messages, rings, &marks, ids_in(words, rings))
 }

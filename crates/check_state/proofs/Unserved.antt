@@ -12,26 +12,27 @@ use lib.ListN.{length}
 use borrow.Author.Tests.{eqb-true, eqb-false, eq-eqb, le-leb}
 use Rattle.rules.specs.Ids.{of, In, once, times}
 use Rattle.rules.specs.State.{Kind, semaphore, flag, mailbox, pool, Wait, asleep, timed, on, Store, waitOf}
-use Rattle.rules.specs.Places.{Place, mail, lies, belongs}
+use Rattle.rules.specs.Places.{Place, mail, many as manyAt, lies, belongs, population}
 use Rattle.rules.specs.Objects.{met, free}
-use Rattle.rules.specs.Sound.{WaitNumbers, anyLies, would-serve, Unserved}
+use Rattle.rules.specs.Sound.{WaitNumbers, anyLies, would-serve, Unserved, Queue}
 use Rattle.rules.proofs.Ids.{of-ids, length-ids}
 use Rattle.rules.proofs.Waits.{neither}
 use Rattle.memory_rings.specs.Links.{firstOf}
-use Rattle.memory_rings.specs.Rings.{headOf, lineOf, Linked}
+use Rattle.memory_rings.specs.Rings.{headOf, lineOf}
 use Rattle.memory_rings.proofs.Laws.{first-law}
+use Rattle.memory_columns.specs.declared.Rings.the-variants.{Messages}
 use Rattle.memory_columns.specs.Layout as Layout
 use Rattle.memory_columns.specs.Layout.{stateWords, maxObjects, maxBlocks, words, entry}
 use Rattle.memory_queues.specs.Moves.{mailAnchor}
-use Rattle.memory_picture.specs.Picture.{waitShown, stateShown, taskShown, bitsOf, poolShown, tasksShown, messagesShown, storeShown, bodyShown, kindNumber, anchor, UsedByMail, mailbox-queue}
-use Rattle.memory_picture.proofs.FormHomes.{MailQueue}
+use Rattle.memory_picture.specs.Picture.{waitShown, stateShown, taskShown, bitsOf, poolShown, tasksShown, messagesShown, storeShown, bodyShown, kindNumber, anchor, lineShown, WholeRings}
+use Rattle.memory_picture.proofs.Done.{used-at}
 use Rattle.check_ranges.specs.Ranges.{every, many}
 use Rattle.check_state.specs.Unserved.{waitFree, waitFreeAt, unservedOk}
 use Rattle.check_ranges.proofs.Decisions.{Decides, decides-as, decides-yes, decides-eq, decides-not, decides-every}
 use Rattle.memory_picture.proofs.Cases.{asked, kind-cases, status-cases}
 use Rattle.check_ranges.proofs.Ranges.{manyOf, objects-shown, Ranges}
 use Rattle.check_queues.proofs.Homes.{Keeps}
-use Rattle.check_queues.proofs.Queued.{objects-few}
+use Rattle.check_queues.proofs.Standing.{InRings, objects-few}
 
 decides-not-not : (t : Bool) → Decides t (not t ≡ false)
 decides-not-not true = ((λ e. refl), (λ e. refl))
@@ -132,10 +133,9 @@ module _ (b msgs : List ℕ) (R : Ranges b msgs) (P : Option Wait → Type 0) (n
 -- ---- all waiters
 
 module _ (b msgs : List ℕ) (size : length b ≡ stateWords) (R : Ranges b msgs)
-    (M : Linked (messagesShown b) (UsedByMail (storeShown b msgs)) (words Layout.mailNext b) (words Layout.mailPrev b) (lineOf (messagesShown b) (words Layout.mailNext b)))
-    (K : (q : Place) → MailQueue (storeShown b msgs) q → Keeps (messagesShown b) (belongs (bodyShown b msgs) q) (lineOf (messagesShown b) (words Layout.mailNext b) (anchor q))) where
+    (M : WholeRings b msgs Messages) (K : (q : Place) → InRings (storeShown b msgs) Messages q → Queue (bodyShown b msgs) q (lineShown b q)) where
   mailbox-law : (o : ℕ) → In o (many b Layout.mailboxes) → Decides (eqb (firstOf (words Layout.mailNext b) (mailAnchor o)) 0) (anyLies (storeShown b msgs .messages) o ≡ false)
-  unfolding storeShown belongs bodyShown
+  unfolding storeShown belongs bodyShown lineShown population
   mailbox-law o h = decides-as (decides-eq _ 0)
       (λ e. nowhere (storeShown b msgs .messages) o .1 (λ j r. empty .0 (sym first ∙ e) j (subst (In j) (length-ids _ _) r)))
       (λ e. first ∙ empty .1 (λ j r. nowhere (storeShown b msgs .messages) o .0 e j (subst (In j) (sym (length-ids _ _)) r)))
@@ -147,10 +147,13 @@ module _ (b msgs : List ℕ) (size : length b ≡ stateWords) (R : Ranges b msgs
       at = rw (le-leb o maxObjects (omega (arith, h .1, objects-few b msgs size R mailbox))) (unfold anchor in refl)
 
       first : firstOf (words Layout.mailNext b) (mailAnchor o) ≡ headOf line 0
-      first = ap (firstOf (words Layout.mailNext b)) at ∙ first-law M (anchor (mail o)) (mailbox-queue o h)
+      first = ap (firstOf (words Layout.mailNext b)) at ∙ first-law M (anchor (mail o)) (used-at (mail o) h)
+
+      held : Keeps (manyAt (bodyShown b msgs) (mail o)) (belongs (bodyShown b msgs) (mail o)) line
+      held = let k = K (mail o) (h, refl) in (k .known, k .stands)
 
       empty : (headOf line 0 ≡ 0) ↔ ((j : ℕ) → In j (messagesShown b) → belongs (bodyShown b msgs) (mail o) j ≡ false)
-      empty = none-belongs (messagesShown b) (belongs (bodyShown b msgs) (mail o)) line (K (mail o) h)
+      empty = none-belongs (messagesShown b) (belongs (bodyShown b msgs) (mail o)) line (subst (λ (n : ℕ). Keeps n (belongs (bodyShown b msgs) (mail o)) line) (length-ids _ (messagesShown b)) held)
 
   object-law : (c : Kind) (n o p m : ℕ) → n ≡ kindNumber c → In o (manyOf b c) → Decides (waitFree b n o p m) (would-serve (storeShown b msgs) c o (asked c p) (asked c m) ≡ false)
   unfolding waitFree

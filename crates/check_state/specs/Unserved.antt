@@ -5,12 +5,13 @@ use Prim.Native.Nat.{ℕ}
 use lib.Dec.{eqb}
 use Rattle.rules.specs.Objects.{met}
 use Rattle.memory_rings.specs.Links.{firstOf}
+use Rattle.memory_columns.specs.declared.Rings.the-variants.{Tasks, Messages, Blocks}
 use Rattle.memory_columns.specs.Layout as Layout
 use Rattle.memory_columns.specs.Layout.{words, entry}
 use Rattle.memory_queues.specs.Moves.{mailAnchor}
 use Rattle.memory_running.specs.Running.{readyMarks}
 use Rattle.check_ranges.specs.Ranges.{every, many, rangesOk}
-use Rattle.check_queues.specs.Queues.{tasksQueued, mailQueued}
+use Rattle.check_queues.specs.Queues.{queuedIn}
 
 -- ---- No waiter beside what would serve it.
 
@@ -34,4 +35,5 @@ abbrev pub readyMarked : List ℕ → Bool
 readyMarked b = eqb (entry Layout.nonempty b 0) (readyMarks b)
 
 unfoldable pub accepts : List ℕ → List ℕ → Bool
-accepts b msgs = rangesOk b msgs && (tasksQueued b && (readyMarked b && (mailQueued b msgs && every (many b Layout.tasks) 1 (unservedOk b))))
+accepts b msgs =
+    rangesOk b msgs && (queuedIn b msgs Tasks && (readyMarked b && (queuedIn b msgs Messages && (queuedIn b msgs Blocks && every (many b Layout.tasks) 1 (unservedOk b)))))

@@ -1,13 +1,13 @@
 // The check of a memory: is it a sound state? Rules are tried in order: ranges, queues, nobody beside what would serve him. It is
 // linear: each task, object and message that the counts name is looked at a few times, each ring is walked once.
-use check_queues::mail_queued;
-use check_queues::tasks_queued;
+use check_queues::queued;
 use check_ranges::ranges_ok;
 use memory_columns::FLAG;
 use memory_columns::MAILBOX;
 use memory_columns::MAX_TASKS;
 use memory_columns::MESSAGE_WORDS;
 use memory_columns::POOL;
+use memory_columns::Rings;
 use memory_columns::SEMAPHORE;
 use memory_columns::STATE_WORDS;
 use memory_columns::TASKS;
@@ -25,8 +25,8 @@ use memory_columns::status;
 use memory_columns::system;
 use memory_columns::wish;
 use memory_objects::flags::meets;
+use memory_queues::first;
 use memory_queues::mail_anchor;
-use memory_queues::mail_first;
 use memory_running::ready_marks;
 ghost use mathlib.Core.Path.{_≡_};
 ghost use mathlib.Core.Bool.{true};
@@ -48,7 +48,7 @@ fn wait_free(words: &[u32; STATE_WORDS], t: u32) -> bool
     match k {
         SEMAPHORE => semaphore(words, o) == 0,
         FLAG => !meets(flag(words, o), wish(words, t), mode(words, t)),
-        MAILBOX => mail_first(words, mail_anchor(o)) == 0,
+        MAILBOX => first(words, Rings::Messages, mail_anchor(o)) == 0,
         POOL => free(words, o) == 0,
         _ => true,
     }
@@ -101,13 +101,16 @@ fn accepts_test(words: &[u32; STATE_WORDS], messages: &[u32; MESSAGE_WORDS]) -> 
     if !ranges_ok(words, messages) {
         return false;
     }
-    if !tasks_queued(words) {
+    if !queued(words, messages, Rings::Tasks) {
         return false;
     }
     if !ready_marked(words) {
         return false;
     }
-    if !mail_queued(words, messages) {
+    if !queued(words, messages, Rings::Messages) {
+        return false;
+    }
+    if !queued(words, messages, Rings::Blocks) {
         return false;
     }
     all_unserved(words, at_most(system(words, TASKS), MAX_TASKS))

@@ -19,11 +19,13 @@ use Rattle.rules.specs.Answers.{Answer}
 use Rattle.rules.specs.Kernel.{Outcome, next, served, event}
 use Rattle.rules.specs.Plain.{Plain, viewOf, plainFresh, plainNext, plainAnswer}
 use Rattle.rules.specs.Blocks.{isFree, Happened, granted, gaveBack, AllAccounted}
+use Rattle.rules.specs.Wear.{happening, history, WornEvenly}
 use Rattle.rules.specs.Demand3.{Agree, Alike, happened, Demand3}
 use Rattle.rules.specs.Broken.{isFresh, Unless, StaysBroken}
 use Rattle.rules.proofs.Breach.{breach-tells}
 use Rattle.rules.proofs.Events.{event-served, event-next}
 use Rattle.rules.proofs.Blocks.{event-balance}
+use Rattle.rules.proofs.Wear.{worn-evenly}
 use Rattle.rules.proofs.Demand3.{demand3}
 use Rattle.rules.proofs.Broken.{stays-broken}
 use Rattle.rules.proofs.Codes.{own-number}
@@ -33,7 +35,7 @@ use Rattle.kernel_start.specs.Starting.{Starts}
 use Rattle.kernel_start.specs.declared.Started.{Started}
 use Rattle.kernel_start.proofs.Fresh.{Holds}
 use Rattle.kernel_events.specs.Steps.{Reply, told, unsound, Step, Link, Chain}
-use Rattle.kernel_demands.specs.Demands.{Same, seen, Demand3OnCode, Balanced, OutNotGranted, BlocksOnce, stateIn, StaysBrokenOnCode, BrokenOnCode, OnlyRelWaiOnCode}
+use Rattle.kernel_demands.specs.Demands.{Same, seen, Demand3OnCode, Balanced, OutNotGranted, BlocksOnce, seenAll, WornEvenlyOnCode, stateIn, StaysBrokenOnCode, BrokenOnCode, OnlyRelWaiOnCode}
 use Rattle.kernel_demands.proofs.Chains.{start-holds, chain-words, runs-is, cell-is, step-holds, step-says}
 
 -- ---- demand 3
@@ -120,6 +122,27 @@ chain-block-once b m A (k ∷ l) C = (
   (λ p rp j rj. let B = block-balance A k (C .0) p rp j rj in (B, not-granted b m k p j B)),
   chain-block-once (k .words) (k .marks) (C .0 .accepted A) l (C .1),
 )
+
+-- ---- blocks wear evenly
+
+-- what is seen of a chain is the rules' history
+history-seen : {b m : List ℕ} {v : View} (l : List Link) → Holds b m v → Chain b m l → seenAll b m l ≡ history v (map (λ k. k .event) l)
+history-seen [] H C = refl
+history-seen {b} {m} {v} (k ∷ l) H C = λ z. one z ∷ history-seen l (step-holds H (C .0)) (C .1) z
+  where
+    one : seen b m k ≡ happening v (k .event)
+    one = λ z. record {
+      event = k .event;
+      code = step-says H (C .0) z .code;
+      w1 = step-says H (C .0) z .w1;
+      before = H .view z .body;
+      after = step-holds H (C .0) .view z .body;
+    }
+
+-- from every accepted memory
+pub chain-worn-evenly : (b m : List ℕ) → Accepted b m → (l : List Link) → Chain b m l → WornEvenlyOnCode b m l
+chain-worn-evenly b m A l C =
+    subst WornEvenly (sym (history-seen l (record { accepted = A; view = refl }) C)) (worn-evenly (viewShown b m) (A .sound) (map (λ k. k .event) l) (chain-words b m l C))
 
 -- ---- a broken wait
 

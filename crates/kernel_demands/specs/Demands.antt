@@ -14,6 +14,7 @@ use Rattle.rules.specs.Answers.{readCell}
 use Rattle.rules.specs.View.{head, running}
 use Rattle.rules.specs.Plain.{Plain, viewOf, plainNext, plainAnswer}
 use Rattle.rules.specs.Blocks.{isFree, Happened, granted, gaveBack, AllAccounted}
+use Rattle.rules.specs.Wear.{WornEvenly}
 use Rattle.rules.specs.Demand3.{Agree}
 use Rattle.rules.specs.Broken.{broken, isFresh, Unless, OnlyRelWai}
 use Rattle.rules_examples.specs.BenchSheet.{Case, Sheet}
@@ -69,6 +70,17 @@ BlocksOnce b m [] = Unit {0}
 BlocksOnce b m (k ∷ l) =
     ((p : ℕ) → In p (length (viewShown b m .body .store .pools)) → (j : ℕ) → In j (length (of (viewShown b m .body .store .pools) p [])) → Balanced b m k p j × OutNotGranted b m k p j)
     × BlocksOnce (k .words) (k .marks) l
+
+-- ---- blocks wear evenly
+
+-- the links of a chain as the blocks' accounts read them, first to last
+abbrev pub seenAll : List ℕ → List ℕ → List Link → List Happened
+seenAll b m [] = []
+seenAll b m (k ∷ l) = seen b m k ∷ seenAll (k .words) (k .marks) l
+
+-- between a return of a block to the free ones and its next grant every block of the pool that was free at that return is granted
+abbrev pub WornEvenlyOnCode : List ℕ → List ℕ → List Link → Type 0
+WornEvenlyOnCode b m l = WornEvenly (seenAll b m l)
 
 -- ---- a broken wait
 

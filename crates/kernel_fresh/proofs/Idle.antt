@@ -10,13 +10,15 @@ use Rattle.rules.specs.Ids.{In}
 use Rattle.memory_rings.proofs.Columns.{col-store, length-store}
 use Rattle.setup.specs.declared.Plan.{Plan}
 use Rattle.setup.specs.Layout.{PlanFits}
+use Rattle.memory_columns.specs.declared.Rings.{Rings}
+use Rattle.memory_columns.specs.declared.Rings.the-variants.{Tasks, Messages, Blocks}
 use Rattle.memory_columns.specs.Layout as Layout
-use Rattle.memory_columns.specs.Layout.{Column, readyNode, mailNode, fits, clear, words, entry, Only}
+use Rattle.memory_columns.specs.Layout.{Column, readyNode, mailNode, freeNode, nextOf, prevOf, linksOf, fits, clear, words, entry, Only}
 use Rattle.memory_columns.proofs.Frame.{Sized, words-length, put-only, only-none, only-both, only-on}
-use Rattle.memory_queues.specs.Moves.{clearedQueue, clearedMail}
-use Rattle.memory_queues.proofs.Relinks.{cleared-queue-law, cleared-mail-law}
-use Rattle.kernel_fresh.specs.Laying.{inTurn, counted, wordOfId, laidTask, laidSemaphore, laidFlag, allFree, laidPool, entered, anchorsOf, emptiedQueues, emptied}
-use Rattle.kernel_fresh.proofs.Turns.{Within, turn-size, turn-only, turn-length, turn-below, turn-right, turn-at, queues-within, mails-within}
+use Rattle.memory_queues.specs.Moves.{emptied as emptiedAt}
+use Rattle.memory_queues.proofs.Relinks.{emptied-law}
+use Rattle.kernel_fresh.specs.Laying.{inTurn, counted, wordOfId, laidTask, laidSemaphore, laidFlag, laidPool, entered, anchorsOf, emptiedQueues, emptied}
+use Rattle.kernel_fresh.proofs.Turns.{Within, turn-size, turn-only, turn-length, turn-below, turn-right, turn-at, queues-within}
 
 -- ---- counts
 
@@ -40,7 +42,7 @@ counted-system p b e = simp (col-store, e)
 
 -- what the entries of a setup are written into
 abbrev pub entryColumns : List Column
-entryColumns = Layout.priority ∷ Layout.start ∷ Layout.semaphore ∷ Layout.flag ∷ Layout.size ∷ Layout.free ∷ []
+entryColumns = Layout.priority ∷ Layout.start ∷ Layout.semaphore ∷ Layout.flag ∷ Layout.size ∷ []
 
 module _ (s : List ℕ) (at : ℕ) where
   tasks-within : Within (Layout.priority ∷ Layout.start ∷ []) (laidTask s at)
@@ -58,12 +60,9 @@ module _ (s : List ℕ) (at : ℕ) where
   unfolding laidFlag
   flags-within = record { size = λ i b h. simp length-store h; only = λ i b h. put-only Layout.flag i _ b }
 
-  pools-within : Within (Layout.size ∷ Layout.free ∷ []) (laidPool s at)
+  pools-within : Within (Layout.size ∷ []) (laidPool s at)
   unfolding laidPool
-  pools-within = record {
-    size = λ i b h. simp length-store h;
-    only = λ i b h. only-both (put-only Layout.size i _ b) (put-only Layout.free i _ _);
-  }
+  pools-within = record { size = λ i b h. simp length-store h; only = λ i b h. put-only Layout.size i _ b }
 
   module _ (i : ℕ) (b : List ℕ) where
     writes-priority : words Layout.priority (laidTask s at i b) ≡ set (words Layout.priority b) i (wordOfId s at 8 i)
@@ -85,10 +84,6 @@ module _ (s : List ℕ) (at : ℕ) where
     writes-size : words Layout.size (laidPool s at i b) ≡ set (words Layout.size b) i (wordOfId s at 4 i)
     unfolding laidPool
     writes-size = simp col-store
-
-    writes-free : words Layout.free (laidPool s at i b) ≡ set (words Layout.free b) i (allFree (wordOfId s at 4 i))
-    unfolding laidPool
-    writes-free = simp col-store
 
 -- turn i writes g i at i of a column: after the turns of the ids 1 to n, each of them has its word there
 turned : {w : List Column} {f : ℕ → List ℕ → List ℕ} (W : Within w f) (d : Column) (g : ℕ → ℕ) → ((i : ℕ) (b : List ℕ) → words d (f i b) ≡ set (words d b) i (g i))
@@ -120,14 +115,14 @@ module _ (s : List ℕ) (p : Plan) (F : PlanFits p (length s)) (b : List ℕ) (h
   entered-size = turn-size (pools-within s (p .at .pools)) (p .pools) 1 flags flags-size
 
   -- what the later ones leave of each
-  after-pools : Only (Layout.size ∷ Layout.free ∷ []) flags (entered s p b)
+  after-pools : Only (Layout.size ∷ []) flags (entered s p b)
   unfolding entered
   after-pools = turn-only (pools-within s (p .at .pools)) (p .pools) 1 flags flags-size
 
-  after-flags : Only (Layout.flag ∷ Layout.size ∷ Layout.free ∷ []) semaphores (entered s p b)
+  after-flags : Only (Layout.flag ∷ Layout.size ∷ []) semaphores (entered s p b)
   after-flags = only-both (turn-only (flags-within s (p .at .flags)) (p .flags) 1 semaphores semaphores-size) after-pools
 
-  after-semaphores : Only (Layout.semaphore ∷ Layout.flag ∷ Layout.size ∷ Layout.free ∷ []) tasks (entered s p b)
+  after-semaphores : Only (Layout.semaphore ∷ Layout.flag ∷ Layout.size ∷ []) tasks (entered s p b)
   after-semaphores = only-both (turn-only (semaphores-within s (p .at .semaphores)) (p .semaphores) 1 tasks tasks-size) after-flags
 
   pub entered-only : Only entryColumns b (entered s p b)
@@ -158,10 +153,6 @@ module _ (s : List ℕ) (p : Plan) (F : PlanFits p (length s)) (b : List ℕ) (h
     unfolding entered
     entered-size-of r = turned (pools-within s (p .at .pools)) Layout.size _ (writes-size s (p .at .pools)) refl (p .pools) flags flags-size i r (omega (arith, F .pools))
 
-    pub entered-free : In i (p .pools) → entry Layout.free (entered s p b) i ≡ allFree (wordOfId s (p .at .pools) 4 i)
-    unfolding entered
-    entered-free r = turned (pools-within s (p .at .pools)) Layout.free _ (writes-free s (p .at .pools)) refl (p .pools) flags flags-size i r (omega (arith, F .pools))
-
 -- ---- queues
 
 -- node j is one of these anchors, or comes before all of them
@@ -176,81 +167,111 @@ Before j ((a, n) ∷ l) = (j < a) × Before j l
 queues-size : (l : List (ℕ × ℕ)) (b : List ℕ) → Sized b → Sized (emptiedQueues l b)
 unfolding emptiedQueues
 queues-size [] b h = h
-queues-size ((a, n) ∷ l) b h = queues-size l _ (turn-size queues-within n a b h)
+queues-size ((a, n) ∷ l) b h = queues-size l _ (turn-size (queues-within Tasks) n a b h)
 
-queues-only : (l : List (ℕ × ℕ)) (b : List ℕ) → Sized b → Only (Layout.links ∷ []) b (emptiedQueues l b)
+queues-only : (l : List (ℕ × ℕ)) (b : List ℕ) → Sized b → Only (linksOf Tasks ∷ []) b (emptiedQueues l b)
 unfolding emptiedQueues
-queues-only [] b h = only-none (Layout.links ∷ []) b
-queues-only ((a, n) ∷ l) b h = only-on (turn-only queues-within n a b h) (queues-only l _ (turn-size queues-within n a b h))
+queues-only [] b h = only-none (linksOf Tasks ∷ []) b
+queues-only ((a, n) ∷ l) b h = only-on (turn-only (queues-within Tasks) n a b h) (queues-only l _ (turn-size (queues-within Tasks) n a b h))
 
 -- of the next nodes, or of the previous ones
-module _ (R : List ℕ → List ℕ) (w : (a : ℕ) (b : List ℕ) → Sized b → R (clearedQueue a b) ≡ set (R b) a a) (j : ℕ) where
+module _ (R : List ℕ → List ℕ) (w : (a : ℕ) (b : List ℕ) → Sized b → R (emptiedAt Tasks a b) ≡ set (R b) a a) (j : ℕ) where
   queues-before : (l : List (ℕ × ℕ)) (b : List ℕ) → Sized b → Before j l → getD (R (emptiedQueues l b)) j 0 ≡ getD (R b) j 0
   unfolding emptiedQueues
   queues-before [] b h k = refl
-  queues-before ((a, n) ∷ l) b h k = queues-before l _ (turn-size queues-within n a b h) (k .1) ∙ turn-below queues-within R (λ i. i) w n a b h j (k .0)
+  queues-before ((a, n) ∷ l) b h k = queues-before l _ (turn-size (queues-within Tasks) n a b h) (k .1) ∙ turn-below (queues-within Tasks) R (λ i. i) w n a b h j (k .0)
 
   queues-right : (l : List (ℕ × ℕ)) (b : List ℕ) → Sized b → j < length (R b) → getD (R b) j 0 ≡ j → getD (R (emptiedQueues l b)) j 0 ≡ j
   unfolding emptiedQueues
   queues-right [] b h r e = e
   queues-right ((a, n) ∷ l) b h r e =
-      queues-right l _ (turn-size queues-within n a b h) (rw (turn-length queues-within R (λ i. i) w n a b h) r) (turn-right queues-within R (λ i. i) w n a b h j r e)
+      queues-right l _ (turn-size (queues-within Tasks) n a b h) (rw (turn-length (queues-within Tasks) R (λ i. i) w n a b h) r) (turn-right (queues-within Tasks) R (λ i. i) w n a b h j r e)
 
   queues-among : (l : List (ℕ × ℕ)) (b : List ℕ) → Sized b → j < length (R b) → Among j l → getD (R (emptiedQueues l b)) j 0 ≡ j
   unfolding emptiedQueues
   queues-among [] b h r k = absurd k
   queues-among ((a, n) ∷ l) b h r (inl k) =
-      queues-right l _ (turn-size queues-within n a b h) (rw (turn-length queues-within R (λ i. i) w n a b h) r) (turn-at queues-within R (λ i. i) w n a b h j (k .0) (k .1) r)
-  queues-among ((a, n) ∷ l) b h r (inr k) = queues-among l _ (turn-size queues-within n a b h) (rw (turn-length queues-within R (λ i. i) w n a b h) r) k
+      queues-right l _ (turn-size (queues-within Tasks) n a b h) (rw (turn-length (queues-within Tasks) R (λ i. i) w n a b h) r) (turn-at (queues-within Tasks) R (λ i. i) w n a b h j (k .0) (k .1) r)
+  queues-among ((a, n) ∷ l) b h r (inr k) = queues-among l _ (turn-size (queues-within Tasks) n a b h) (rw (turn-length (queues-within Tasks) R (λ i. i) w n a b h) r) k
+
+-- node j is an anchor of these rings that is in use
+abbrev pub InUse : Plan → Rings → ℕ → Type 0
+InUse p Tasks j = Among j (anchorsOf p)
+InUse p Messages j = (mailNode 1 ≤ j) × (j < mailNode 1 + p .mailboxes)
+InUse p Blocks j = (freeNode 1 ≤ j) × (j < freeNode 1 + p .pools)
+
+-- the first node that can be an anchor
+abbrev pub firstNode : Rings → ℕ
+firstNode Tasks = readyNode 1
+firstNode Messages = mailNode 1
+firstNode Blocks = freeNode 1
 
 module _ (p : Plan) (b : List ℕ) (h : Sized b) where
   abbrev queues : List ℕ
   queues = emptiedQueues (anchorsOf p) b
 
+  abbrev mailed : List ℕ
+  mailed = inTurn (emptiedAt Messages) (p .mailboxes) (mailNode 1) queues
+
   queued-size : Sized queues
   queued-size = queues-size (anchorsOf p) b h
 
+  mailed-size : Sized mailed
+  mailed-size = turn-size (queues-within Messages) (p .mailboxes) (mailNode 1) queues queued-size
+
   pub emptied-size : Sized (emptied p b)
   unfolding emptied
-  emptied-size = turn-size mails-within (p .mailboxes) (mailNode 1) queues queued-size
+  emptied-size = turn-size (queues-within Blocks) (p .pools) (freeNode 1) mailed mailed-size
 
-  after-mails : Only (Layout.mailLinks ∷ []) queues (emptied p b)
+  after-blocks : Only (linksOf Blocks ∷ []) mailed (emptied p b)
   unfolding emptied
-  after-mails = turn-only mails-within (p .mailboxes) (mailNode 1) queues queued-size
+  after-blocks = turn-only (queues-within Blocks) (p .pools) (freeNode 1) mailed mailed-size
 
-  pub emptied-only : Only (Layout.links ∷ Layout.mailLinks ∷ []) b (emptied p b)
+  after-mails : Only (linksOf Messages ∷ linksOf Blocks ∷ []) queues (emptied p b)
+  after-mails = only-both (turn-only (queues-within Messages) (p .mailboxes) (mailNode 1) queues queued-size) after-blocks
+
+  pub emptied-only : Only (linksOf Tasks ∷ linksOf Messages ∷ linksOf Blocks ∷ []) b (emptied p b)
   emptied-only = only-both (queues-only (anchorsOf p) b h) after-mails
 
   module _ (j : ℕ) where
-    link : (d : Column) → clear (Layout.mailLinks ∷ []) d ≡ true → fits d ≡ true → ((a : ℕ) (c : List ℕ) → Sized c → words d (clearedQueue a c) ≡ set (words d c) a a)
-        → j < d .width → Among j (anchorsOf p) → entry d (emptied p b) j ≡ j
-    link d e k w r m = ap (λ (l : List ℕ). getD l j 0) (after-mails .kept d e) ∙ queues-among (words d) w j (anchorsOf p) b h (rw (words-length d b h k) r) m
+    -- of one direction of the rings of a sort
+    link : (r : Rings) (d : Column) → (d ≡ nextOf r) ⊎ (d ≡ prevOf r) → ((a : ℕ) (c : List ℕ) → Sized c → words d (emptiedAt r a c) ≡ set (words d c) a a) → fits d ≡ true → j < d .width → InUse p r j → entry d (emptied p b) j ≡ j
+    unfolding emptied
+    link Tasks d e w k r m = ap (λ (l : List ℕ). getD l j 0) (after-mails .kept d (clear-of e)) ∙ queues-among (words d) w j (anchorsOf p) b h (rw (words-length d b h k) r) m
+      where
+        clear-of : (d ≡ nextOf Tasks) ⊎ (d ≡ prevOf Tasks) → clear (linksOf Messages ∷ linksOf Blocks ∷ []) d ≡ true
+        clear-of (inl z) = rw z
+        clear-of (inr z) = rw z
+    link Messages d e w k r m =
+        ap (λ (l : List ℕ). getD l j 0) (after-blocks .kept d (clear-of e))
+        ∙ turn-at (queues-within Messages) (words d) (λ i. i) w (p .mailboxes) (mailNode 1) queues queued-size j (m .0) (m .1) (rw (words-length d queues queued-size k) r)
+      where
+        clear-of : (d ≡ nextOf Messages) ⊎ (d ≡ prevOf Messages) → clear (linksOf Blocks ∷ []) d ≡ true
+        clear-of (inl z) = rw z
+        clear-of (inr z) = rw z
+    link Blocks d e w k r m = turn-at (queues-within Blocks) (words d) (λ i. i) w (p .pools) (freeNode 1) mailed mailed-size j (m .0) (m .1) (rw (words-length d mailed mailed-size k) r)
 
-    pub emptied-anchor : j < Layout.next .width → Among j (anchorsOf p) → (entry Layout.next (emptied p b) j ≡ j) × (entry Layout.prev (emptied p b) j ≡ j)
-    emptied-anchor r m = (
-      link Layout.next refl refl (λ a c k. cleared-queue-law c k a .next) r m,
-      link Layout.prev refl refl (λ a c k. cleared-queue-law c k a .prev) r m,
+    both-fit : (r : Rings) → (fits (nextOf r) ≡ true) × (fits (prevOf r) ≡ true)
+    both-fit Tasks = (refl, refl)
+    both-fit Messages = (refl, refl)
+    both-fit Blocks = (refl, refl)
+
+    pub emptied-anchor : (r : Rings) → j < nextOf r .width → InUse p r j → (entry (nextOf r) (emptied p b) j ≡ j) × (entry (prevOf r) (emptied p b) j ≡ j)
+    emptied-anchor r k m = (
+      link r (nextOf r) (inl refl) (λ a c z. emptied-law c z r a .next) (both-fit r .0) k m,
+      link r (prevOf r) (inr refl) (λ a c z. emptied-law c z r a .prev) (both-fit r .1) k m,
     )
 
-    pub emptied-task : j < readyNode 1 → entry Layout.next (emptied p b) j ≡ entry Layout.next b j
-    emptied-task r =
+    -- an id has the link that it had
+    pub emptied-id : (r : Rings) → j < firstNode r → entry (nextOf r) (emptied p b) j ≡ entry (nextOf r) b j
+    unfolding emptied
+    emptied-id Tasks r =
         ap (λ (l : List ℕ). getD l j 0) (after-mails .kept Layout.next refl)
-        ∙ queues-before (words Layout.next) (λ a c k. cleared-queue-law c k a .next) j (anchorsOf p) b h (omega arith, (omega arith, (omega arith, (omega arith, (omega arith, tt)))))
-
-    mail-link : (d : Column) → fits d ≡ true → ((a : ℕ) (c : List ℕ) → Sized c → words d (clearedMail a c) ≡ set (words d c) a a)
-        → j < d .width → mailNode 1 ≤ j → j < mailNode 1 + p .mailboxes → entry d (emptied p b) j ≡ j
-    unfolding emptied
-    mail-link d k w r m n =
-        turn-at mails-within (words d) (λ i. i) w (p .mailboxes) (mailNode 1) queues queued-size j m n (rw (words-length d queues queued-size k) r)
-
-    pub emptied-mailbox : j < Layout.mailNext .width → mailNode 1 ≤ j → j < mailNode 1 + p .mailboxes → (entry Layout.mailNext (emptied p b) j ≡ j) × (entry Layout.mailPrev (emptied p b) j ≡ j)
-    emptied-mailbox r m n = (
-      mail-link Layout.mailNext refl (λ a c k. cleared-mail-law c k a .next) r m n,
-      mail-link Layout.mailPrev refl (λ a c k. cleared-mail-law c k a .prev) r m n,
-    )
-
-    pub emptied-message : j < mailNode 1 → entry Layout.mailNext (emptied p b) j ≡ entry Layout.mailNext b j
-    unfolding emptied
-    emptied-message r =
-        turn-below mails-within (words Layout.mailNext) (λ i. i) (λ a c k. cleared-mail-law c k a .next) (p .mailboxes) (mailNode 1) queues queued-size j r
+        ∙ queues-before (words Layout.next) (λ a c k. emptied-law c k Tasks a .next) j (anchorsOf p) b h (omega arith, (omega arith, (omega arith, (omega arith, (omega arith, tt)))))
+    emptied-id Messages r =
+        ap (λ (l : List ℕ). getD l j 0) (after-blocks .kept Layout.mailNext refl)
+        ∙ turn-below (queues-within Messages) (words Layout.mailNext) (λ i. i) (λ a c k. emptied-law c k Messages a .next) (p .mailboxes) (mailNode 1) queues queued-size j r
         ∙ ap (λ (l : List ℕ). getD l j 0) (queues-only (anchorsOf p) b h .kept Layout.mailNext refl)
+    emptied-id Blocks r =
+        turn-below (queues-within Blocks) (words Layout.blockNext) (λ i. i) (λ a c k. emptied-law c k Blocks a .next) (p .pools) (freeNode 1) mailed mailed-size j r
+        ∙ ap (λ (l : List ℕ). getD l j 0) (turn-only (queues-within Messages) (p .mailboxes) (mailNode 1) queues queued-size .kept Layout.blockNext refl ∙ queues-only (anchorsOf p) b h .kept Layout.blockNext refl)

@@ -5,17 +5,16 @@ use mathlib.Core.Path.{_≡_, refl, _∙_}
 use native.Mathlib.Numerals.{sub-one, add-one}
 use native.Mathlib.Omega.{arith}
 use lib.ListN.{length, getD, replicate, List·getD-eq-default}
-use lib.Pow.{pow-pos}
 use borrow.Author.Tests.{lt-ltb, le-ltb}
 use Rattle.rules.specs.Setup.{wordAt}
 use Rattle.setup.specs.declared.Plan.{Plan}
 use Rattle.setup.specs.Layout.{planOf, PlanFits}
 use Rattle.setup.proofs.Plans.{plan-fits}
+use Rattle.memory_columns.specs.declared.Rings.the-variants.{Tasks, Messages, Blocks}
 use Rattle.memory_columns.specs.Layout as Layout
-use Rattle.memory_columns.specs.Layout.{system, stateWords, maxBlocks, readyNode, waitNode, mailNode, put}
-use Rattle.memory_queues.specs.Moves.{clearedQueue, clearedMail}
-use Rattle.memory_columns.proofs.OneBit.{one-bit}
-use Rattle.kernel_fresh.specs.Laying.{inTurn, counted, laidTask, laidSemaphore, laidFlag, allFree, laidPool, entered, emptiedQueues, emptied, laid}
+use Rattle.memory_columns.specs.Layout.{system, stateWords, readyNode, waitNode, mailNode, freeNode, put}
+use Rattle.memory_queues.specs.Moves.{emptied as emptiedAt}
+use Rattle.kernel_fresh.specs.Laying.{inTurn, counted, laidTask, laidSemaphore, laidFlag, laidPool, entered, emptiedQueues, emptied, laid}
 
 -- ---- loops over ids
 
@@ -38,24 +37,13 @@ pub count-steps : (p : Plan) (b : List ℕ) {b₀ b₁ b₂ b₃ b₄ b₅ b₆ 
 unfolding counted
 count-steps p b e₀ e₁ e₂ e₃ e₄ e₅ e₆ = e₆ ∙ rw (e₅, e₄, e₃, e₂, e₁, e₀)
 
--- ---- words and masks
+-- ---- words
 
 pub word-past : (s : List ℕ) (i : ℕ) → length s ≤ i → 0 ≡ wordAt s i
 word-past s i h = rw (past i (omega arith), past (i + 1) (omega arith), past (i + 2) (omega arith), past (i + 3) (omega arith))
   where
     past : (j : ℕ) → length s ≤ j → getD s j 0 ≡ 0
     past j k = List·getD-eq-default s 0 k
-
-pub free-least : (k : ℕ) → k < maxBlocks → 1 ≤ (1 * 2 ^ k) % 2 ^ 32
-free-least k h = rw (one-bit k h) (pow-pos k)
-
-pub free-some : (k : ℕ) → k < maxBlocks → (1 * 2 ^ k) % 2 ^ 32 - 1 ≡ allFree k
-unfolding allFree
-free-some k h = rw (one-bit k h, lt-ltb k maxBlocks h)
-
-pub free-all : (k : ℕ) → maxBlocks ≤ k → 4294967295 ≡ allFree k
-unfolding allFree
-free-all k h = rw (le-ltb k maxBlocks h)
 
 -- ---- the parts of a plan
 
@@ -65,11 +53,12 @@ pub entry-steps : (s : List ℕ) (p : Plan) (b : List ℕ) {b₁ b₂ b₃ b₄ 
 unfolding entered
 entry-steps s p b e₁ e₂ e₃ e₄ = e₄ ∙ rw (e₃, e₂, e₁)
 
-pub empty-steps : (p : Plan) (b : List ℕ) {b₁ b₂ b₃ b₄ b₅ b₆ : List ℕ} → b₁ ≡ inTurn clearedQueue (p .priorities) (readyNode 1) b
-    → b₂ ≡ inTurn clearedQueue (p .semaphores) (waitNode Layout.semaphores 1) b₁ → b₃ ≡ inTurn clearedQueue (p .flags) (waitNode Layout.flags 1) b₂ → b₄ ≡ inTurn clearedQueue (p .mailboxes) (waitNode Layout.mailboxes 1) b₃
-    → b₅ ≡ inTurn clearedQueue (p .pools) (waitNode Layout.pools 1) b₄ → b₆ ≡ inTurn clearedMail (p .mailboxes) (mailNode 1) b₅ → b₆ ≡ emptied p b
+pub empty-steps : (p : Plan) (b : List ℕ) {b₁ b₂ b₃ b₄ b₅ b₆ b₇ : List ℕ} → b₁ ≡ inTurn (emptiedAt Tasks) (p .priorities) (readyNode 1) b
+    → b₂ ≡ inTurn (emptiedAt Tasks) (p .semaphores) (waitNode Layout.semaphores 1) b₁ → b₃ ≡ inTurn (emptiedAt Tasks) (p .flags) (waitNode Layout.flags 1) b₂
+    → b₄ ≡ inTurn (emptiedAt Tasks) (p .mailboxes) (waitNode Layout.mailboxes 1) b₃ → b₅ ≡ inTurn (emptiedAt Tasks) (p .pools) (waitNode Layout.pools 1) b₄
+    → b₆ ≡ inTurn (emptiedAt Messages) (p .mailboxes) (mailNode 1) b₅ → b₇ ≡ inTurn (emptiedAt Blocks) (p .pools) (freeNode 1) b₆ → b₇ ≡ emptied p b
 unfolding emptied emptiedQueues
-empty-steps p b e₁ e₂ e₃ e₄ e₅ e₆ = e₆ ∙ rw (e₅, e₄, e₃, e₂, e₁)
+empty-steps p b e₁ e₂ e₃ e₄ e₅ e₆ e₇ = e₇ ∙ rw (e₆, e₅, e₄, e₃, e₂, e₁)
 
 -- ---- the whole
 

@@ -6,10 +6,11 @@ use native.Mathlib.Decide.{ℕ-discrete}
 use native.Mathlib.Omega.{arith}
 use lib.ListN.{length, getD, set, length-set}
 use lib.Seq.{getD-set-same, getD-set-other}
-use Rattle.memory_columns.specs.Layout.{Column, links, mailLinks, Only}
+use Rattle.memory_columns.specs.Layout.{Column, linksOf, Only}
 use Rattle.memory_columns.proofs.Frame.{Sized, only-none, only-on}
-use Rattle.memory_queues.specs.Moves.{clearedQueue, clearedMail}
-use Rattle.memory_queues.proofs.Relinks.{cleared-queue-law, cleared-mail-law}
+use Rattle.memory_columns.specs.declared.Rings.{Rings}
+use Rattle.memory_queues.specs.Moves.{emptied}
+use Rattle.memory_queues.proofs.Relinks.{emptied-law}
 use Rattle.kernel_fresh.specs.Laying.{inTurn}
 
 -- ---- the turns
@@ -65,8 +66,5 @@ module _ {w : List Column} {f : ℕ → List ℕ → List ℕ} (W : Within w f) 
 
 -- ---- cleared anchors
 
-pub queues-within : Within (links ∷ []) clearedQueue
-queues-within = record { size = λ a b h. cleared-queue-law b h a .size; only = λ a b h. cleared-queue-law b h a .only }
-
-pub mails-within : Within (mailLinks ∷ []) clearedMail
-mails-within = record { size = λ a b h. cleared-mail-law b h a .size; only = λ a b h. cleared-mail-law b h a .only }
+pub queues-within : (r : Rings) → Within (linksOf r ∷ []) (emptied r)
+queues-within r = record { size = λ a b h. emptied-law b h r a .size; only = λ a b h. emptied-law b h r a .only }

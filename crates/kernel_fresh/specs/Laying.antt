@@ -1,14 +1,13 @@
 -- The words that each function of src/lib.rt writes, for any words: the counts and entries of a plan, and empty queues.
-use mathlib.Core.Bool.{cond}
 use mathlib.Core.List.{List, [], _∷_}
-use Prim.Native.Nat.{ℕ, zero, suc, _+_, _-_, _*_, _^_}
-use lib.Dec.{ltb}
+use Prim.Native.Nat.{ℕ, zero, suc, _+_, _-_, _*_}
 use lib.ListN.{replicate}
 use Rattle.rules.specs.Setup.{wordAt}
 use Rattle.setup.specs.declared.Plan.{Plan}
+use Rattle.memory_columns.specs.declared.Rings.the-variants.{Tasks, Messages, Blocks}
 use Rattle.memory_columns.specs.Layout as Layout
-use Rattle.memory_columns.specs.Layout.{stateWords, maxBlocks, readyNode, waitNode, mailNode, put}
-use Rattle.memory_queues.specs.Moves.{clearedQueue, clearedMail}
+use Rattle.memory_columns.specs.Layout.{stateWords, readyNode, waitNode, mailNode, freeNode, put}
+use Rattle.memory_queues.specs.Moves.{emptied as emptiedAt}
 
 -- f for n ids from i on
 unfoldable pub inTurn : (ℕ → List ℕ → List ℕ) → ℕ → ℕ → List ℕ → List ℕ
@@ -36,12 +35,9 @@ laidSemaphore s at i b = put Layout.semaphore i (wordOfId s at 4 i) b
 unfoldable pub laidFlag : List ℕ → ℕ → ℕ → List ℕ → List ℕ
 laidFlag s at i b = put Layout.flag i (wordOfId s at 4 i) b
 
--- a bit for each of k blocks; a word has 32
-unfoldable pub allFree : ℕ → ℕ
-allFree k = cond (ltb k maxBlocks) (2 ^ k - 1) 4294967295
-
+-- so many blocks, all out
 unfoldable pub laidPool : List ℕ → ℕ → ℕ → List ℕ → List ℕ
-laidPool s at i b = put Layout.free i (allFree (wordOfId s at 4 i)) (put Layout.size i (wordOfId s at 4 i) b)
+laidPool s at i b = put Layout.size i (wordOfId s at 4 i) b
 
 unfoldable pub entered : List ℕ → Plan → List ℕ → List ℕ
 entered s p b =
@@ -57,11 +53,12 @@ anchorsOf p =
 
 unfoldable pub emptiedQueues : List (ℕ × ℕ) → List ℕ → List ℕ
 emptiedQueues [] b = b
-emptiedQueues ((a, n) ∷ l) b = emptiedQueues l (inTurn clearedQueue n a b)
+emptiedQueues ((a, n) ∷ l) b = emptiedQueues l (inTurn (emptiedAt Tasks) n a b)
 
+-- then the mailboxes, and the queues of free blocks
 unfoldable pub emptied : Plan → List ℕ → List ℕ
-emptied p b = inTurn clearedMail (p .mailboxes) (mailNode 1) (emptiedQueues (anchorsOf p) b)
+emptied p b = inTurn (emptiedAt Blocks) (p .pools) (freeNode 1) (inTurn (emptiedAt Messages) (p .mailboxes) (mailNode 1) (emptiedQueues (anchorsOf p) b))
 
--- all of it, in a memory of zeros; no task is started yet
+-- all of it, in a memory of zeros; no block is free and no task started yet
 unfoldable pub laid : List ℕ → Plan → List ℕ
 laid s p = emptied p (entered s p (counted p (replicate stateWords 0)))

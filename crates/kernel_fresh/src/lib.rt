@@ -1,5 +1,6 @@
-// A plan laid into the memory: the counts, the entries that the bytes of a setup have, and empty queues. No task is started yet.
+// A plan laid into the memory: the counts, the entries that the bytes of a setup have, and empty queues. No block is free and no task started yet.
 use memory_columns::FIRST_FLAG;
+use memory_columns::FIRST_FREE;
 use memory_columns::FIRST_MAIL;
 use memory_columns::FIRST_MAILBOX;
 use memory_columns::FIRST_POOL;
@@ -7,22 +8,20 @@ use memory_columns::FIRST_READY;
 use memory_columns::FIRST_SEMAPHORE;
 use memory_columns::FLAGS;
 use memory_columns::MAILBOXES;
-use memory_columns::MAX_BLOCKS;
 use memory_columns::MESSAGES;
 use memory_columns::POOLS;
 use memory_columns::PRIORITIES;
+use memory_columns::Rings;
 use memory_columns::SEMAPHORES;
 use memory_columns::STATE_WORDS;
 use memory_columns::TASKS;
 use memory_columns::set_flag;
-use memory_columns::set_free;
 use memory_columns::set_priority;
 use memory_columns::set_semaphore;
 use memory_columns::set_size;
 use memory_columns::set_start;
 use memory_columns::set_system;
 use memory_queues::clear;
-use memory_queues::mail_clear;
 use setup::Plan;
 ghost use mathlib.Core.Path.{_≡_};
 ghost use Prim.Native.Nat.{_+_, _≤_, _<_};
@@ -30,8 +29,8 @@ ghost use lib.ListN.{length};
 ghost use Rattle.rules.specs.Setup.{wordAt};
 ghost use Rattle.setup.specs.Layout.{planOf, PlanFits};
 ghost use Rattle.memory_columns.specs.Layout.{maxPriorities, maxTasks, maxObjects, maxPools};
-ghost use Rattle.memory_queues.specs.Moves.{clearedQueue, clearedMail};
-ghost use Rattle.kernel_fresh.specs.Laying.{inTurn, counted, laidTask, laidSemaphore, laidFlag, allFree, laidPool, entered, emptied, laid};
+ghost use Rattle.memory_queues.specs.Moves.{emptied as emptiedAt};
+ghost use Rattle.kernel_fresh.specs.Laying.{inTurn, counted, laidTask, laidSemaphore, laidFlag, laidPool, entered, emptied, laid};
 
 // The word `k` bytes behind an offset, 0 past the end. The two are not added before it is known that their sum is within the bytes.
 pub fn word_at(bytes: &[u8], at: usize, k: usize) -> u32
@@ -125,24 +124,12 @@ fn lay_flags(bytes: &[u8], at: usize, n: u32, words: &mut [u32; STATE_WORDS])
     }
 }
 
-// The mask that marks each of k blocks as free.
-fn all_free(k: u32) -> u32
-    ensures { λ r. ⌜ r ≡ allFree k ⌝ }
-{
-    if k < MAX_BLOCKS {
-        (1 << k) - 1
-    } else {
-        4294967295
-    }
-}
-
+// So many blocks, all out.
 fn lay_pool(bytes: &[u8], at: usize, i: u32, words: &mut [u32; STATE_WORDS])
     requires { ⌜ 1 ≤ i ⌝ }
     ensures { λ _. ⌜ now (words .exit) ≡ laidPool (now (bytes .entry)) at i (now (words .entry)) ⌝ }
 {
-    let k = word_at(bytes, at, 4 * (i - 1) as usize);
-    set_size(words, i, k);
-    set_free(words, i, all_free(k));
+    set_size(words, i, word_at(bytes, at, 4 * (i - 1) as usize));
 }
 
 fn lay_pools(bytes: &[u8], at: usize, n: u32, words: &mut [u32; STATE_WORDS])
@@ -171,27 +158,14 @@ fn lay_entries(bytes: &[u8], p: Plan, words: &mut [u32; STATE_WORDS])
 // ---- queues: the anchors that are in use
 
 // The queues of n anchors are made empty.
-fn empty_queues(words: &mut [u32; STATE_WORDS], first: u32, n: u32)
+fn empty_queues(words: &mut [u32; STATE_WORDS], rings: Rings, first: u32, n: u32)
     requires { ⌜ first + n < 4294967296 ⌝ }
-    ensures { λ _. ⌜ now (words .exit) ≡ inTurn clearedQueue n first (now (words .entry)) ⌝ }
+    ensures { λ _. ⌜ now (words .exit) ≡ inTurn (emptiedAt rings) n first (now (words .entry)) ⌝ }
 {
     let mut a = first;
     let mut left = n;
     while 0 < left {
-        clear(words, a);
-        a += 1;
-        left -= 1;
-    }
-}
-
-fn empty_mailboxes(words: &mut [u32; STATE_WORDS], first: u32, n: u32)
-    requires { ⌜ first + n < 4294967296 ⌝ }
-    ensures { λ _. ⌜ now (words .exit) ≡ inTurn clearedMail n first (now (words .entry)) ⌝ }
-{
-    let mut a = first;
-    let mut left = n;
-    while 0 < left {
-        mail_clear(words, a);
+        clear(words, rings, a);
         a += 1;
         left -= 1;
     }
@@ -201,12 +175,13 @@ fn empty_all(words: &mut [u32; STATE_WORDS], p: Plan)
     requires { ⌜ (p .priorities ≤ maxPriorities) × (p .semaphores ≤ maxObjects) × (p .flags ≤ maxObjects) × (p .mailboxes ≤ maxObjects) × (p .pools ≤ maxPools) ⌝ }
     ensures { λ _. ⌜ now (words .exit) ≡ emptied p (now (words .entry)) ⌝ }
 {
-    empty_queues(words, FIRST_READY, p.priorities);
-    empty_queues(words, FIRST_SEMAPHORE, p.semaphores);
-    empty_queues(words, FIRST_FLAG, p.flags);
-    empty_queues(words, FIRST_MAILBOX, p.mailboxes);
-    empty_queues(words, FIRST_POOL, p.pools);
-    empty_mailboxes(words, FIRST_MAIL, p.mailboxes);
+    empty_queues(words, Rings::Tasks, FIRST_READY, p.priorities);
+    empty_queues(words, Rings::Tasks, FIRST_SEMAPHORE, p.semaphores);
+    empty_queues(words, Rings::Tasks, FIRST_FLAG, p.flags);
+    empty_queues(words, Rings::Tasks, FIRST_MAILBOX, p.mailboxes);
+    empty_queues(words, Rings::Tasks, FIRST_POOL, p.pools);
+    empty_queues(words, Rings::Messages, FIRST_MAIL, p.mailboxes);
+    empty_queues(words, Rings::Blocks, FIRST_FREE, p.pools);
 }
 
 // ---- the whole

@@ -6,18 +6,16 @@ use mathlib.Core.List.{List, [], _∷_, map}
 use mathlib.Core.Logic.{inl, inr}
 use mathlib.Core.Option.{none}
 use mathlib.Core.Path.{_≡_, refl, sym, ap, _∙_, subst}
-use native.Mathlib.Decide.{ℕ-discrete}
-use native.Mathlib.Nat.{pow-suc}
+use native.Mathlib.Nat.{div-eq-of-lt}
 use native.Mathlib.Omega.{arith}
 use lib.Dec.{lit<}
 use lib.ListN.{length, getD, replicate, length-replicate, length-map}
 use lib.Pow.{pow-pos}
 use lib.Seq.{ext-getD}
-use borrow.Author.Tests.{lt-ltb}
 use Rattle.rules.specs.Ids.{of, from, ids, In}
 use Rattle.rules.specs.Setup.{Setup, Entry}
 use Rattle.rules.specs.State.{semaphore, flag, mailbox, pool, nobody, Store, no-handler}
-use Rattle.rules.specs.Places.{Place, readyAt, waiters, mail, Exists, tabulate}
+use Rattle.rules.specs.Places.{Place, readyAt, waiters, mail, freeIn, Sort, tasks, messages, blocks, sortAt, Exists, tabulate}
 use Rattle.rules.specs.Kernel.{idleTask, idle}
 use Rattle.rules.proofs.Ids.{of-replicate, map-ids}
 use Rattle.rules.proofs.Accepted.{GoodSetup, idle-sound, unstarted-sound}
@@ -27,14 +25,16 @@ use Rattle.memory_rings.proofs.Columns.{col-at}
 use Rattle.memory_rings.proofs.Laws.{blank-law, linked-ext, line-is}
 use Rattle.setup.specs.declared.Plan.{Plan}
 use Rattle.setup.specs.Layout.{PlanShows, PlanFits}
+use Rattle.memory_columns.specs.declared.Rings.{Rings}
+use Rattle.memory_columns.specs.declared.Rings.the-variants.{Tasks, Messages, Blocks}
 use Rattle.memory_columns.specs.Layout as Layout
-use Rattle.memory_columns.specs.Layout.{Column, stateWords, maxTasks, maxMessages, maxBlocks, mailNode, fits, clear, words, entry, Only}
+use Rattle.memory_columns.specs.Layout.{Column, stateWords, maxMessages, nextOf, prevOf, linksOf, fits, clear, words, entry, Only}
 use Rattle.memory_columns.proofs.Frame.{Sized, words-length, only-both}
-use Rattle.memory_picture.specs.Picture.{codeOf, stateShown, taskShown, messageShown, poolShown, tasksShown, messagesShown, storeShown, handlersShown, bodyShown, anchor, lineShown, viewShown, maskOf, occupied, nonemptyShown, UsedByTasks, ready-queue, wait-queue, UsedByMail, mailbox-queue, Whole, Accepted}
+use Rattle.memory_picture.specs.Picture.{codeOf, stateShown, taskShown, messageShown, bitsOf, poolShown, storeShown, handlersShown, bodyShown, anchor, ringsAt, idsShown, numbersOf, lineShown, viewShown, maskOf, occupied, nonemptyShown, Used, Whole, Accepted}
+use Rattle.memory_picture.proofs.Done.{used-at}
 use Rattle.memory_picture.proofs.FormPile.{table-is}
-use Rattle.memory_picture.proofs.FormWords.{back-pool}
-use Rattle.kernel_fresh.specs.Laying.{counted, allFree, entered, emptied, anchorsOf}
-use Rattle.kernel_fresh.proofs.Idle.{counted-size, counted-only, counted-system, entryColumns, entered-size, entered-only, entered-priority, entered-start, entered-semaphore, entered-flag, entered-size-of, entered-free, Among, emptied-size, emptied-only, emptied-anchor, emptied-task, emptied-mailbox, emptied-message}
+use Rattle.kernel_fresh.specs.Laying.{counted, entered, emptied}
+use Rattle.kernel_fresh.proofs.Idle.{counted-size, counted-only, counted-system, entryColumns, entered-size, entered-only, entered-priority, entered-start, entered-semaphore, entered-flag, entered-size-of, emptied-size, emptied-only, InUse, firstNode, emptied-anchor, emptied-id}
 
 -- ---- tables of one entry
 
@@ -63,20 +63,16 @@ unfolding maskOf
 none-marked k zero = refl
 none-marked k (suc n) = rw (none-marked (suc k) n)
 
--- ---- a pool of which every block is free
+-- ---- a pool of which every block is out
 
-ones : (k : ℕ) → maskOf (replicate k true) ≡ 2 ^ k - 1
-unfolding maskOf
-ones zero = refl
-ones (suc k) = rw (ones k, pow-suc 2 k) (omega (arith, pow-pos k))
+no-bits : (k : ℕ) → bitsOf k 0 ≡ replicate k false
+unfolding bitsOf
+no-bits zero = refl
+no-bits (suc k) = ap (λ (l : List Bool). false ∷ l) (no-bits k)
 
-all-free : (k : ℕ) → k ≤ maxBlocks → allFree k ≡ 2 ^ k - 1
-unfolding allFree
-all-free k h = elim (ℕ-discrete k maxBlocks) [ yes e ↦ rw e | no e ↦ rw (lt-ltb k maxBlocks (omega arith)) ]
-
-free-pool : (k : ℕ) → k ≤ maxBlocks → poolShown k (allFree k) ≡ replicate k true
-free-pool k h =
-    rw (all-free k h, ← ones k) (subst (λ (n : ℕ). poolShown n (maskOf (replicate k true)) ≡ replicate k true) (length-replicate k true) (back-pool (replicate k true)))
+out-pool : (k : ℕ) → poolShown k 0 ≡ replicate k false
+unfolding poolShown
+out-pool k = rw (div-eq-of-lt {n = 0} {m = 2 ^ k} (pow-pos k)) (no-bits k)
 
 -- ---- the memory
 
@@ -105,11 +101,11 @@ module _ (s : List ℕ) (u : Setup) (G : GoodSetup u) (p : Plan) (S : PlanShows 
   zeros : (d : Column) → clear (Layout.system ∷ entryColumns) d ≡ true → fits d ≡ true → words d (entered s p (counted p z)) ≡ replicate (d .width) 0
   zeros d e f = laid-only .kept d e ∙ blank d f
 
-  as-entered : (d : Column) → clear (Layout.links ∷ Layout.mailLinks ∷ []) d ≡ true → (i : ℕ) → entry d memory i ≡ entry d (entered s p (counted p z)) i
+  as-entered : (d : Column) → clear (linksOf Tasks ∷ linksOf Messages ∷ linksOf Blocks ∷ []) d ≡ true → (i : ℕ) → entry d memory i ≡ entry d (entered s p (counted p z)) i
   as-entered d e i = ap (λ (l : List ℕ). getD l i 0) (emptied-only p _ c₁ .kept d e)
 
   -- no link is written there either
-  at-zero : (d : Column) → clear (Layout.system ∷ entryColumns) d ≡ true → clear (Layout.links ∷ Layout.mailLinks ∷ []) d ≡ true → fits d ≡ true → (i : ℕ) → entry d memory i ≡ 0
+  at-zero : (d : Column) → clear (Layout.system ∷ entryColumns) d ≡ true → clear (linksOf Tasks ∷ linksOf Messages ∷ linksOf Blocks ∷ []) d ≡ true → fits d ≡ true → (i : ℕ) → entry d memory i ≡ 0
   at-zero d e e′ f i = as-entered d e′ i ∙ ap (λ (l : List ℕ). getD l i 0) (zeros d e f) ∙ zero-at (d .width) i
 
   counts : List ℕ
@@ -154,18 +150,15 @@ module _ (s : List ℕ) (u : Setup) (G : GoodSetup u) (p : Plan) (S : PlanShows 
   message-shown : (j : ℕ) → messageShown (of marks j 0) ≡ of (replicate (u .messages) none) j none
   message-shown j = rw (unlaid j) (sym (of-replicate (u .messages) j none))
 
-  abbrev freePools : List (List Bool)
-  freePools = map (λ n. replicate n true) (u .pools)
+  abbrev outPools : List (List Bool)
+  outPools = map (λ n. replicate n false) (u .pools)
 
-  pool-shown : (i : ℕ) → In i (length freePools) → poolShown (entry Layout.size memory i) (entry Layout.free memory i) ≡ of freePools i []
-  unfolding idle
+  pool-shown : (i : ℕ) → In i (length outPools) → poolShown (entry Layout.size memory i) (entry Layout.free memory i) ≡ of outPools i []
   pool-shown i h =
-      let r : In i (length (u .pools)) = (h .0, omega (arith, h .1, length-map (u .pools) (λ n. replicate n true))) in
+      let r : In i (length (u .pools)) = (h .0, omega (arith, h .1, length-map (u .pools) (λ n. replicate n false))) in
       let q : In i (p .pools) = (h .0, omega (arith, r .1, S .pools)) in
-      let e : of freePools i [] ≡ replicate (of (u .pools) i 0) true = of-map-in (λ n. replicate n true) (u .pools) i 0 [] r in
-      let k : of (u .pools) i 0 ≤ maxBlocks = omega (arith, rw (e, length-replicate) at (idle-sound u G .store .pools i h .1)) in
-      rw (as-entered Layout.size refl i, entered-size-of s p F (counted p z) c₀ i q, as-entered Layout.free refl i, entered-free s p F (counted p z) c₀ i q, ← S .blocks i 0 q, e)
-      (free-pool (of (u .pools) i 0) k)
+      let e : of outPools i [] ≡ replicate (of (u .pools) i 0) false = of-map-in (λ n. replicate n false) (u .pools) i 0 [] r in
+      rw (as-entered Layout.size refl i, entered-size-of s p F (counted p z) c₀ i q, at-zero Layout.free refl refl refl i, ← S .blocks i 0 q, e) (out-pool (of (u .pools) i 0))
 
   store-shown : storeShown memory marks ≡ idle u .store
   unfolding storeShown idle counts
@@ -175,7 +168,7 @@ module _ (s : List ℕ) (u : Setup) (G : GoodSetup u) (p : Plan) (S : PlanShows 
     flags = table-is (u .flags) _ (entry Layout.flag memory) 0 (at-system Layout.flags ∙ S .flags) flag-shown x;
     mailboxes = (at-system Layout.mailboxes ∙ S .mailboxes) x;
     messages = table-is (replicate (u .messages) none) _ (λ j. messageShown (of marks j 0)) none (at-system Layout.messages ∙ S .messages ∙ sym (length-replicate (u .messages) none)) (λ j h. message-shown j) x;
-    pools = table-is freePools _ (λ i. poolShown (entry Layout.size memory i) (entry Layout.free memory i)) [] (at-system Layout.pools ∙ S .pools ∙ sym (length-map (u .pools) (λ n. replicate n true))) pool-shown x;
+    pools = table-is outPools _ (λ i. poolShown (entry Layout.size memory i) (entry Layout.free memory i)) [] (at-system Layout.pools ∙ S .pools ∙ sym (length-map (u .pools) (λ n. replicate n false))) pool-shown x;
     clock = clock x;
   }
     where
@@ -194,46 +187,52 @@ module _ (s : List ℕ) (u : Setup) (G : GoodSetup u) (p : Plan) (S : PlanShows 
     handlers = handlers-shown x;
   }
 
-  -- ---- the links: no task and no message has one, and each anchor in use points to itself
+  -- ---- the links: no id has one, and each anchor in use points to itself
 
-  few-tasks : tasksShown memory ≤ maxTasks
+  ids-before : (r : Rings) → idsShown memory r < firstNode r
   unfolding counts
-  few-tasks = omega (arith, at-system Layout.tasks, F .tasks)
+  ids-before Tasks = omega (arith, at-system Layout.tasks, F .tasks)
+  ids-before Messages = omega (arith, at-system Layout.messages, F .messages)
+  ids-before Blocks = omega (arith, at-system Layout.pools, F .pools)
 
-  few-messages : messagesShown memory ≤ maxMessages
-  unfolding counts
-  few-messages = omega (arith, at-system Layout.messages, F .messages)
-
-  used : (a : ℕ) → UsedByTasks (idle u .store) a → Among a (anchorsOf p) × (maxTasks < a) × (a < Layout.next .width)
+  used : (q : Place) → Exists (idle u .store) q → InUse p (ringsAt q) (anchor q) × (firstNode (ringsAt q) ≤ anchor q) × (anchor q < nextOf (ringsAt q) .width)
   unfolding idle anchor
-  used a (ready-queue q e) = (inl (omega (arith, e .0), omega (arith, e .1, S .priorities)), omega (arith, e .0), omega (arith, e .1, S .priorities, F .priorities))
-  used a (wait-queue semaphore o e) = (inr (inl (omega (arith, e .0), omega (arith, e .1, S .semaphores))), omega arith, omega (arith, e .1, S .semaphores, F .semaphores))
-  used a (wait-queue flag o e) = (inr (inr (inl (omega (arith, e .0), omega (arith, e .1, S .flags)))), omega arith, omega (arith, e .1, S .flags, F .flags))
-  used a (wait-queue mailbox o e) = (inr (inr (inr (inl (omega (arith, e .0), omega (arith, e .1, S .mailboxes))))), omega arith, omega (arith, e .1, S .mailboxes, F .mailboxes))
-  used a (wait-queue pool o e) =
-      let k : o ≤ p .pools = omega (arith, e .1, S .pools, length-map (u .pools) (λ n. replicate n true)) in
+  used (readyAt q) e = (inl (omega (arith, e .0), omega (arith, e .1, S .priorities)), omega (arith, e .0), omega (arith, e .1, S .priorities, F .priorities))
+  used (waiters semaphore o) e = (inr (inl (omega (arith, e .0), omega (arith, e .1, S .semaphores))), omega arith, omega (arith, e .1, S .semaphores, F .semaphores))
+  used (waiters flag o) e = (inr (inr (inl (omega (arith, e .0), omega (arith, e .1, S .flags)))), omega arith, omega (arith, e .1, S .flags, F .flags))
+  used (waiters mailbox o) e = (inr (inr (inr (inl (omega (arith, e .0), omega (arith, e .1, S .mailboxes))))), omega arith, omega (arith, e .1, S .mailboxes, F .mailboxes))
+  used (waiters pool o) e =
+      let k : o ≤ p .pools = omega (arith, e .1, S .pools, length-map (u .pools) (λ n. replicate n false)) in
       (inr (inr (inr (inr (inl (omega (arith, e .0), omega arith))))), omega arith, omega (arith, F .pools))
+  used (mail m) e = ((omega (arith, e .0), omega (arith, e .1, S .mailboxes)), omega (arith, e .0), omega (arith, e .1, S .mailboxes, F .mailboxes))
+  used (freeIn n) e =
+      let k : n ≤ p .pools = omega (arith, e .1, S .pools, length-map (u .pools) (λ n. replicate n false)) in
+      ((omega (arith, e .0), omega arith), omega (arith, e .0), omega (arith, F .pools))
 
-  used-mail : (a : ℕ) → UsedByMail (idle u .store) a → (maxMessages < a) × (a < mailNode 1 + p .mailboxes) × (a < Layout.mailNext .width)
-  unfolding idle anchor
-  used-mail a (mailbox-queue m e) = (omega (arith, e .0), omega (arith, e .1, S .mailboxes), omega (arith, e .1, S .mailboxes, F .mailboxes))
+  used-at-node : (r : Rings) (a : ℕ) → Used (idle u .store) r a → InUse p r a × (firstNode r ≤ a) × (a < nextOf r .width)
+  used-at-node r a v =
+      subst (λ (x : ℕ). InUse p r x × (firstNode r ≤ x) × (x < nextOf r .width)) (v .here)
+      (subst (λ (y : Rings). InUse p y (anchor (v .place)) × (firstNode y ≤ anchor (v .place)) × (anchor (v .place) < nextOf y .width)) (v .among) (used (v .place) (v .there)))
 
   long : (d : Column) → fits d ≡ true → length (words d memory) ≡ d .width
   long d = words-length d memory size
 
-  tasks-linked : Linked (tasksShown memory) (UsedByTasks (idle u .store)) (words Layout.next memory) (words Layout.prev memory) (λ _. [])
-  tasks-linked = blank-law
-      (λ a v. (omega (arith, few-tasks, used a v .1), rw (long Layout.next refl) (used a v .2)))
-      (long Layout.prev refl ∙ sym (long Layout.next refl))
-      (λ i h. emptied-task p _ c₁ i (omega (arith, h .1, few-tasks)) ∙ ap (λ (l : List ℕ). getD l i 0) (zeros Layout.next refl refl) ∙ zero-at (Layout.next .width) i)
-      (λ a v. emptied-anchor p _ c₁ a (used a v .2) (used a v .0))
+  both-long : (r : Rings) → (length (words (nextOf r) memory) ≡ nextOf r .width) × (length (words (prevOf r) memory) ≡ nextOf r .width)
+  both-long Tasks = (long Layout.next refl, long Layout.prev refl)
+  both-long Messages = (long Layout.mailNext refl, long Layout.mailPrev refl)
+  both-long Blocks = (long Layout.blockNext refl, long Layout.blockPrev refl)
 
-  mails-linked : Linked (messagesShown memory) (UsedByMail (idle u .store)) (words Layout.mailNext memory) (words Layout.mailPrev memory) (λ _. [])
-  mails-linked = blank-law
-      (λ a v. (omega (arith, few-messages, used-mail a v .0), rw (long Layout.mailNext refl) (used-mail a v .2)))
-      (long Layout.mailPrev refl ∙ sym (long Layout.mailNext refl))
-      (λ i h. emptied-message p _ c₁ i (omega (arith, h .1, few-messages)) ∙ ap (λ (l : List ℕ). getD l i 0) (zeros Layout.mailNext refl refl) ∙ zero-at (Layout.mailNext .width) i)
-      (λ a v. emptied-mailbox p _ c₁ a (used-mail a v .2) (used-mail a v .0) (used-mail a v .1))
+  no-link : (r : Rings) (i : ℕ) → entry (nextOf r) (entered s p (counted p z)) i ≡ 0
+  no-link Tasks i = ap (λ (l : List ℕ). getD l i 0) (zeros Layout.next refl refl) ∙ zero-at (Layout.next .width) i
+  no-link Messages i = ap (λ (l : List ℕ). getD l i 0) (zeros Layout.mailNext refl refl) ∙ zero-at (Layout.mailNext .width) i
+  no-link Blocks i = ap (λ (l : List ℕ). getD l i 0) (zeros Layout.blockNext refl refl) ∙ zero-at (Layout.blockNext .width) i
+
+  rings-linked : (r : Rings) → Linked (idsShown memory r) (Used (idle u .store) r) (words (nextOf r) memory) (words (prevOf r) memory) (λ _. [])
+  rings-linked r = blank-law
+      (λ a v. (omega (arith, ids-before r, used-at-node r a v .1), rw (both-long r .0) (used-at-node r a v .2)))
+      (both-long r .1 ∙ sym (both-long r .0))
+      (λ i h. emptied-id p _ c₁ i r (omega (arith, h .1, ids-before r)) ∙ no-link r i)
+      (λ a v. emptied-anchor p _ c₁ a r (used-at-node r a v .2) (used-at-node r a v .0))
 
   low : entry Layout.system memory Layout.clockLow < 2 ^ 32
   unfolding counts
@@ -241,9 +240,12 @@ module _ (s : List ℕ) (u : Setup) (G : GoodSetup u) (p : Plan) (S : PlanShows 
 
   line-shown : (q : Place) → Exists (idle u .store) q → lineShown memory q ≡ []
   unfolding lineShown
-  line-shown (readyAt q) e = line-is tasks-linked (anchor (readyAt q)) (ready-queue q e)
-  line-shown (waiters k o) e = line-is tasks-linked (anchor (waiters k o)) (wait-queue k o e)
-  line-shown (mail m) e = line-is mails-linked (anchor (mail m)) (mailbox-queue m e)
+  line-shown q e = ap (numbersOf (sortAt q)) (line-is (rings-linked (ringsAt q)) (anchor q) (used-at q e)) ∙ none (sortAt q)
+    where
+      none : (t : Sort) → numbersOf t [] ≡ []
+      none tasks = refl
+      none messages = refl
+      none (blocks n) = refl
 
   -- nobody stands in a ready queue
   priorities-shown : entry Layout.system memory Layout.priorities ≡ idle u .store .priorities
@@ -263,8 +265,8 @@ module _ (s : List ℕ) (u : Setup) (G : GoodSetup u) (p : Plan) (S : PlanShows 
     size = size;
     marks = hm;
     low = low;
-    tasks = rw store-shown (linked-ext tasks-linked (lineOf (tasksShown memory) (words Layout.next memory)) (λ a v. sym (line-is tasks-linked a v)));
-    mails = rw store-shown (linked-ext mails-linked (lineOf (messagesShown memory) (words Layout.mailNext memory)) (λ a v. sym (line-is mails-linked a v)));
+    rings = λ r. subst (λ (w : Store). Linked (idsShown memory r) (Used w r) (words (nextOf r) memory) (words (prevOf r) memory) (lineOf (idsShown memory r) (words (nextOf r) memory))) (sym store-shown)
+        (linked-ext (rings-linked r) (lineOf (idsShown memory r) (words (nextOf r) memory)) (λ a v. sym (line-is (rings-linked r) a v)));
   }
 
   -- ---- the whole

@@ -1,5 +1,5 @@
 -- The start: what the bytes of a setup make of the lent memory, and the words that each function of src/lib.rt writes.
-use mathlib.Core.Bool.{cond}
+use mathlib.Core.Bool.{true, cond}
 use mathlib.Core.List.{List}
 use mathlib.Core.Path.{_≡_}
 use Prim.Native.Nat.{ℕ, _+_, _-_, _*_}
@@ -7,11 +7,13 @@ use lib.Dec.{eqb}
 use Rattle.rules.specs.Setup.{digit, Read, got, refused, wordAt, Setup, setup}
 use Rattle.rules.specs.Kernel.{fresh}
 use Rattle.setup.specs.Layout.{planOf}
+use Rattle.memory_columns.specs.Layout.{maxBlocks, atMost}
 use Rattle.memory_tasks.specs.Moves.{started}
+use Rattle.memory_objects.specs.Moves.{marked}
 use Rattle.memory_picture.specs.Picture.{viewShown, Accepted}
 use Rattle.kernel_start.specs.declared.Started.{Started}
 use Rattle.kernel_start.specs.declared.Started.the-variants.{Fresh, Refused}
-use Rattle.kernel_fresh.specs.Laying.{inTurn, laid}
+use Rattle.kernel_fresh.specs.Laying.{inTurn, wordOfId, laid}
 
 -- ---- the contract
 
@@ -26,8 +28,17 @@ Starts s r words marks words′ marks′ = StartsAs (setup s) r words marks word
 
 -- ---- what the functions write
 
+-- block k of pool p
+abbrev pub freed : ℕ → ℕ → List ℕ → List ℕ
+freed p k b = marked p k true b
+
+-- all blocks of pool p
+unfoldable pub freedPool : List ℕ → ℕ → ℕ → List ℕ → List ℕ
+freedPool s at p b = inTurn (freed p) (atMost (wordOfId s at 4 p) maxBlocks) 1 b
+
 unfoldable pub begun : List ℕ → ℕ → ℕ → List ℕ → List ℕ
 begun s at i b = cond (eqb (wordAt s (at + (8 * (i - 1) + 4))) 1) (started i b) b
 
 unfoldable pub freshWords : List ℕ → List ℕ
-freshWords s = inTurn (begun s (planOf s 0 .at .tasks)) (planOf s 0 .tasks) 1 (laid s (planOf s 0))
+freshWords s =
+    inTurn (begun s (planOf s 0 .at .tasks)) (planOf s 0 .tasks) 1 (inTurn (freedPool s (planOf s 0 .at .pools)) (planOf s 0 .pools) 1 (laid s (planOf s 0)))

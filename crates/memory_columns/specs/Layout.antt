@@ -3,10 +3,12 @@
 use mathlib.Core.Bool.{Bool, true, false, cond, _&&_, _||_}
 use mathlib.Core.List.{List, [], _∷_, _++_}
 use mathlib.Core.Path.{_≡_}
-use Prim.Native.Nat.{ℕ, _+_, _*_}
+use Prim.Native.Nat.{ℕ, pred, _+_, _*_}
 use lib.Dec.{eqb, leb}
 use lib.ListN.{getD}
 use Rattle.memory_rings.specs.Columns.{col, store}
+use Rattle.memory_columns.specs.declared.Rings.{Rings}
+use Rattle.memory_columns.specs.declared.Rings.the-variants.{Tasks, Messages, Blocks}
 
 -- ---- limits: the greatest number of each
 
@@ -118,6 +120,13 @@ handling = column 1180 2
 abbrev pub nonempty : Column
 nonempty = column 1182 1
 
+-- the rings of free blocks: nodes 1 to 256 are the blocks of all pools, 32 for each, those from 257 on anchors of pools
+abbrev pub blockNext : Column
+blockNext = column 1183 265
+
+abbrev pub blockPrev : Column
+blockPrev = column 1448 265
+
 -- ---- the entries of the system's column
 
 abbrev pub priorities : ℕ
@@ -159,7 +168,7 @@ depth = 0
 abbrev pub interrupted : ℕ
 interrupted = 1
 
--- ---- anchors: the nodes of the queues, behind those of tasks or of messages
+-- ---- anchors: the nodes of the queues, behind those of tasks, of messages or of blocks
 
 abbrev pub readyAnchors : ℕ
 readyAnchors = maxTasks
@@ -170,6 +179,10 @@ waitAnchors = 16
 
 abbrev pub mailAnchors : ℕ
 mailAnchors = maxMessages
+
+-- the blocks of all pools
+abbrev pub blockNodes : ℕ
+blockNodes = maxBlocks * maxPools
 
 -- of the ready queue of priority p
 abbrev pub readyNode : ℕ → ℕ
@@ -187,6 +200,17 @@ waitNode k o = waitAnchors + (maxObjects * k + o)
 abbrev pub mailNode : ℕ → ℕ
 mailNode m = mailAnchors + m
 
+-- of the free blocks of pool p
+abbrev pub freeNode : ℕ → ℕ
+freeNode p = blockNodes + p
+
+-- the nodes before the first block of pool p, and the node of its block k
+abbrev pub beforePool : ℕ → ℕ
+beforePool p = maxBlocks * pred p
+
+abbrev pub blockNode : ℕ → ℕ → ℕ
+blockNode p k = beforePool p + k
+
 -- ---- the table
 
 -- the columns of tasks, and of objects
@@ -198,10 +222,10 @@ objectColumns = semaphore ∷ flag ∷ free ∷ size ∷ []
 
 -- all of them, in order
 abbrev pub columns : List Column
-columns = taskColumns ++ (next ∷ prev ∷ (objectColumns ++ (mailNext ∷ mailPrev ∷ system ∷ handling ∷ nonempty ∷ [])))
+columns = taskColumns ++ (next ∷ prev ∷ (objectColumns ++ (mailNext ∷ mailPrev ∷ system ∷ handling ∷ nonempty ∷ blockNext ∷ blockPrev ∷ [])))
 
 abbrev pub stateWords : ℕ
-stateWords = 1183
+stateWords = 1713
 
 -- the two directions of a ring stand side by side, as the crate `rings` wants them: the links back behind the links forth
 abbrev pub back : Column → Column
@@ -210,11 +234,17 @@ back c = column (c .at + c .width) (c .width)
 abbrev pub both : Column → Column
 both c = column (c .at) (c .width + c .width)
 
-abbrev pub links : Column
-links = both next
+-- the links forth of the rings of a sort, their links back, and both
+abbrev pub nextOf : Rings → Column
+nextOf Tasks = next
+nextOf Messages = mailNext
+nextOf Blocks = blockNext
 
-abbrev pub mailLinks : Column
-mailLinks = both mailNext
+abbrev pub prevOf : Rings → Column
+prevOf r = back (nextOf r)
+
+abbrev pub linksOf : Rings → Column
+linksOf r = both (nextOf r)
 
 -- ---- columns among others
 

@@ -8,7 +8,15 @@ ghost use Rattle.memory_rings.specs.Columns.{col, store};
 ghost use Rattle.memory_columns.specs.Layout as Layout;
 ghost use Rattle.memory_columns.specs.Layout.{stateWords, entry, put, atMost};
 
-// Entries of a column of tasks, of objects, of pools, of the system, of the handlers and of the word of nonempty queues, and nodes of the rings of tasks and of messages. Entry 0 is unused.
+// The rings in which tasks, messages and free blocks stand.
+pub enum Rings {
+    Tasks,
+    Messages,
+    Blocks,
+}
+
+// Entries of a column of tasks, of objects, of pools, of the system, of the handlers and of the word of nonempty queues, and nodes of the
+// rings of tasks, of messages and of blocks. Entry 0 is unused.
 const TASK_ENTRIES: usize = 33;
 
 const OBJECT_ENTRIES: usize = 17;
@@ -24,6 +32,8 @@ const NONEMPTY_ENTRIES: usize = 1;
 const TASK_NODES: usize = 105;
 
 const MAIL_NODES: usize = 273;
+
+const BLOCK_NODES: usize = 265;
 
 // Where each column begins: behind the one before it. Of the rings also where they end; both directions stand there.
 const AT_STATUS: usize = 0;
@@ -70,8 +80,12 @@ const AT_HANDLING: usize = AT_SYSTEM + SYSTEM_ENTRIES;
 
 const AT_NONEMPTY: usize = AT_HANDLING + HANDLING_ENTRIES;
 
+pub const BLOCK_LINKS: usize = AT_NONEMPTY + NONEMPTY_ENTRIES;
+
+pub const BLOCK_LINKS_END: usize = BLOCK_LINKS + 2 * BLOCK_NODES;
+
 // How many words the kernel's state has, and how many marks of messages beside it.
-pub const STATE_WORDS: usize = AT_NONEMPTY + NONEMPTY_ENTRIES;
+pub const STATE_WORDS: usize = BLOCK_LINKS_END;
 
 pub const MESSAGE_WORDS: usize = 256;
 
@@ -116,14 +130,18 @@ pub const MAILBOX: u32 = 4;
 
 pub const POOL: u32 = 5;
 
-// Anchors: that of priority p is READY_ANCHORS + p, of object o of kind k WAIT_ANCHORS + (MAX_OBJECTS * k + o), of mailbox m MAIL_ANCHORS + m.
+// Anchors: that of priority p is READY_ANCHORS + p, of object o of kind k WAIT_ANCHORS + (MAX_OBJECTS * k + o), of mailbox m MAIL_ANCHORS + m,
+// of the free blocks of pool p FREE_ANCHORS + p.
 pub const READY_ANCHORS: u32 = 32;
 
 pub const WAIT_ANCHORS: u32 = 16;
 
 pub const MAIL_ANCHORS: u32 = 256;
 
-// The first of each, and the last of the ready queues: of the ready queues, of the waiters on each kind of object, of the messages in mailboxes.
+pub const FREE_ANCHORS: u32 = MAX_BLOCKS * MAX_POOLS;
+
+// The first of each, and the last of the ready queues: of the ready queues, of the waiters on each kind of object, of the messages in mailboxes,
+// of the free blocks of pools.
 pub const FIRST_READY: u32 = READY_ANCHORS + 1;
 
 pub const LAST_READY: u32 = READY_ANCHORS + MAX_PRIORITIES;
@@ -137,6 +155,8 @@ pub const FIRST_MAILBOX: u32 = WAIT_ANCHORS + (MAX_OBJECTS * MAILBOX + 1);
 pub const FIRST_POOL: u32 = WAIT_ANCHORS + (MAX_OBJECTS * POOL + 1);
 
 pub const FIRST_MAIL: u32 = MAIL_ANCHORS + 1;
+
+pub const FIRST_FREE: u32 = FREE_ANCHORS + 1;
 
 // The entries of the system's column: how many there are, the objects by their kind, and the clock's halves.
 pub const PRIORITIES: u32 = 0;

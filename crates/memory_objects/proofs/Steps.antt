@@ -13,7 +13,9 @@ use Rattle.rules.specs.Ids.{of, put}
 use Rattle.memory_columns.specs.Layout as Layout
 use Rattle.memory_columns.specs.Layout.{maxBlocks, entry}
 use Rattle.memory_columns.specs.Bits.{remasked}
-use Rattle.memory_objects.specs.Moves.{marked, isTimed, aged, agedFrom, clocked}
+use Rattle.memory_columns.specs.declared.Rings.the-variants.{Blocks}
+use Rattle.memory_queues.specs.Moves.{freeAnchor, nodeOfBlock, linked, unlinked}
+use Rattle.memory_objects.specs.Moves.{listed, marked, isTimed, aged, agedFrom, clocked}
 
 -- ---- tables by id
 
@@ -44,11 +46,21 @@ module _ (p k : ℕ) (t : Bool) (b : List ℕ) where
   unfolding marked
   block-past h = rw (le-leb 1 k (omega arith), lt-leb k maxBlocks h)
 
-pub block-in : (p k : ℕ) (t : Bool) (b : List ℕ) {m n : ℕ} {b₁ : List ℕ} → (k ≡ 0 → ⊥) → k ≤ maxBlocks → m ≡ entry Layout.free b p → n ≡ remasked m (k - 1) t
-    → b₁ ≡ Layout.put Layout.free p n b → b₁ ≡ marked p k t b
+-- its place in the queue
+module _ (p k : ℕ) (b : List ℕ) {n : ℕ} {b₁ : List ℕ} (e : n ≡ nodeOfBlock p k) (f : b₁ ≡ unlinked Blocks n b) where
+  pub block-last : {a : ℕ} {b₂ : List ℕ} → a ≡ freeAnchor p → b₂ ≡ linked Blocks a n b₁ → b₂ ≡ listed p k true b
+  unfolding listed
+  block-last g h = h ∙ rw (g, f, e)
+
+  pub block-off : b₁ ≡ listed p k false b
+  unfolding listed
+  block-off = f ∙ rw e
+
+pub block-in : (p k : ℕ) (t : Bool) (b : List ℕ) {m n : ℕ} {b₁ b₂ : List ℕ} → (k ≡ 0 → ⊥) → k ≤ maxBlocks → m ≡ entry Layout.free b p → n ≡ remasked m (k - 1) t
+    → b₁ ≡ Layout.put Layout.free p n b → b₂ ≡ listed p k t b₁ → b₂ ≡ marked p k t b
 unfolding marked
-block-in p zero t b ne h e f g = absurd (ne refl)
-block-in p (suc k) t b ne h e f g = g ∙ rw (le-leb 1 (suc k) (omega arith), le-leb (suc k) maxBlocks h, f, e, sub-one, lt-ltb k 32 (omega arith))
+block-in p zero t b ne h e f g l = absurd (ne refl)
+block-in p (suc k) t b ne h e f g l = l ∙ rw (le-leb 1 (suc k) (omega arith), le-leb (suc k) maxBlocks h, g, f, e, sub-one, lt-ltb k 32 (omega arith))
 
 -- ---- time
 

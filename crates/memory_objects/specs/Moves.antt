@@ -6,12 +6,18 @@ use lib.Dec.{eqb, leb}
 use Rattle.memory_columns.specs.Layout as Layout
 use Rattle.memory_columns.specs.Layout.{maxTasks, maxBlocks, status, kind, ticks, free, system, handling, entry, put, atMost}
 use Rattle.memory_columns.specs.Bits.{masked}
+use Rattle.memory_columns.specs.declared.Rings.the-variants.{Blocks}
+use Rattle.memory_queues.specs.Moves.{freeAnchor, nodeOfBlock, linked, unlinked}
 
 -- ---- blocks: bit k - 1 of the mask is block k's mark
 
--- block k of pool p; a number that is no block's changes nothing
+-- block k of pool p goes last in the queue of free blocks, or stands in none
+unfoldable pub listed : ℕ → ℕ → Bool → List ℕ → List ℕ
+listed p k t b = cond t (linked Blocks (freeAnchor p) (nodeOfBlock p k) (unlinked Blocks (nodeOfBlock p k) b)) (unlinked Blocks (nodeOfBlock p k) b)
+
+-- its mark, and its place in the queue; a number that is no block's changes nothing
 unfoldable pub marked : ℕ → ℕ → Bool → List ℕ → List ℕ
-marked p k t b = cond (leb 1 k && leb k maxBlocks) (put free p (masked (entry free b p) (pred k) t) b) b
+marked p k t b = cond (leb 1 k && leb k maxBlocks) (listed p k t (put free p (masked (entry free b p) (pred k) t) b)) b
 
 -- ---- time
 

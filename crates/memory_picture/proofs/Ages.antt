@@ -15,8 +15,10 @@ use Rattle.rules.specs.State.{semaphore, flag, mailbox, pool, Wait, asleep, tim
 use Rattle.rules.specs.Acts.{elapse, after, move, with-state, with-clock, older, clockAfter}
 use Rattle.rules.proofs.Ids.{map-ids, length-ids}
 use Rattle.memory_rings.proofs.Columns.{col-store, length-store}
+use Rattle.memory_columns.specs.declared.Rings.{Rings}
+use Rattle.memory_columns.specs.declared.Rings.the-variants.{Tasks, Messages, Blocks}
 use Rattle.memory_columns.specs.Layout as Layout
-use Rattle.memory_columns.specs.Layout.{stateWords, maxTasks, words, entry, Only}
+use Rattle.memory_columns.specs.Layout.{stateWords, maxTasks, nextOf, prevOf, words, entry, Only}
 use Rattle.memory_columns.proofs.Frame.{words-length, put-only, only-none, only-both, only-on}
 use Rattle.memory_objects.specs.Moves.{isTimed, aged, agedFrom, clocked, elapsed}
 use Rattle.memory_picture.specs.Picture.{noWait, waitShown, stateShown, taskShown, storeShown, bodyShown, viewShown, Accepted}
@@ -258,24 +260,30 @@ module _ (b msgs : List ℕ) (A : Accepted b msgs) (F : LowClock b) where
         stores : storeShown d msgs ≡ after elapse (bodyShown b msgs) .store
         stores = store-kept b d msgs msgs only refl counts ∙ ap (λ (t : ℕ). with-clock t (storeShown b msgs)) clock
 
+    next : (r : Rings) → words (nextOf r) d ≡ words (nextOf r) b
+    next Tasks = K .only .kept Layout.next refl ∙ R .next
+    next Messages = only .kept Layout.mailNext refl
+    next Blocks = only .kept Layout.blockNext refl
+
+    prev : (r : Rings) → words (prevOf r) d ≡ words (prevOf r) b
+    prev Tasks = K .only .kept Layout.prev refl ∙ R .prev
+    prev Messages = only .kept Layout.mailPrev refl
+    prev Blocks = only .kept Layout.blockPrev refl
+
     ticked-done : Done elapse b msgs d msgs
     unfolding move
     ticked-done = record {
       size = K .size ∙ R .size;
       many = A .whole .marks;
       body = body;
-      tasks = rest;
-      mails = rest;
-      tasks-fine = tt;
-      mails-fine = tt;
-      next = K .only .kept Layout.next refl ∙ R .next;
-      prev = K .only .kept Layout.prev refl ∙ R .prev;
-      mail-next = only .kept Layout.mailNext refl;
-      mail-prev = only .kept Layout.mailPrev refl;
+      steps = λ r. rest;
+      fine = λ r. tt;
+      next = next;
+      prev = prev;
       word = ap (λ (l : List ℕ). getD l 0 0) (K .only .kept Layout.nonempty refl) ∙ R .word;
       counts = counts;
       low-half = λ _. subst (λ (l : List ℕ). getD l Layout.clockLow 0 < 2 ^ 32) (sym system) (ticked-low (words Layout.system b) (eqb (suc (entry Layout.system b Layout.clockLow) % 2 ^ 32) 0) wide);
-      lines = follows-stay _ _;
+      lines = follows-stay _ _ _;
     }
 
   pub elapse-done : Done elapse b msgs (elapsed b) msgs

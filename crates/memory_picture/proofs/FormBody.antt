@@ -1,7 +1,7 @@
 -- The form of a sound body shows that body, whatever the lines: each entry is read off its column, and decoded. Assumes nothing.
 use mathlib.Core.List.{List, [], map, reverse}
 use mathlib.Core.Option.{none}
-use mathlib.Core.Path.{_≡_, refl, _∙_}
+use mathlib.Core.Path.{_≡_, refl, ap, _∙_}
 use Prim.Native.Nat.{ℕ, zero, suc, _+_, _*_, _%_, _^_, _<_}
 use native.Mathlib.Omega.{arith}
 use lib.Dec.{lit<}
@@ -10,11 +10,13 @@ use Rattle.rules.specs.Ids.{of, ids, In}
 use Rattle.rules.specs.State.{depth, Body, task, nobody}
 use Rattle.rules.specs.Places.{Place, readyAt}
 use Rattle.rules.specs.Sound.{SoundBody}
+use Rattle.memory_columns.specs.declared.Rings.{Rings}
+use Rattle.memory_columns.specs.declared.Rings.the-variants.{Tasks, Messages, Blocks}
 use Rattle.memory_columns.specs.Layout as Layout
-use Rattle.memory_columns.specs.Layout.{columns, maxMessages, words, entry}
-use Rattle.memory_picture.specs.Picture.{taskShown, messageShown, poolShown, storeShown, openShown, handlersShown, maskOf, occupied, bodyShown, tasksShown, messagesShown}
+use Rattle.memory_columns.specs.Layout.{columns, maxMessages, maxBlocks, nextOf, prevOf, words, entry}
+use Rattle.memory_picture.specs.Picture.{taskShown, messageShown, poolShown, storeShown, openShown, handlersShown, maskOf, occupied, bodyShown, idsShown}
 use Rattle.memory_picture.specs.Perform.{codeKept, interruptedKept}
-use Rattle.memory_picture.specs.Form.{statusNumber, wordsOf, boxNumber, taskLink, mailLink, run, entries, pile, systemWords, handlingWords, parts}
+use Rattle.memory_picture.specs.Form.{statusNumber, wordsOf, boxNumber, idsKept, nodeLines, ringLink, run, entries, pile, systemWords, handlingWords, parts}
 use Rattle.memory_picture.proofs.FormPile.{run-at, pile-words, pile-at, table-is}
 use Rattle.memory_picture.proofs.FormWords.{back-state, back-code, back-pool, back-message, back-clock, back-handlers}
 
@@ -62,11 +64,15 @@ module _ (b : Body) (L : Place → List ℕ) where
     at-ticks : entry Layout.ticks form i ≡ wordsOf (task b i .state) .ticks
     at-ticks = pile-at (entries (parts b L)) Layout.ticks refl i r
 
-  pub next-words : words Layout.next form ≡ run (Layout.next .width) (taskLink b L)
-  next-words = pile-words (entries (parts b L)) Layout.next refl
+  pub next-words : (r : Rings) → words (nextOf r) form ≡ run (nextOf r .width) (ringLink b r (nodeLines L))
+  next-words Tasks = pile-words (entries (parts b L)) Layout.next refl
+  next-words Messages = pile-words (entries (parts b L)) Layout.mailNext refl
+  next-words Blocks = pile-words (entries (parts b L)) Layout.blockNext refl
 
-  pub prev-words : words Layout.prev form ≡ run (Layout.next .width) (taskLink b (λ q. reverse (L q)))
-  prev-words = pile-words (entries (parts b L)) Layout.prev refl
+  pub prev-words : (r : Rings) → words (prevOf r) form ≡ run (nextOf r .width) (ringLink b r (λ q. reverse (nodeLines L q)))
+  prev-words Tasks = pile-words (entries (parts b L)) Layout.prev refl
+  prev-words Messages = pile-words (entries (parts b L)) Layout.mailPrev refl
+  prev-words Blocks = pile-words (entries (parts b L)) Layout.blockPrev refl
 
   at-semaphore : (s : ℕ) → s < Layout.semaphore .width → entry Layout.semaphore form s ≡ of (b .store .semaphores) s 0
   at-semaphore s r = pile-at (entries (parts b L)) Layout.semaphore refl s r
@@ -79,12 +85,6 @@ module _ (b : Body) (L : Place → List ℕ) where
 
   at-size : (p : ℕ) → p < Layout.size .width → entry Layout.size form p ≡ length (of (b .store .pools) p [])
   at-size p r = pile-at (entries (parts b L)) Layout.size refl p r
-
-  pub mail-next-words : words Layout.mailNext form ≡ run (Layout.mailNext .width) (mailLink b L)
-  mail-next-words = pile-words (entries (parts b L)) Layout.mailNext refl
-
-  pub mail-prev-words : words Layout.mailPrev form ≡ run (Layout.mailNext .width) (mailLink b (λ q. reverse (L q)))
-  mail-prev-words = pile-words (entries (parts b L)) Layout.mailPrev refl
 
   at-system : (k : ℕ) → k < Layout.system .width → entry Layout.system form k ≡ getD (systemWords b) k 0
   at-system k r = pile-at (entries (parts b L)) Layout.system refl k r
@@ -102,11 +102,10 @@ module _ (b : Body) (L : Place → List ℕ) where
   at-mark zero r = absurd (omega (arith, r .0))
   at-mark (suc j) r = run-at maxMessages _ j 0 (omega (arith, r .1))
 
-  pub tasks-count : tasksShown form ≡ length (b .tasks)
-  tasks-count = at-system Layout.tasks (lit< tt)
-
-  pub messages-count : messagesShown form ≡ length (b .store .messages)
-  messages-count = at-system Layout.messages (lit< tt)
+  pub ids-count : (r : Rings) → idsShown form r ≡ idsKept b r
+  ids-count Tasks = at-system Layout.tasks (lit< tt)
+  ids-count Messages = at-system Layout.messages (lit< tt)
+  ids-count Blocks = ap (λ (n : ℕ). maxBlocks * n) (at-system Layout.pools (lit< tt))
 
   pub low-clock : entry Layout.system form Layout.clockLow ≡ b .store .clock % 2 ^ 32
   low-clock = at-system Layout.clockLow (lit< tt)

@@ -1,18 +1,18 @@
--- In a sound view each task and each message has a home: the one queue to which it belongs, if any. So the link columns of its form are whole rings
+-- In a sound view each task, each message and each block has a home: the one queue to which it belongs, if any. So the link columns of its form are whole rings
 -- that hold its lines. Assumes nothing.
 use mathlib.Core.Bool.{Bool, true, false, _&&_, false≢true}
-use mathlib.Core.List.{List, [], _∷_, reverse}
-use mathlib.Core.Logic.{_≢_, _⊎_, inl, inr}
+use mathlib.Core.List.{List, [], _∷_, map, reverse}
+use mathlib.Core.Logic.{_⊎_, inl, inr}
 use mathlib.Core.Option.{Option, none, some}
-use mathlib.Core.Path.{_≡_, refl, ap}
-use Prim.Native.Nat.{ℕ, _+_, _^_, _≤_, _<_}
+use mathlib.Core.Path.{_≡_, refl, sym, ap, subst}
+use Prim.Native.Nat.{ℕ, zero, suc, _+_, _-_, _*_, _/_, _%_, _^_, _≤_, _<_}
 use native.Mathlib.Omega.{arith}
 use lib.Dec.{eqb, leb, lit≤}
 use lib.ListN.{length}
 use borrow.Author.Tests.{eq-eqb, eqb-true, le-leb, lt-leb}
-use Rattle.rules.specs.Ids.{of, In, once, times}
+use Rattle.rules.specs.Ids.{of, In}
 use Rattle.rules.specs.State.{Kind, semaphore, flag, mailbox, pool, asleep, timed, on, State, dormant, ready, suspended, waiting, waiting-suspended, Store, Body, task, nobody, objects, waitOf, isReady}
-use Rattle.rules.specs.Places.{Place, readyAt, waiters, mail, many, sameKind, awaits, lies, belongs, at, lineAt, Exists, population}
+use Rattle.rules.specs.Places.{Place, readyAt, waiters, mail, freeIn, Sort, tasks, messages, blocks, sortAt, sameKind, awaits, lies, belongs, at, lineAt, Exists, population}
 use Rattle.rules.specs.View.{View}
 use Rattle.rules.specs.Sound.{Sizes, LiesWell, WaitNumbers, Known, Sound}
 use Rattle.rules.proofs.Ids.{inside}
@@ -20,95 +20,52 @@ use Rattle.rules.proofs.Queues.{belongs-stands, stands-belongs}
 use Rattle.rules.proofs.Rising.{one-line}
 use Rattle.rules.proofs.Waits.{both-true, sameKind-true}
 use Rattle.memory_rings.specs.Rings.{IsId, All, Out, Stands, Distinct, lineOf, Linked}
-use Rattle.memory_rings.proofs.Lists.{all-map, all-reverse}
+use Rattle.memory_rings.proofs.Lists.{all-map, all-reverse, all-at}
+use Rattle.memory_columns.specs.declared.Rings.{Rings}
+use Rattle.memory_columns.specs.declared.Rings.the-variants.{Tasks, Messages, Blocks}
 use Rattle.memory_columns.specs.Layout as Layout
-use Rattle.memory_columns.specs.Layout.{maxPriorities, maxTasks, maxObjects, maxMessages, readyNode, waitNode}
-use Rattle.memory_picture.specs.Picture.{anchor, UsedByTasks, ready-queue, wait-queue, UsedByMail, mailbox-queue}
-use Rattle.memory_picture.specs.Form.{taskHome, mailHome, taskPlace, mailPlace, taskLink, mailLink, run}
+use Rattle.memory_columns.specs.Layout.{maxPriorities, maxTasks, maxObjects, maxMessages, maxBlocks, blockNodes, readyNode, waitNode, beforePool, blockNode, nextOf}
+use Rattle.memory_picture.specs.Picture.{anchor, ringsAt, numbersOf, Used}
+use Rattle.memory_picture.specs.Form.{taskHome, mailHome, blockHome, homeOf, idsKept, taskPlace, mailPlace, freePlace, placeOf, nodesOf, nodeLines, ringLink, run}
+use Rattle.memory_picture.proofs.Counts.{stands-times, times-stands, few-distinct}
 use Rattle.memory_picture.proofs.FormLinks.{Housed, Lives, link-below, linked-lines, line-back}
 
--- ---- standing and counting
-
-pub times-out : (i : ℕ) (l : List ℕ) → times i l ≡ 0 → Out i l
-unfolding times
-times-out i [] e = tt
-times-out i (x ∷ l) e = ((λ q. let z : once (eqb x i) ≡ 1 = ap once (eq-eqb x i q) in omega arith), times-out i l (omega arith))
-
-pub stands-times : (i : ℕ) (l : List ℕ) → Stands i l → times i l ≢ 0
-unfolding times
-stands-times i [] s = absurd s
-stands-times i (x ∷ l) (inl e) = λ z. omega (arith, ap once (eq-eqb x i e))
-stands-times i (x ∷ l) (inr s) = λ z. stands-times i l s (omega arith)
-
-pub times-stands : (i : ℕ) (l : List ℕ) → times i l ≡ 1 → Stands i l
-unfolding times
-times-stands i [] e = absurd (omega arith)
-times-stands i (x ∷ l) e = go (eqb x i) refl e (times-stands i l)
-  where
-    go : (t : Bool) → eqb x i ≡ t → once t + times i l ≡ 1 → (times i l ≡ 1 → Stands i l) → Stands i (x ∷ l)
-    go true q r h = inl (eqb-true x i q)
-    go false q r h = inr (h (omega arith))
-
-few-distinct : (l : List ℕ) → ((i : ℕ) → times i l ≤ 1) → Distinct l
-unfolding times
-few-distinct [] h = tt
-few-distinct (x ∷ l) h = (times-out x l (omega (arith, h x, ap once (eq-eqb x x refl))), few-distinct l (λ i. omega (arith, h i)))
+-- ---- lines of nodes
 
 known-ids : (m n : ℕ) → m ≤ n → (l : List ℕ) → Known m l → All (IsId n) l
 known-ids m n r [] h = tt
 known-ids m n r (x ∷ l) h = ((h .0 .0, omega (arith, h .0 .1)), known-ids m n r l (h .1))
 
--- ---- the queues of tasks and of messages
+-- the numbers of nodes are the line again
+pub numbers-nodes : (s : Sort) (l : List ℕ) → numbersOf s (nodesOf s l) ≡ l
+numbers-nodes tasks l = refl
+numbers-nodes messages l = refl
+numbers-nodes (blocks p) [] = refl
+numbers-nodes (blocks p) (k ∷ l) = let e : blockNode p k - beforePool p ≡ k = omega arith in rw e (ap (λ (m : List ℕ). k ∷ m) (numbers-nodes (blocks p) l))
 
-abbrev pub TaskQueue : Store → Place → Type 0
-TaskQueue u (readyAt p) = Exists u (readyAt p)
-TaskQueue u (waiters k o) = Exists u (waiters k o)
-TaskQueue u (mail m) = ⊥
+module _ (p : ℕ) where
+  block-stands : (i : ℕ) (l : List ℕ) → Stands i (map (blockNode p) l) → (k : ℕ) × Stands k l × (blockNode p k ≡ i)
+  block-stands i [] s = absurd s
+  block-stands i (x ∷ l) (inl e) = (x, inl refl, e)
+  block-stands i (x ∷ l) (inr s) = let r = block-stands i l s in (r .0, inr (r .1), r .2)
 
-abbrev pub MailQueue : Store → Place → Type 0
-MailQueue u (readyAt p) = ⊥
-MailQueue u (waiters k o) = ⊥
-MailQueue u (mail m) = Exists u (mail m)
+  stands-block : (k : ℕ) (l : List ℕ) → Stands k l → Stands (blockNode p k) (map (blockNode p) l)
+  stands-block k [] s = absurd s
+  stands-block k (x ∷ l) (inl e) = inl (ap (blockNode p) e)
+  stands-block k (x ∷ l) (inr s) = inr (stands-block k l s)
 
-pub task-exists : (u : Store) (q : Place) → TaskQueue u q → Exists u q
-task-exists u (readyAt p) h = h
-task-exists u (waiters k o) h = h
-task-exists u (mail m) h = absurd h
+  blocks-distinct : (l : List ℕ) → Distinct l → Distinct (map (blockNode p) l)
+  blocks-distinct [] d = tt
+  blocks-distinct (x ∷ l) d = (out l (d .0), blocks-distinct l (d .1))
+    where
+      out : (m : List ℕ) → Out x m → Out (blockNode p x) (map (blockNode p) m)
+      out [] o = tt
+      out (y ∷ m) o = ((λ e. o .0 (omega arith)), out m (o .1))
 
-pub mail-exists : (u : Store) (q : Place) → MailQueue u q → Exists u q
-mail-exists u (readyAt p) h = absurd h
-mail-exists u (waiters k o) h = absurd h
-mail-exists u (mail m) h = h
-
-pub task-many : (b : Body) (q : Place) → TaskQueue (b .store) q → many b q ≡ length (b .tasks)
-unfolding population
-task-many b (readyAt p) h = refl
-task-many b (waiters k o) h = refl
-task-many b (mail m) h = absurd h
-
-pub mail-many : (b : Body) (q : Place) → MailQueue (b .store) q → many b q ≡ length (b .store .messages)
-unfolding population
-mail-many b (readyAt p) h = absurd h
-mail-many b (waiters k o) h = absurd h
-mail-many b (mail m) h = refl
-
-module _ (u : Store) where
-  pub task-from : (a : ℕ) → UsedByTasks u a → (q : Place) × TaskQueue u q × (anchor q ≡ a)
-  task-from a (ready-queue p h) = (readyAt p, h, refl)
-  task-from a (wait-queue k o h) = (waiters k o, h, refl)
-
-  pub task-to : (q : Place) → TaskQueue u q → UsedByTasks u (anchor q)
-  task-to (readyAt p) h = ready-queue p h
-  task-to (waiters k o) h = wait-queue k o h
-  task-to (mail m) h = absurd h
-
-  pub mail-from : (a : ℕ) → UsedByMail u a → (q : Place) × MailQueue u q × (anchor q ≡ a)
-  mail-from a (mailbox-queue m h) = (mail m, h, refl)
-
-  pub mail-to : (q : Place) → MailQueue u q → UsedByMail u (anchor q)
-  mail-to (readyAt p) h = absurd h
-  mail-to (waiters k o) h = absurd h
-  mail-to (mail m) h = mailbox-queue m h
+  -- of a pool that there is
+  blocks-ids : (n m : ℕ) → In p n → m ≤ maxBlocks → (l : List ℕ) → Known m l → All (IsId (maxBlocks * n)) (map (blockNode p) l)
+  blocks-ids n m h r [] k = tt
+  blocks-ids n m h r (x ∷ l) k = ((omega (arith, k .0 .0), omega (arith, k .0 .1, h .0, h .1)), blocks-ids n m h r l (k .1))
 
 -- ---- anchors
 
@@ -119,54 +76,60 @@ not-ready k o h r = lt-leb (waitNode k o) (readyNode maxPriorities) (omega arith
 not-before : (j k o : ℕ) → j < k → 1 ≤ o → leb (waitNode k o) (waitNode j maxObjects) ≡ false
 not-before j k o h r = lt-leb (waitNode k o) (waitNode j maxObjects) (omega arith)
 
+-- the largest number of nodes that are ids
+abbrev maxIds : Rings → ℕ
+maxIds Tasks = maxTasks
+maxIds Messages = maxMessages
+maxIds Blocks = blockNodes
+
 module _ (b : Body) (S : Sizes b) where
-  pub task-anchored : (q : Place) → TaskQueue (b .store) q → (maxTasks < anchor q) × (anchor q < Layout.next .width)
+  anchored : (q : Place) → Exists (b .store) q → (maxIds (ringsAt q) < anchor q) × (anchor q < nextOf (ringsAt q) .width)
   unfolding anchor
-  task-anchored (readyAt p) h = (omega (arith, h .0), omega (arith, h .1, S .priorities .1))
-  task-anchored (waiters semaphore o) h = (omega (arith, h .0), omega (arith, h .1, S .semaphores))
-  task-anchored (waiters flag o) h = (omega (arith, h .0), omega (arith, h .1, S .flags))
-  task-anchored (waiters mailbox o) h = (omega (arith, h .0), omega (arith, h .1, S .mailboxes))
-  task-anchored (waiters pool o) h = (omega (arith, h .0), omega (arith, h .1, S .pools))
-  task-anchored (mail m) h = absurd h
+  anchored (readyAt p) h = (omega (arith, h .0), omega (arith, h .1, S .priorities .1))
+  anchored (waiters semaphore o) h = (omega (arith, h .0), omega (arith, h .1, S .semaphores))
+  anchored (waiters flag o) h = (omega (arith, h .0), omega (arith, h .1, S .flags))
+  anchored (waiters mailbox o) h = (omega (arith, h .0), omega (arith, h .1, S .mailboxes))
+  anchored (waiters pool o) h = (omega (arith, h .0), omega (arith, h .1, S .pools))
+  anchored (mail m) h = (omega (arith, h .0), omega (arith, h .1, S .mailboxes))
+  anchored (freeIn p) h = (omega (arith, h .0), omega (arith, h .1, S .pools))
 
-  pub mail-anchored : (q : Place) → MailQueue (b .store) q → (maxMessages < anchor q) × (anchor q < Layout.mailNext .width)
-  unfolding anchor
-  mail-anchored (readyAt p) h = absurd h
-  mail-anchored (waiters k o) h = absurd h
-  mail-anchored (mail m) h = (omega (arith, h .0), omega (arith, h .1, S .mailboxes))
+  pub few-ids : (r : Rings) → idsKept b r ≤ maxIds r
+  few-ids Tasks = S .tasks .1
+  few-ids Messages = S .messages
+  few-ids Blocks = omega (arith, S .pools)
 
-  pub task-place-back : (q : Place) → TaskQueue (b .store) q → taskPlace (anchor q) ≡ q
-  unfolding anchor taskPlace
-  task-place-back (readyAt p) h = rw (le-leb (readyNode p) (readyNode maxPriorities) (omega (arith, h .1, S .priorities .1))) (ap readyAt (omega arith))
-  task-place-back (waiters semaphore o) h =
+  ids-room : (r : Rings) → idsKept b r < nextOf r .width
+  ids-room Tasks = omega (arith, S .tasks .1)
+  ids-room Messages = omega (arith, S .messages)
+  ids-room Blocks = omega (arith, S .pools)
+
+  pub place-back : (q : Place) → Exists (b .store) q → placeOf (ringsAt q) (anchor q) ≡ q
+  unfolding anchor taskPlace mailPlace freePlace
+  place-back (readyAt p) h = rw (le-leb (readyNode p) (readyNode maxPriorities) (omega (arith, h .1, S .priorities .1))) (ap readyAt (omega arith))
+  place-back (waiters semaphore o) h =
       rw (not-ready Layout.semaphores o (lit≤ tt) (h .0), le-leb (waitNode Layout.semaphores o) (waitNode Layout.semaphores maxObjects) (omega (arith, h .1, S .semaphores))) (ap (waiters semaphore) (omega arith))
-  task-place-back (waiters flag o) h =
+  place-back (waiters flag o) h =
       rw (
         not-ready Layout.flags o (lit≤ tt) (h .0),
         not-before Layout.semaphores Layout.flags o (lit≤ tt) (h .0),
         le-leb (waitNode Layout.flags o) (waitNode Layout.flags maxObjects) (omega (arith, h .1, S .flags)),
       ) (ap (waiters flag) (omega arith))
-  task-place-back (waiters mailbox o) h =
+  place-back (waiters mailbox o) h =
       rw (
         not-ready Layout.mailboxes o (lit≤ tt) (h .0),
         not-before Layout.semaphores Layout.mailboxes o (lit≤ tt) (h .0),
         not-before Layout.flags Layout.mailboxes o (lit≤ tt) (h .0),
         le-leb (waitNode Layout.mailboxes o) (waitNode Layout.mailboxes maxObjects) (omega (arith, h .1, S .mailboxes)),
       ) (ap (waiters mailbox) (omega arith))
-  task-place-back (waiters pool o) h =
+  place-back (waiters pool o) h =
       rw (
         not-ready Layout.pools o (lit≤ tt) (h .0),
         not-before Layout.semaphores Layout.pools o (lit≤ tt) (h .0),
         not-before Layout.flags Layout.pools o (lit≤ tt) (h .0),
         not-before Layout.mailboxes Layout.pools o (lit≤ tt) (h .0),
       ) (ap (waiters pool) (omega arith))
-  task-place-back (mail m) h = absurd h
-
-  pub mail-place-back : (q : Place) → MailQueue (b .store) q → mailPlace (anchor q) ≡ q
-  unfolding anchor mailPlace
-  mail-place-back (readyAt p) h = absurd h
-  mail-place-back (waiters k o) h = absurd h
-  mail-place-back (mail m) h = ap (λ (n : ℕ). mail n) (omega arith)
+  place-back (mail m) h = ap (λ (n : ℕ). mail n) (omega arith)
+  place-back (freeIn p) h = ap (λ (n : ℕ). freeIn n) (omega arith)
 
 -- ---- homes
 
@@ -195,12 +158,23 @@ pub lies-home : (x : Option ℕ) (m : ℕ) → lies x m ≡ true → mailHome x 
 lies-home none m e = absurd (false≢true e)
 lies-home (some n) m e = ap (λ (r : ℕ). some (mail r)) (eqb-true n m e)
 
+-- the home of a node is that of the block that has it
+pub block-home : (b : Body) (p k : ℕ) → 1 ≤ p → In k maxBlocks → of (of (b .store .pools) p []) k false ≡ true → homeOf b Blocks (blockNode p k) ≡ some (freeIn p)
+block-home b zero k h r e = absurd (omega arith)
+block-home b (suc p) zero h r e = absurd (omega (arith, r .0))
+block-home b (suc p) (suc k) h r e =
+    let y : maxBlocks * p + suc k ≡ suc (maxBlocks * p + k) = omega arith in
+    let d : (maxBlocks * p + k) / maxBlocks ≡ p = omega (arith, r .1) in
+    let m : (maxBlocks * p + k) % maxBlocks ≡ k = omega (arith, r .1) in
+    rw (y, d, m, e)
+
 -- a home is a queue that there is, and the task belongs to it
 abbrev pub TaskHolds : Store → State → ℕ → Option Place → Type 0
 TaskHolds u s p none = Unit {0}
 TaskHolds u s p (some (readyAt r)) = In r (u .priorities) × ((isReady s && eqb p r) ≡ true)
 TaskHolds u s p (some (waiters k o)) = In o (objects u k) × (awaits s k o ≡ true)
 TaskHolds u s p (some (mail m)) = ⊥
+TaskHolds u s p (some (freeIn n)) = ⊥
 
 same-kind : (k : Kind) → sameKind k k ≡ true
 same-kind semaphore = refl
@@ -225,102 +199,118 @@ module _ (v : View) (S : Sound v) where
   abbrev lines : Place → List ℕ
   lines = lineAt (v .lines)
 
-  -- the home of a task, and of a message
-  abbrev homeOf : ℕ → Option Place
-  homeOf i = taskHome (task (v .body) i .state) (task (v .body) i .priority)
+  abbrev body : Body
+  body = v .body
 
-  abbrev boxOf : ℕ → Option Place
-  boxOf j = mailHome (of (v .body .store .messages) j none)
+  -- the queues of these rings
+  abbrev Queued : Rings → Place → Type 0
+  Queued r q = Exists (body .store) q × (ringsAt q ≡ r)
 
-  task-at-home : (q : Place) → TaskQueue (v .body .store) q → (i : ℕ) → Stands i (lines q) → homeOf i ≡ some q
-  unfolding belongs
-  task-at-home (readyAt p) u i s = ready-home (task (v .body) i .state) (task (v .body) i .priority) p (stands-belongs v S (readyAt p) u i (stands-times i (lines (readyAt p)) s))
-  task-at-home (waiters k o) u i s = wait-home (task (v .body) i .state) (task (v .body) i .priority) k o (stands-belongs v S (waiters k o) u i (stands-times i (lines (waiters k o)) s))
-  task-at-home (mail m) u i s = absurd u
+  belongs-there : (q : Place) → Exists (body .store) q → (i : ℕ) → Stands i (lines q) → belongs body q i ≡ true
+  belongs-there q u i s = stands-belongs v S q u i (stands-times i (lines q) s)
 
-  message-at-home : (q : Place) → MailQueue (v .body .store) q → (j : ℕ) → Stands j (lines q) → boxOf j ≡ some q
-  unfolding belongs
-  message-at-home (readyAt p) u j s = absurd u
-  message-at-home (waiters k o) u j s = absurd u
-  message-at-home (mail m) u j s = lies-home (of (v .body .store .messages) j none) m (stands-belongs v S (mail m) u j (stands-times j (lines (mail m)) s))
+  at-home : (q : Place) → Exists (body .store) q → (i : ℕ) → Stands i (nodeLines lines q) → homeOf body (ringsAt q) i ≡ some q
+  unfolding belongs population
+  at-home (readyAt p) u i s = ready-home (task body i .state) (task body i .priority) p (belongs-there (readyAt p) u i s)
+  at-home (waiters k o) u i s = wait-home (task body i .state) (task body i .priority) k o (belongs-there (waiters k o) u i s)
+  at-home (mail m) u i s = lies-home (of (body .store .messages) i none) m (belongs-there (mail m) u i s)
+  at-home (freeIn p) u i s =
+      let r = block-stands p i (lines (freeIn p)) s in
+      let k = all-at (IsId maxBlocks) (lines (freeIn p)) (r .0) (r .1) (known-ids _ maxBlocks (S .body .store .pools p u .1) (lines (freeIn p)) (S .queues (freeIn p) u .known)) in
+      subst (λ (x : ℕ). homeOf body Blocks x ≡ some (freeIn p)) (r .2) (block-home body p (r .0) (u .0) k (belongs-there (freeIn p) u (r .0) (r .1)))
 
-  tasks-housed : Housed (length (v .body .tasks)) (Layout.next .width) homeOf taskPlace (TaskQueue (v .body .store)) lines
-  tasks-housed = record {
-    room = omega (arith, S .body .sizes .tasks .1);
-    anchored = λ q u. let a = task-anchored (v .body) (S .body .sizes) q u in (omega (arith, a .0, S .body .sizes .tasks .1), a .1);
-    place-back = task-place-back (v .body) (S .body .sizes);
-    known = λ q u. known-ids (many (v .body) q) (length (v .body .tasks)) (rw (task-many (v .body) q u) (omega arith)) (lines q) (S .queues q (task-exists (v .body .store) q u) .known);
-    apart = λ q u. few-distinct (lines q) (one-line v S .once q (task-exists (v .body .store) q u));
-    at-home = task-at-home;
-  }
+  known-nodes : (q : Place) → Exists (body .store) q → All (IsId (idsKept body (ringsAt q))) (nodeLines lines q)
+  unfolding population
+  known-nodes (readyAt p) u = known-ids _ _ (omega arith) (lines (readyAt p)) (S .queues (readyAt p) u .known)
+  known-nodes (waiters k o) u = known-ids _ _ (omega arith) (lines (waiters k o)) (S .queues (waiters k o) u .known)
+  known-nodes (mail m) u = known-ids _ _ (omega arith) (lines (mail m)) (S .queues (mail m) u .known)
+  known-nodes (freeIn p) u = blocks-ids p (length (body .store .pools)) _ u (S .body .store .pools p u .1) (lines (freeIn p)) (S .queues (freeIn p) u .known)
 
-  messages-housed : Housed (length (v .body .store .messages)) (Layout.mailNext .width) boxOf mailPlace (MailQueue (v .body .store)) lines
-  messages-housed = record {
-    room = omega (arith, S .body .sizes .messages);
-    anchored = λ q u. let a = mail-anchored (v .body) (S .body .sizes) q u in (omega (arith, a .0, S .body .sizes .messages), a .1);
-    place-back = mail-place-back (v .body) (S .body .sizes);
-    known = λ q u. known-ids (many (v .body) q) (length (v .body .store .messages)) (rw (mail-many (v .body) q u) (omega arith)) (lines q) (S .queues q (mail-exists (v .body .store) q u) .known);
-    apart = λ q u. few-distinct (lines q) (one-line v S .once q (mail-exists (v .body .store) q u));
-    at-home = message-at-home;
+  apart-ids : (q : Place) → Exists (body .store) q → Distinct (lines q)
+  apart-ids q u = few-distinct (lines q) (one-line v S .once q u)
+
+  apart-nodes : (q : Place) → Exists (body .store) q → Distinct (nodeLines lines q)
+  apart-nodes (readyAt p) u = apart-ids (readyAt p) u
+  apart-nodes (waiters k o) u = apart-ids (waiters k o) u
+  apart-nodes (mail m) u = apart-ids (mail m) u
+  apart-nodes (freeIn p) u = blocks-distinct p (lines (freeIn p)) (apart-ids (freeIn p) u)
+
+  housed : (r : Rings) → Housed (idsKept body r) (nextOf r .width) (homeOf body r) (placeOf r) (Queued r) (nodeLines lines)
+  housed r = record {
+    room = ids-room body (S .body .sizes) r;
+    anchored = λ q u. let a = anchored body (S .body .sizes) q (u .0) in subst (λ (x : Rings). (idsKept body x < anchor q) × (anchor q < nextOf x .width)) (u .1) (omega (arith, a .0, few-ids body (S .body .sizes) (ringsAt q)), a .1);
+    place-back = λ q u. subst (λ (x : Rings). placeOf x (anchor q) ≡ q) (u .1) (place-back body (S .body .sizes) q (u .0));
+    known = λ q u. subst (λ (x : Rings). All (IsId (idsKept body x)) (nodeLines lines q)) (u .1) (known-nodes q (u .0));
+    apart = λ q u. apart-nodes q (u .0);
+    at-home = λ q u i s. subst (λ (x : Rings). homeOf body x i ≡ some q) (u .1) (at-home q (u .0) i s);
   }
 
   -- who belongs to a queue stands in its line
   there : (q : Place) → Exists (v .body .store) q → (i : ℕ) → belongs (v .body) q i ≡ true → Stands i (lines q)
   there q e i h = times-stands i (lines q) (belongs-stands (v .body) q (lines q) (S .queues q e) i h)
 
-  tasks-live : (i : ℕ) → Lives (TaskQueue (v .body .store)) lines i (homeOf i)
+  live : (r : Rings) (i : ℕ) → Lives (Queued r) (nodeLines lines) i (homeOf body r i)
   unfolding belongs
-  tasks-live i = go (inside (v .body .tasks) i nobody)
+  live Tasks i = go (inside (body .tasks) i nobody)
     where
-      live : (h : Option Place) → TaskHolds (v .body .store) (task (v .body) i .state) (task (v .body) i .priority) h → Lives (TaskQueue (v .body .store)) lines i h
-      live none t = tt
-      live (some (readyAt p)) t = (t .0, there (readyAt p) (t .0) i (t .1))
-      live (some (waiters k o)) t = (t .0, there (waiters k o) (t .0) i (t .1))
-      live (some (mail m)) t = absurd t
+      holds : (h : Option Place) → TaskHolds (body .store) (task body i .state) (task body i .priority) h → Lives (Queued Tasks) (nodeLines lines) i h
+      holds none t = tt
+      holds (some (readyAt p)) t = ((t .0, refl), there (readyAt p) (t .0) i (t .1))
+      holds (some (waiters k o)) t = ((t .0, refl), there (waiters k o) (t .0) i (t .1))
+      holds (some (mail m)) t = absurd t
+      holds (some (freeIn p)) t = absurd t
 
-      go : In i (length (v .body .tasks)) ⊎ (task (v .body) i ≡ nobody) → Lives (TaskQueue (v .body .store)) lines i (homeOf i)
-      go (inl r) = let g = S .body .tasks i r in live (homeOf i) (task-holds (v .body .store) (task (v .body) i .state) (task (v .body) i .priority) (g .priority) (g .wait))
+      go : In i (length (body .tasks)) ⊎ (task body i ≡ nobody) → Lives (Queued Tasks) (nodeLines lines) i (homeOf body Tasks i)
+      go (inl r) = let g = S .body .tasks i r in holds (homeOf body Tasks i) (task-holds (body .store) (task body i .state) (task body i .priority) (g .priority) (g .wait))
       go (inr e) = rw e tt
-
-  messages-live : (j : ℕ) → Lives (MailQueue (v .body .store)) lines j (boxOf j)
-  unfolding belongs
-  messages-live j = go (inside (v .body .store .messages) j none)
+  live Messages j = go (inside (body .store .messages) j none)
     where
-      live : (x : Option ℕ) → of (v .body .store .messages) j none ≡ x → LiesWell (v .body .store .mailboxes) x → Lives (MailQueue (v .body .store)) lines j (mailHome x)
-      live none e h = tt
-      live (some m) e h = (h, there (mail m) h j (rw e (eq-eqb m m refl)))
+      holds : (x : Option ℕ) → of (body .store .messages) j none ≡ x → LiesWell (body .store .mailboxes) x → Lives (Queued Messages) (nodeLines lines) j (mailHome x)
+      holds none e h = tt
+      holds (some m) e h = ((h, refl), there (mail m) h j (rw e (eq-eqb m m refl)))
 
-      go : In j (length (v .body .store .messages)) ⊎ (of (v .body .store .messages) j none ≡ none) → Lives (MailQueue (v .body .store)) lines j (boxOf j)
-      go (inl r) = live (of (v .body .store .messages) j none) refl (S .body .store .messages j r)
+      go : In j (length (body .store .messages)) ⊎ (of (body .store .messages) j none ≡ none) → Lives (Queued Messages) (nodeLines lines) j (homeOf body Messages j)
+      go (inl r) = holds (of (body .store .messages) j none) refl (S .body .store .messages j r)
       go (inr e) = rw e tt
+  live Blocks zero = tt
+  live Blocks (suc x) = go (of (of (body .store .pools) (suc (x / maxBlocks)) []) (suc (x % maxBlocks)) false) refl
+    where
+      there-is : (p k : ℕ) → of (of (body .store .pools) p []) k false ≡ true → In p (length (body .store .pools))
+      there-is p k e = elim (inside (body .store .pools) p []) [ inl r ↦ r | inr d ↦ absurd (none-free k (subst (λ (l : List Bool). of l k false ≡ true) d e)) ]
+        where
+          none-free : (k : ℕ) → of {A = Bool} [] k false ≡ true → ⊥
+          none-free zero z = false≢true z
+          none-free (suc k) z = false≢true z
+
+      go : (t : Bool) → of (of (body .store .pools) (suc (x / maxBlocks)) []) (suc (x % maxBlocks)) false ≡ t → Lives (Queued Blocks) (nodeLines lines) (suc x) (blockHome (suc (x / maxBlocks)) t)
+      go false e = tt
+      go true e =
+          let h : In (suc (x / maxBlocks)) (length (body .store .pools)) = there-is (suc (x / maxBlocks)) (suc (x % maxBlocks)) e in
+          let y : blockNode (suc (x / maxBlocks)) (suc (x % maxBlocks)) ≡ suc x = omega arith in
+          ((h, refl), subst (λ (i : ℕ). Stands i (nodeLines lines (freeIn (suc (x / maxBlocks))))) y (stands-block (suc (x / maxBlocks)) (suc (x % maxBlocks)) (lines (freeIn (suc (x / maxBlocks)))) (there (freeIn (suc (x / maxBlocks))) h (suc (x % maxBlocks)) e)))
 
   -- ---- the link columns
 
-  pub tasks-linked : Linked (length (v .body .tasks)) (UsedByTasks (v .body .store)) (run (Layout.next .width) (taskLink (v .body) (lineAt (v .lines)))) (run (Layout.next .width) (taskLink (v .body) (λ q. reverse (lineAt (v .lines) q))))
-      (lineOf (length (v .body .tasks)) (run (Layout.next .width) (taskLink (v .body) (lineAt (v .lines)))))
-  unfolding taskLink
-  tasks-linked = linked-lines lines tasks-housed tasks-live (UsedByTasks (v .body .store)) (task-from (v .body .store)) (task-to (v .body .store))
+  from-anchor : (r : Rings) (a : ℕ) → Used (body .store) r a → (q : Place) × Queued r q × (anchor q ≡ a)
+  from-anchor r a u = (u .place, (u .there, u .among), u .here)
 
-  pub task-line : (q : Place) → TaskQueue (v .body .store) q → lineOf (length (v .body .tasks)) (run (Layout.next .width) (taskLink (v .body) (lineAt (v .lines)))) (anchor q) ≡ lineAt (v .lines) q
-  unfolding taskLink
-  task-line = line-back lines tasks-housed tasks-live (UsedByTasks (v .body .store)) (task-from (v .body .store)) (task-to (v .body .store))
+  to-anchor : (r : Rings) (q : Place) → Queued r q → Used (body .store) r (anchor q)
+  to-anchor r q u = record { place = q; there = u .0; among = u .1; here = refl }
 
-  pub mails-linked : Linked (length (v .body .store .messages)) (UsedByMail (v .body .store)) (run (Layout.mailNext .width) (mailLink (v .body) (lineAt (v .lines)))) (run (Layout.mailNext .width) (mailLink (v .body) (λ q. reverse (lineAt (v .lines) q))))
-      (lineOf (length (v .body .store .messages)) (run (Layout.mailNext .width) (mailLink (v .body) (lineAt (v .lines)))))
-  unfolding mailLink
-  mails-linked = linked-lines lines messages-housed messages-live (UsedByMail (v .body .store)) (mail-from (v .body .store)) (mail-to (v .body .store))
+  abbrev nextColumn : Rings → List ℕ
+  nextColumn r = run (nextOf r .width) (ringLink body r (nodeLines lines))
 
-  pub mail-line : (q : Place) → MailQueue (v .body .store) q → lineOf (length (v .body .store .messages)) (run (Layout.mailNext .width) (mailLink (v .body) (lineAt (v .lines)))) (anchor q) ≡ lineAt (v .lines) q
-  unfolding mailLink
-  mail-line = line-back lines messages-housed messages-live (UsedByMail (v .body .store)) (mail-from (v .body .store)) (mail-to (v .body .store))
+  pub rings-linked : (r : Rings) → Linked (idsKept (v .body) r) (Used (v .body .store) r) (run (nextOf r .width) (ringLink (v .body) r (nodeLines (lineAt (v .lines)))))
+      (run (nextOf r .width) (ringLink (v .body) r (λ q. reverse (nodeLines (lineAt (v .lines)) q)))) (lineOf (idsKept (v .body) r) (run (nextOf r .width) (ringLink (v .body) r (nodeLines (lineAt (v .lines))))))
+  unfolding ringLink
+  rings-linked r = linked-lines (nodeLines lines) (housed r) (live r) (Used (body .store) r) (from-anchor r) (to-anchor r)
+
+  pub ring-line : (q : Place) → Exists (v .body .store) q
+      → lineOf (idsKept (v .body) (ringsAt q)) (run (nextOf (ringsAt q) .width) (ringLink (v .body) (ringsAt q) (nodeLines (lineAt (v .lines))))) (anchor q) ≡ nodeLines (lineAt (v .lines)) q
+  unfolding ringLink
+  ring-line q e = line-back (nodeLines lines) (housed (ringsAt q)) (live (ringsAt q)) (Used (body .store) (ringsAt q)) (from-anchor (ringsAt q)) (to-anchor (ringsAt q)) q (e, refl)
 
   -- ---- small
-
-  many-few : (q : Place) → many (v .body) q ≤ maxMessages
-  unfolding population
-  many-few (readyAt p) = omega (arith, S .body .sizes .tasks .1)
-  many-few (waiters k o) = omega (arith, S .body .sizes .tasks .1)
-  many-few (mail m) = S .body .sizes .messages
 
   -- at a place that the view lacks no line stands
   line-or-none : (q : Place) → Exists (v .body .store) q ⊎ (lineAt (v .lines) q ≡ [])
@@ -328,21 +318,36 @@ module _ (v : View) (S : Sound v) where
   line-or-none (readyAt p) = elim (inside (v .lines .ready) p []) [ inl r ↦ inl (rw (S .shape .ready) at r) | inr e ↦ inr e ]
   line-or-none (waiters k o) = elim (inside (at (v .lines .waiting) k) o []) [ inl r ↦ inl (rw (S .shape .waiting k) at r) | inr e ↦ inr e ]
   line-or-none (mail m) = elim (inside (v .lines .mail) m []) [ inl r ↦ inl (rw (S .shape .mail) at r) | inr e ↦ inr e ]
+  line-or-none (freeIn p) = elim (inside (v .lines .free) p []) [ inl r ↦ inl (rw (S .shape .free) at r) | inr e ↦ inr e ]
 
-  pub line-small : (q : Place) → All (λ y. y < 2 ^ 32) (lineAt (v .lines) q)
-  line-small q = go (line-or-none q)
+  no-nodes : (s : Sort) → nodesOf s [] ≡ []
+  no-nodes tasks = refl
+  no-nodes messages = refl
+  no-nodes (blocks p) = refl
+
+  ids-small : (r : Rings) → idsKept body r < 2 ^ 32
+  ids-small r = omega (arith, ids-room body (S .body .sizes) r, wide r)
     where
-      go : Exists (v .body .store) q ⊎ (lineAt (v .lines) q ≡ []) → All (λ y. y < 2 ^ 32) (lineAt (v .lines) q)
-      go (inl e) = all-map (λ y k. omega (arith, k .1)) (lines q) (known-ids (many (v .body) q) maxMessages (many-few q) (lines q) (S .queues q e .known))
-      go (inr e) = rw e tt
+      wide : (r : Rings) → nextOf r .width ≤ 273
+      wide Tasks = lit≤ tt
+      wide Messages = lit≤ tt
+      wide Blocks = lit≤ tt
 
-  pub back-small : (q : Place) → All (λ y. y < 2 ^ 32) (reverse (lineAt (v .lines) q))
-  back-small q = all-reverse (λ y. y < 2 ^ 32) (lines q) (line-small q)
+  pub nodes-small : (q : Place) → All (λ y. y < 2 ^ 32) (nodeLines (lineAt (v .lines)) q)
+  nodes-small q = go (line-or-none q)
+    where
+      go : Exists (v .body .store) q ⊎ (lineAt (v .lines) q ≡ []) → All (λ y. y < 2 ^ 32) (nodeLines (lineAt (v .lines)) q)
+      go (inl e) = all-map (λ y k. omega (arith, k .1, ids-small (ringsAt q))) (nodeLines lines q) (known-nodes q e)
+      go (inr e) = subst (λ (l : List ℕ). All (λ y. y < 2 ^ 32) (nodesOf (sortAt q) l)) (sym e) (subst (All (λ y. y < 2 ^ 32)) (sym (no-nodes (sortAt q))) tt)
 
-  pub task-link-small : (M : Place → List ℕ) → ((q : Place) → All (λ y. y < 2 ^ 32) (M q)) → (x : ℕ) → x < Layout.next .width → taskLink (v .body) M x < 2 ^ 32
-  unfolding taskLink
-  task-link-small = link-below lines tasks-housed tasks-live (UsedByTasks (v .body .store)) (task-from (v .body .store)) (task-to (v .body .store)) (2 ^ 32) (lit≤ tt)
+  pub back-small : (q : Place) → All (λ y. y < 2 ^ 32) (reverse (nodeLines (lineAt (v .lines)) q))
+  back-small q = all-reverse (λ y. y < 2 ^ 32) (nodeLines lines q) (nodes-small q)
 
-  pub mail-link-small : (M : Place → List ℕ) → ((q : Place) → All (λ y. y < 2 ^ 32) (M q)) → (x : ℕ) → x < Layout.mailNext .width → mailLink (v .body) M x < 2 ^ 32
-  unfolding mailLink
-  mail-link-small = link-below lines messages-housed messages-live (UsedByMail (v .body .store)) (mail-from (v .body .store)) (mail-to (v .body .store)) (2 ^ 32) (lit≤ tt)
+  pub ring-link-small : (r : Rings) (M : Place → List ℕ) → ((q : Place) → All (λ y. y < 2 ^ 32) (M q)) → (x : ℕ) → x < nextOf r .width → ringLink (v .body) r M x < 2 ^ 32
+  unfolding ringLink
+  ring-link-small r = link-below (nodeLines lines) (housed r) (live r) (Used (body .store) r) (from-anchor r) (to-anchor r) (2 ^ 32) (wide r)
+    where
+      wide : (r : Rings) → nextOf r .width ≤ 2 ^ 32
+      wide Tasks = lit≤ tt
+      wide Messages = lit≤ tt
+      wide Blocks = lit≤ tt

@@ -11,22 +11,24 @@ use lib.Dec.{lit<, lit≤}
 use lib.ListN.{length, getD}
 use Rattle.rules.specs.Ids.{of, ids, In}
 use Rattle.rules.specs.State.{Task, Store, Handlers, no-handler, in-handler, depth, task, nobody, objects, isFreed}
-use Rattle.rules.specs.Places.{Place, readyAt, waiters, mail, at, each, Lines, lineAt, Exists, tabulate}
+use Rattle.rules.specs.Places.{Place, readyAt, sortAt, at, each, Lines, lineAt, Exists, tabulate}
 use Rattle.rules.specs.View.{View}
 use Rattle.rules.specs.Sound.{Shape, HandlersFit, Sound}
 use Rattle.rules.proofs.Ids.{inside, length-ids, map-ids}
 use Rattle.rules.proofs.Lines.{tabulate-same}
+use Rattle.memory_columns.specs.declared.Rings.{Rings}
+use Rattle.memory_columns.specs.declared.Rings.the-variants.{Tasks, Messages, Blocks}
 use Rattle.memory_columns.specs.Layout as Layout
-use Rattle.memory_columns.specs.Layout.{maxMessages, entry}
+use Rattle.memory_columns.specs.Layout.{maxMessages, nextOf, prevOf, words, entry}
 use Rattle.memory_columns.proofs.Tiling.{columns-tile}
 use Rattle.memory_rings.specs.Rings.{lineOf, Linked}
-use Rattle.memory_picture.specs.Picture.{storeShown, anchor, lineShown, viewShown, maskOf, occupied, nonemptyShown, Whole, Accepted}
+use Rattle.memory_picture.specs.Picture.{storeShown, anchor, ringsAt, idsShown, numbersOf, lineShown, viewShown, maskOf, occupied, nonemptyShown, Used, Whole, Accepted}
 use Rattle.memory_picture.specs.Perform.{interruptedKept}
-use Rattle.memory_picture.specs.Form.{Fits32, boxNumber, systemWords, handlingWords, entries, parts, formOf, marksOf}
+use Rattle.memory_picture.specs.Form.{Fits32, boxNumber, systemWords, handlingWords, nodeLines, ringLink, entries, parts, formOf, marksOf}
 use Rattle.memory_picture.proofs.FormPile.{length-run, run-all, length-pile, pile-all, entries-all, table-is}
 use Rattle.memory_picture.proofs.FormWords.{mask-small, message-small, Small, task-small, nobody-small}
-use Rattle.memory_picture.proofs.FormBody.{marks, form, tasks-count, messages-count, priorities-count, low-clock, at-nonempty, next-words, prev-words, mail-next-words, mail-prev-words, store-shown, body-shown}
-use Rattle.memory_picture.proofs.FormHomes.{tasks-linked, task-line, mails-linked, mail-line, line-small, back-small, task-link-small, mail-link-small}
+use Rattle.memory_picture.proofs.FormBody.{marks, form, ids-count, priorities-count, low-clock, at-nonempty, next-words, prev-words, store-shown, body-shown}
+use Rattle.memory_picture.proofs.FormHomes.{numbers-nodes, rings-linked, ring-line, nodes-small, back-small, ring-link-small}
 
 -- a table of lines is made from its lines
 pub tabulate-shape : (u : Store) (l : Lines) → Shape u l → tabulate u (lineAt l) ≡ l
@@ -35,6 +37,7 @@ tabulate-shape u l h = λ z. record {
   ready = table-is (l .ready) (u .priorities) (λ p. of (l .ready) p []) [] (sym (h .ready)) (λ p r. refl) z;
   waiting = each (λ k. table-is (at (l .waiting) k) (objects u k) (λ o. of (at (l .waiting) k) o []) [] (sym (h .waiting k)) (λ o r. refl) z);
   mail = table-is (l .mail) (u .mailboxes) (λ m. of (l .mail) m []) [] (sym (h .mail)) (λ m r. refl) z;
+  free = table-is (l .free) (length (u .pools)) (λ p. of (l .free) p []) [] (sym (h .free)) (λ p r. refl) z;
 }
 
 -- ---- 32-bit words
@@ -52,9 +55,10 @@ word-small [] h k = lit< tt
 word-small (x ∷ l) h zero = h .0
 word-small (x ∷ l) h (suc k) = word-small l (h .1) k
 
--- the ids of the rings, counted otherwise
-recount : (n m : ℕ) (U : ℕ → Type 0) (nx pv : List ℕ) → n ≡ m → Linked n U nx pv (lineOf n nx) → Linked m U nx pv (lineOf m nx)
-recount n m U nx pv e L = subst (λ (k : ℕ). Linked k U nx pv (lineOf k nx)) e L
+-- the same count of ids and the same tables
+same-rings : {n m : ℕ} {U : ℕ → Type 0} {nx nx′ pv pv′ : List ℕ} → n ≡ m → nx ≡ nx′ → pv ≡ pv′ → Linked n U nx pv (lineOf n nx) → Linked m U nx′ pv′ (lineOf m nx′)
+same-rings {n} {m} {U} {nx} {nx′} {pv} {pv′} e f g L =
+    subst (λ (k : ℕ). Linked k U nx′ pv′ (lineOf k nx′)) e (subst (λ (l : List ℕ). Linked n U l pv′ (lineOf n l)) f (subst (λ (l : List ℕ). Linked n U nx l (lineOf n nx)) g L))
 
 -- ---- a sound view
 
@@ -66,9 +70,9 @@ module _ (v : View) (S : Sound v) where
 
   line-shown : (q : Place) → Exists (v .body .store) q → lineShown (form (v .body) lines) q ≡ lines q
   unfolding lineShown
-  line-shown (readyAt p) e = (λ z. lineOf (tasks-count (v .body) lines z) (next-words (v .body) lines z) (anchor (readyAt p))) ∙ task-line v S (readyAt p) e
-  line-shown (waiters k o) e = (λ z. lineOf (tasks-count (v .body) lines z) (next-words (v .body) lines z) (anchor (waiters k o))) ∙ task-line v S (waiters k o) e
-  line-shown (mail m) e = (λ z. lineOf (messages-count (v .body) lines z) (mail-next-words (v .body) lines z) (anchor (mail m))) ∙ mail-line v S (mail m) e
+  line-shown q e =
+      (λ z. numbersOf (sortAt q) (lineOf (ids-count (v .body) lines (ringsAt q) z) (next-words (v .body) lines (ringsAt q) z) (anchor q)))
+      ∙ ap (numbersOf (sortAt q)) (ring-line v S q e) ∙ numbers-nodes (sortAt q) (lines q)
 
   pub form-shows : viewShown (formOf v) (marksOf v) ≡ v
   unfolding formOf marksOf viewShown
@@ -96,8 +100,9 @@ module _ (v : View) (S : Sound v) where
     marks = length-run maxMessages _;
     word = nonempty-word;
     low = rw (low-clock (v .body) lines) (omega arith);
-    tasks = rw (store-shown (v .body) lines (S .body), next-words (v .body) lines, prev-words (v .body) lines) (recount _ _ _ _ _ (sym (tasks-count (v .body) lines)) (tasks-linked v S));
-    mails = rw (store-shown (v .body) lines (S .body), mail-next-words (v .body) lines, mail-prev-words (v .body) lines) (recount _ _ _ _ _ (sym (messages-count (v .body) lines)) (mails-linked v S));
+    rings = λ r.
+        subst (λ (u : Store). Linked (idsShown (form (v .body) lines) r) (Used u r) (words (nextOf r) (form (v .body) lines)) (words (prevOf r) (form (v .body) lines)) (lineOf (idsShown (form (v .body) lines) r) (words (nextOf r) (form (v .body) lines))))
+        (sym (store-shown (v .body) lines (S .body))) (same-rings (sym (ids-count (v .body) lines r)) (sym (next-words (v .body) lines r)) (sym (prev-words (v .body) lines r)) (rings-linked v S r));
   }
 
   pub form-accepted : Accepted (formOf v) (marksOf v)
@@ -133,20 +138,27 @@ module _ (v : View) (S : Sound v) where
       go no-handler f = lit< tt also lit< tt also tt
       go (in-handler n i) f = omega (arith, f .0) also task-number i (f .1) also tt
 
+  link-small : (r : Rings) (x : ℕ) → x < nextOf r .width → ringLink (v .body) r (nodeLines lines) x < 2 ^ 32
+  link-small r = ring-link-small v S r (nodeLines lines) (nodes-small v S)
+
+  back-link-small : (r : Rings) (x : ℕ) → x < nextOf r .width → ringLink (v .body) r (λ q. reverse (nodeLines lines q)) x < 2 ^ 32
+  back-link-small r = ring-link-small v S r (λ q. reverse (nodeLines lines q)) (back-small v S)
+
   pub form-fits : Fits32 (formOf v)
   unfolding formOf
   form-fits = pile-all (entries (parts (v .body) lines)) (λ x. x < 2 ^ 32) Layout.columns (entries-all (λ x. x < 2 ^ 32) (lit< tt) (parts (v .body) lines)
       ((λ i r. small i .status) also (λ i r. small i .priority) also (λ i r. small i .start) also (λ i r. small i .wakeups)
       also (λ i r. small i .code) also (λ i r. small i .word)
       also (λ i r. small i .wait .kind) also (λ i r. small i .wait .object) also (λ i r. small i .wait .wish) also (λ i r. small i .wait .mode) also (λ i r. small i .wait .ticks)
-      also task-link-small v S lines (line-small v S) also task-link-small v S (λ q. reverse (lines q)) (back-small v S)
+      also link-small Tasks also back-link-small Tasks
       also (λ i r. entries-small (λ n. n) (v .body .store .semaphores) 0 (lit< tt) (λ s e. omega (arith, S .body .store .semaphores s e)) i)
       also (λ i r. entries-small (λ n. n) (v .body .store .flags) 0 (lit< tt) (S .body .store .flags) i)
       also (λ i r. entries-small maskOf (v .body .store .pools) [] (mask-small [] (lit≤ tt)) (λ p e. mask-small (of (v .body .store .pools) p []) (S .body .store .pools p e .1)) i)
       also (λ i r. entries-small length (v .body .store .pools) [] (lit< tt) (λ p e. omega (arith, S .body .store .pools p e .1)) i)
-      also mail-link-small v S lines (line-small v S) also mail-link-small v S (λ q. reverse (lines q)) (back-small v S)
+      also link-small Messages also back-link-small Messages
       also (λ k r. word-small (systemWords (v .body)) system-small k) also (λ k r. word-small (handlingWords (v .body)) handling-small k)
-      also (λ k r. mask-small (map (λ p. occupied (lines (readyAt p))) (ids (v .body .store .priorities))) (omega (arith, length-ids (λ p. occupied (lines (readyAt p))) (v .body .store .priorities), S .body .sizes .priorities .1))) also tt))
+      also (λ k r. mask-small (map (λ p. occupied (lines (readyAt p))) (ids (v .body .store .priorities))) (omega (arith, length-ids (λ p. occupied (lines (readyAt p))) (v .body .store .priorities), S .body .sizes .priorities .1)))
+      also link-small Blocks also back-link-small Blocks also tt))
 
   pub marks-fit : Fits32 (marksOf v)
   unfolding marksOf

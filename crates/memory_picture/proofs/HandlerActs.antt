@@ -8,14 +8,14 @@ use lib.ListN.{getD}
 use Rattle.rules.specs.State.{Handlers, depth}
 use Rattle.rules.specs.Acts.{nest, after, move}
 use Rattle.memory_columns.specs.Layout as Layout
-use Rattle.memory_columns.specs.Layout.{handling, entry, Only}
+use Rattle.memory_columns.specs.Layout.{handling, nextOf, prevOf, entry, Only}
 use Rattle.memory_columns.proofs.Frame.{put-size, put-only, entry-put, entry-other, only-on}
 use Rattle.memory_objects.specs.Moves.{nested}
 use Rattle.memory_picture.specs.Picture.{openShown, handlersShown, storeShown, bodyShown, Accepted}
 use Rattle.memory_picture.specs.Perform.{interruptedKept}
 use Rattle.memory_picture.proofs.Lines.{rest, follows-stay}
 use Rattle.memory_picture.proofs.Done.{Done}
-use Rattle.memory_picture.proofs.Touched.{tasks-kept, store-stays}
+use Rattle.memory_picture.proofs.Touched.{tasks-kept, store-stays, rings-clear}
 use Rattle.memory_picture.proofs.FormWords.{back-handlers}
 
 module _ (b msgs : List ℕ) (A : Accepted b msgs) (d i : ℕ) where
@@ -59,16 +59,12 @@ module _ (b msgs : List ℕ) (A : Accepted b msgs) (h : Handlers) where
     size = put-size handling Layout.interrupted (interruptedKept h) _ (put-size handling Layout.depth (depth h) b (A .whole .size));
     many = A .whole .marks;
     body = body;
-    tasks = rest;
-    mails = rest;
-    tasks-fine = tt;
-    mails-fine = tt;
-    next = only .kept Layout.next refl;
-    prev = only .kept Layout.prev refl;
-    mail-next = only .kept Layout.mailNext refl;
-    mail-prev = only .kept Layout.mailPrev refl;
+    steps = λ r. rest;
+    fine = λ r. tt;
+    next = λ r. only .kept (nextOf r) (rings-clear (handling ∷ []) refl r .0);
+    prev = λ r. only .kept (prevOf r) (rings-clear (handling ∷ []) refl r .1);
     word = ap (λ (l : List ℕ). getD l 0 0) (only .kept Layout.nonempty refl);
     counts = λ i k. ap (λ (l : List ℕ). getD l i 0) (only .kept Layout.system refl);
     low-half = λ k. rw (only .kept Layout.system refl) k;
-    lines = follows-stay _ _;
+    lines = follows-stay _ _ _;
   }

@@ -1,6 +1,7 @@
 -- Laws of what a memory shows.
 pub mod Lines
 pub mod Cases
+pub mod Counts
 pub mod Touched
 pub mod PoolBits
 pub mod FormWords

@@ -8,19 +8,21 @@ use lib.ListN.{length, getD}
 use borrow.Author.Tests.{le-leb}
 use Rattle.rules.specs.Ids.{of, put, ids, In}
 use Rattle.rules.specs.State.{Kind, semaphore, flag, mailbox, pool, Wait, on, ready, waiting, Task, task, nobody, objects}
-use Rattle.rules.specs.Places.{Place, readyAt, waiters, mail, aTask, Exists}
+use Rattle.rules.specs.Places.{Place, readyAt, waiters, mail, freeIn, aTask, Exists}
 use Rattle.rules.specs.Acts.{Act, after, stay, leave, last, move, change}
 use Rattle.rules.specs.Sound.{Sizes, SoundTask}
 use Rattle.rules.proofs.Ids.{of-put-same, of-ids, length-ids}
 use Rattle.rules.proofs.Fits.{stands}
 use Rattle.memory_rings.specs.Rings.{IsId}
+use Rattle.memory_columns.specs.declared.Rings.{Rings}
+use Rattle.memory_columns.specs.declared.Rings.the-variants.{Tasks, Messages, Blocks}
 use Rattle.memory_columns.specs.Layout as Layout
-use Rattle.memory_columns.specs.Layout.{maxPriorities, maxObjects, words, entry}
+use Rattle.memory_columns.specs.Layout.{maxPriorities, maxObjects, nextOf, prevOf, words, entry}
 use Rattle.memory_queues.specs.Moves.{readyAnchor, waitAnchor, queued, unqueued}
 use Rattle.memory_tasks.specs.Moves.{rotated}
-use Rattle.memory_picture.specs.Picture.{tasksShown, waitShown, taskShown, storeShown, bodyShown, viewShown, kindNumber, anchor, UsedByTasks, ready-queue, wait-queue, Accepted}
+use Rattle.memory_picture.specs.Picture.{tasksShown, waitShown, taskShown, storeShown, bodyShown, viewShown, kindNumber, anchor, ringsAt, idsShown, nodesShown, Used, Accepted}
 use Rattle.memory_queues.proofs.Relinks.{queued-law, unqueued-law}
-use Rattle.memory_picture.proofs.Lines.{Step, rest, out, to, Fine, Small, sort, samePlace, ready-stands, wait-stands, Follows, follows-stay, task-leaves, task-lost, task-goes}
+use Rattle.memory_picture.proofs.Lines.{Step, rest, out, to, nextAfter, prevAfter, Fine, Small, samePlace, ready-stands, wait-stands, onlyIn, Follows, rest-follows, task-leaves, task-lost, task-goes}
 use Rattle.memory_picture.proofs.Done.{Done}
 use Rattle.memory_picture.proofs.Touched.{map-put, kept-shown, store-stays, handlers-kept, Touched, touched-left, touched-last}
 
@@ -60,6 +62,7 @@ module _ (b msgs : List ℕ) (A : Accepted b msgs) where
   small (readyAt p) e = (e .0, omega (arith, e .1, sizes .priorities .1))
   small (waiters k o) e = (e .0, omega (arith, e .1, few k))
   small (mail m) e = (e .0, omega (arith, e .1, sizes .mailboxes))
+  small (freeIn p) e = (e .0, omega (arith, e .1, sizes .pools))
 
   module _ (t : ℕ) (h : In t (length (bodyShown b msgs .tasks))) where
     pub inside : In t (entry Layout.system b Layout.tasks)
@@ -82,26 +85,37 @@ module _ (b msgs : List ℕ) (A : Accepted b msgs) where
       now : task (after a (bodyShown b msgs)) t ≡ F (taskShown b t)
       now = rw e (of-put-same (bodyShown b msgs .tasks) t _ nobody h ∙ ap F before)
 
-      done : (s : Step) (c : List ℕ) → Touched t s b c → taskShown c t ≡ F (taskShown b t) → Fine (tasksShown b) (UsedByTasks (storeShown b msgs)) s
-          → Follows (storeShown b msgs) (after a (bodyShown b msgs)) (move (bodyShown b msgs) a) s rest → Done a b msgs c msgs
+      done : (s : Step) (c : List ℕ) → Touched t s b c → taskShown c t ≡ F (taskShown b t) → Fine (tasksShown b) (Used (storeShown b msgs) Tasks) s
+          → Follows (storeShown b msgs) (after a (bodyShown b msgs)) (move (bodyShown b msgs) a) (nodesShown b) (onlyIn Tasks s) → Done a b msgs c msgs
       done s c T f g l = record {
         size = T .size;
         many = A .whole .marks;
         body = body ∙ sym e;
-        tasks = s;
-        mails = rest;
-        tasks-fine = g;
-        mails-fine = tt;
-        next = T .next;
-        prev = T .prev;
-        mail-next = T .only .kept Layout.mailNext refl;
-        mail-prev = T .only .kept Layout.mailPrev refl;
+        steps = onlyIn Tasks s;
+        fine = fine;
+        next = next;
+        prev = prev;
         word = T .word;
         counts = λ i k. ap (λ (l : List ℕ). getD l i 0) system;
         low-half = λ k. rw system k;
         lines = l;
       }
         where
+          fine : (r : Rings) → Fine (idsShown b r) (Used (storeShown b msgs) r) (onlyIn Tasks s r)
+          fine Tasks = g
+          fine Messages = tt
+          fine Blocks = tt
+
+          next : (r : Rings) → words (nextOf r) c ≡ nextAfter (onlyIn Tasks s r) (words (nextOf r) b) (words (prevOf r) b)
+          next Tasks = T .next
+          next Messages = T .only .kept (nextOf Messages) refl
+          next Blocks = T .only .kept (nextOf Blocks) refl
+
+          prev : (r : Rings) → words (prevOf r) c ≡ prevAfter (onlyIn Tasks s r) (words (nextOf r) b) (words (prevOf r) b)
+          prev Tasks = T .prev
+          prev Messages = T .only .kept (prevOf Messages) refl
+          prev Blocks = T .only .kept (prevOf Blocks) refl
+
           system : words Layout.system c ≡ words Layout.system b
           system = T .only .kept Layout.system refl
 
@@ -123,24 +137,24 @@ module _ (b msgs : List ℕ) (A : Accepted b msgs) where
       -- c has the task's entries written, and it is to make its move
       module _ (c : List ℕ) (T : Touched t rest b c) (f : taskShown c t ≡ F (taskShown b t)) where
         pub stay-done : move (bodyShown b msgs) a ≡ stay → Done a b msgs c msgs
-        stay-done m = done rest c T f tt (rw m (follows-stay _ _))
+        stay-done m = done rest c T f tt (rw m (rest-follows _ _ _ Tasks))
 
         left-shown : taskShown (unqueued t c) t ≡ F (taskShown b t)
         left-shown = kept-shown (unqueued-law c (T .size) t .only) refl t ∙ f
 
         pub leave-done : move (bodyShown b msgs) a ≡ leave (aTask t) → Done a b msgs (unqueued t c) msgs
-        leave-done m = done (out t) (unqueued t c) (touched-left T) left-shown id (rw m (task-leaves _ _ t))
+        leave-done m = done (out t) (unqueued t c) (touched-left T) left-shown id (rw m (task-leaves _ _ _ t))
 
         -- it then belongs to no queue
         pub lost-done : move (bodyShown b msgs) a ≡ last (aTask t) → ((q : Place) → stands (F (taskShown b t)) q ≡ false) → Done a b msgs (unqueued t c) msgs
-        lost-done m g = done (out t) (unqueued t c) (touched-left T) left-shown id (rw m (task-lost _ _ t (rw now g)))
+        lost-done m g = done (out t) (unqueued t c) (touched-left T) left-shown id (rw m (task-lost _ _ _ t (rw now g)))
 
         -- it then belongs to the queue at a place
-        goes-done : (p : Place) (n : ℕ) → n ≡ anchor p → UsedByTasks (storeShown b msgs) (anchor p) → Exists (storeShown b msgs) p → sort p ≡ true
+        goes-done : (p : Place) (n : ℕ) → n ≡ anchor p → Exists (storeShown b msgs) p → ringsAt p ≡ Tasks
             → move (bodyShown b msgs) a ≡ last (aTask t) → ((q : Place) → stands (F (taskShown b t)) q ≡ samePlace p q) → Done a b msgs (queued n t (unqueued t c)) msgs
-        goes-done p n k w x y m g =
-            done (to p t) (queued n t (unqueued t c)) (touched-last n p k (touched-left T)) (kept-shown (queued-law (unqueued t c) (unqueued-law c (T .size) t .size) n t .only) refl t ∙ left-shown) (id, w)
-            (rw m (task-goes _ _ small t p x y (rw now g)))
+        goes-done p n k x y m g =
+            done (to p t) (queued n t (unqueued t c)) (touched-last n p k (touched-left T)) (kept-shown (queued-law (unqueued t c) (unqueued-law c (T .size) t .size) n t .only) refl t ∙ left-shown) (id, record { place = p; there = x; among = y; here = refl })
+            (rw m (task-goes _ _ _ small t p x y (rw now g)))
 
         written : entry Layout.priority c t ≡ F (taskShown b t) .priority
         unfolding taskShown
@@ -149,8 +163,8 @@ module _ (b msgs : List ℕ) (A : Accepted b msgs) where
         pub ready-done : move (bodyShown b msgs) a ≡ last (aTask t) → F (taskShown b t) .state ≡ ready → In (F (taskShown b t) .priority) (storeShown b msgs .priorities)
             → Done a b msgs (rotated t c) msgs
         unfolding rotated
-        ready-done m s r = goes-done (readyAt (F (taskShown b t) .priority)) _ (ap readyAnchor written ∙ ready-anchor _ (small (readyAt _) r)) (ready-queue _ r) r refl m (ready-stands _ s)
+        ready-done m s r = goes-done (readyAt (F (taskShown b t) .priority)) _ (ap readyAnchor written ∙ ready-anchor _ (small (readyAt _) r)) r refl m (ready-stands _ s)
 
         pub wait-done : (k : Kind) (o p n : ℕ) → move (bodyShown b msgs) a ≡ last (aTask t) → F (taskShown b t) .state ≡ waiting (on k o p n) → In o (objects (storeShown b msgs) k)
             → Done a b msgs (queued (waitAnchor (kindNumber k) o) t (unqueued t c)) msgs
-        wait-done k o p n m s r = goes-done (waiters k o) _ (wait-anchor k o (small (waiters k o) r)) (wait-queue k o r) r refl m (wait-stands _ k o p n s)
+        wait-done k o p n m s r = goes-done (waiters k o) _ (wait-anchor k o (small (waiters k o) r)) r refl m (wait-stands _ k o p n s)

@@ -1,16 +1,18 @@
 -- A mask with one bit set or cleared shows the pool with one mark changed. Assumes nothing.
 use mathlib.Core.Bool.{Bool, true, false, cond}
 use mathlib.Core.List.{List, [], _∷_}
-use mathlib.Core.Path.{_≡_, refl, ap, _∙_}
+use mathlib.Core.Path.{_≡_, refl, sym, ap, _∙_}
 use Prim.Native.Nat.{ℕ, zero, suc, pred, _+_, _-_, _*_, _/_, _%_, _^_, _≤_, _<_}
-use native.Mathlib.Nat.{pow-suc, mod-eq-of-lt, div-eq-of-lt, div-lt-iff-lt-mul, pow-le-pow-right}
+use native.Mathlib.Nat.{pow-suc, mod-eq-of-lt, div-eq-of-lt, div-lt-iff-lt-mul, div-div-eq-div-mul, pow-le-pow-right, pow-succ'}
+use native.Mathlib.Decide.{decLt}
 use native.Mathlib.Omega.{arith}
 use lib.Bits.{bitAnd, bitOr, or-step, or-zero-r, or-lt, and-step, and-mask, and-le-l}
 use lib.Dec.{eqb}
-use lib.ListN.{length, set}
+use lib.ListN.{length, getD, set, List·getD-eq-default}
 use lib.Pow.{pow-pos, pow-lt}
 use borrow.Author.Tests.{eqb-true, eq-eqb}
-use Rattle.rules.specs.Ids.{put, In}
+use Rattle.rules.specs.Ids.{of, put, In}
+use Rattle.memory_columns.specs.Layout.{maxBlocks}
 use Rattle.memory_columns.specs.Bits.{masked}
 use Rattle.memory_picture.specs.Picture.{bitsOf, poolShown}
 
@@ -20,10 +22,34 @@ pow-half i = rw (pow-suc 2 i) (omega arith)
 pow-even : (i : ℕ) → 2 ^ suc i % 2 ≡ 0
 pow-even i = rw (pow-suc 2 i) (omega arith)
 
-length-bits : (n m : ℕ) → length (bitsOf n m) ≡ n
+pub length-bits : (n m : ℕ) → length (bitsOf n m) ≡ n
 unfolding bitsOf
 length-bits zero m = refl
 length-bits (suc n) m = ap suc (length-bits n (m / 2))
+
+-- one of them, whatever stands past the end
+pub bits-at : (n i m : ℕ) (d : Bool) → i < n → getD (bitsOf n m) i d ≡ eqb ((m / 2 ^ i) % 2) 1
+unfolding bitsOf
+bits-at zero i m d h = absurd (omega arith)
+bits-at (suc n) zero m d h = let e : m ≡ m / 2 ^ 0 = omega arith in ap (λ (x : ℕ). eqb (x % 2) 1) e
+bits-at (suc n) (suc i) m d h = bits-at n i (m / 2) d (omega arith) ∙ ap (λ (x : ℕ). eqb (x % 2) 1) (div-div-eq-div-mul m 2 (2 ^ i) ∙ ap (λ (x : ℕ). m / x) (sym (pow-succ' 2 i)))
+
+-- the mark of a block; one that a pool with blocks lacks has none
+pub pool-at : (n m i : ℕ) → In (length (poolShown n m)) maxBlocks → of (poolShown n m) (suc i) false ≡ eqb ((m / 2 ^ i) % 2) 1
+unfolding poolShown
+pool-at n m i = go (eqb (m / 2 ^ n) 0) refl
+  where
+    go : (t : Bool) → eqb (m / 2 ^ n) 0 ≡ t → In (length (cond t (bitsOf n m) [])) maxBlocks → getD (cond t (bitsOf n m) []) i false ≡ eqb ((m / 2 ^ i) % 2) 1
+    go true e h = elim (decLt i n) [
+      | yes k ↦ bits-at n i m false k
+      | no k ↦
+          let r : n ≤ i = omega arith in
+          let g = pow-le-pow-right {n = 2} (omega arith) r in
+          let w : m < 2 ^ n = omega (arith, div-lt-iff-lt-mul {k = 2 ^ n} {x = m} {y = 1} (pow-pos n) .0 (omega (arith, eqb-true (m / 2 ^ n) 0 e))) in
+          let z : m / 2 ^ i ≡ 0 = div-eq-of-lt (omega arith) in
+          rw z (List·getD-eq-default (bitsOf n m) false {n = i} (rw (length-bits n m) r))
+    ]
+    go false e h = absurd (omega (arith, h .0))
 
 -- the bits of a number whose half and whose last bit are known
 bits-step : (n m x y : ℕ) → m ≡ x * 2 + y → y < 2 → bitsOf (suc n) m ≡ eqb y 1 ∷ bitsOf n x

@@ -12,7 +12,7 @@ use Rattle.rules.specs.Ids.{of, put, In}
 use Rattle.rules.specs.State.{Kind, semaphore, flag, mailbox, pool, Wait, asleep, timed, on, State, dormant, ready, suspended, waiting, waiting-suspended, Task, Store, task, nobody, objects, waitOf, isReady}
 use Rattle.rules.specs.Acts.{start, retire, rotate, regrade, wait, release, suspend, resume, wakeups, after, move, with-state, with-priority, with-wakeups, haltedMove, resumedMove, releasedMove, regradedMove}
 use Rattle.rules.specs.Acts as Acts
-use Rattle.rules.specs.Places.{Place, readyAt, waiters, mail, aTask}
+use Rattle.rules.specs.Places.{Place, readyAt, waiters, mail, freeIn, aTask}
 use Rattle.rules.proofs.Fits.{stands}
 use Rattle.rules.specs.Codes.{Code}
 use mathlib.Core.Option.{some}
@@ -65,11 +65,13 @@ asleep-lost : (x : Task) (q : Place) → stands (with-state (waiting asleep) x) 
 asleep-lost x (readyAt p) = refl
 asleep-lost x (waiters k o) = refl
 asleep-lost x (mail m) = refl
+asleep-lost x (freeIn p) = refl
 
 timed-lost : (n : ℕ) (x : Task) (q : Place) → stands (with-state (waiting (timed n)) x) q ≡ false
 timed-lost n x (readyAt p) = refl
 timed-lost n x (waiters k o) = refl
 timed-lost n x (mail m) = refl
+timed-lost n x (freeIn p) = refl
 
 put-same : {A : Type 0} (l : List A) (i : ℕ) (d : A) → l ≡ put l i (of l i d)
 put-same l zero d = refl

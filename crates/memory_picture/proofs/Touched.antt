@@ -15,8 +15,10 @@ use Rattle.rules.specs.State.{Task, Store}
 use Rattle.rules.specs.Places.{Place}
 use Rattle.rules.specs.Acts.{with-messages, with-clock}
 use Rattle.rules.proofs.Ids.{length-put, of-put-other, of-put-same, of-ids, length-ids}
+use Rattle.memory_columns.specs.declared.Rings.{Rings}
+use Rattle.memory_columns.specs.declared.Rings.the-variants.{Tasks, Messages, Blocks}
 use Rattle.memory_columns.specs.Layout as Layout
-use Rattle.memory_columns.specs.Layout.{Column, taskColumns, objectColumns, same, among, clear, words, entry, Only}
+use Rattle.memory_columns.specs.Layout.{Column, nextOf, prevOf, linksOf, taskColumns, objectColumns, same, among, clear, words, entry, Only}
 use Rattle.memory_columns.proofs.Tiling.{either-right}
 use Rattle.memory_columns.proofs.Frame.{Sized, put-size, put-apart, words-put, entry-other, only-none, only-on, only-first, task-column, object-column, clear-apart, put-among, allClear, all-clear}
 use Rattle.memory_queues.specs.Moves.{queued, unqueued}
@@ -114,6 +116,16 @@ store-stays b c msgs marks F h k =
     store-kept b c msgs marks F h (λ i r. ap (λ (m : List ℕ). getD m i 0) (F .kept Layout.system k))
     ∙ (λ z. with-clock (getD (F .kept Layout.system k z) Layout.clockLow 0 + 2 ^ 32 * getD (F .kept Layout.system k z) Layout.clockHigh 0) (with-messages (map (λ j. messageShown (of marks j 0)) (ids (messagesShown b))) (storeShown b msgs)))
 
+-- ---- the links of the rings
+
+abbrev ringColumns : List Column
+ringColumns = Layout.next ∷ Layout.prev ∷ Layout.mailNext ∷ Layout.mailPrev ∷ Layout.blockNext ∷ Layout.blockPrev ∷ []
+
+pub rings-clear : (l : List Column) → allClear l ringColumns ≡ true → (r : Rings) → (clear l (nextOf r) ≡ true) × (clear l (prevOf r) ≡ true)
+rings-clear l h Tasks = (all-clear l ringColumns h Layout.next refl, all-clear l ringColumns h Layout.prev refl)
+rings-clear l h Messages = (all-clear l ringColumns h Layout.mailNext refl, all-clear l ringColumns h Layout.mailPrev refl)
+rings-clear l h Blocks = (all-clear l ringColumns h Layout.blockNext refl, all-clear l ringColumns h Layout.blockPrev refl)
+
 -- ---- the handlers
 
 pub handlers-kept : {l : List Column} {b c : List ℕ} → Only l b c → clear l Layout.handling ≡ true → handlersShown c ≡ handlersShown b
@@ -124,7 +136,7 @@ handlers-kept F h = ap (λ (m : List ℕ). openShown (getD m Layout.depth 0) (ge
 
 -- what an act on a task may write
 abbrev pub touchable : List Column
-touchable = Layout.links ∷ Layout.nonempty ∷ taskColumns
+touchable = linksOf Tasks ∷ Layout.nonempty ∷ taskColumns
 
 -- c is b but for the entries of task t, and for the rings of tasks and the word of nonempty ready queues, in which t made a step
 pub record Touched (t : ℕ) (s : Step) (b c : List ℕ) : Type 0 where
@@ -135,8 +147,8 @@ pub record Touched (t : ℕ) (s : Step) (b c : List ℕ) : Type 0 where
   pub prev : words Layout.prev c ≡ prevAfter s (words Layout.next b) (words Layout.prev b)
   pub word : entry Layout.nonempty c 0 ≡ wordAfter s (words Layout.next b) (words Layout.prev b) (entry Layout.nonempty b 0)
 
-links-touched : {b c : List ℕ} → Only (Layout.links ∷ Layout.nonempty ∷ []) b c → Only touchable b c
-links-touched F = only-first (Layout.links ∷ Layout.nonempty ∷ []) taskColumns F
+links-touched : {b c : List ℕ} → Only (linksOf Tasks ∷ Layout.nonempty ∷ []) b c → Only touchable b c
+links-touched F = only-first (linksOf Tasks ∷ Layout.nonempty ∷ []) taskColumns F
 
 module _ {t : ℕ} {b : List ℕ} where
   pub untouched : Sized b → Touched t rest b b
@@ -146,7 +158,7 @@ module _ {t : ℕ} {b : List ℕ} where
   touched-put {c} x v h T = record {
     size = put-size x t v c (T .size);
     others = λ j ne. shown-by c (Layout.put x t v c) j (λ d k. entry-other x t v c d (task-column x h) (task-column d k) j ne) ∙ T .others j ne;
-    only = only-on (T .only) (put-among touchable x t v c (either-right (same Layout.links x) (among (Layout.nonempty ∷ taskColumns) x) (either-right (same Layout.nonempty x) (among taskColumns x) h)));
+    only = only-on (T .only) (put-among touchable x t v c (either-right (same (linksOf Tasks) x) (among (Layout.nonempty ∷ taskColumns) x) (either-right (same Layout.nonempty x) (among taskColumns x) h)));
     next = put-apart x t v c Layout.next (clear-apart taskColumns x Layout.next refl h) ∙ T .next;
     prev = put-apart x t v c Layout.prev (clear-apart taskColumns x Layout.prev refl h) ∙ T .prev;
     word = ap (λ (l : List ℕ). getD l 0 0) (put-apart x t v c Layout.nonempty (clear-apart taskColumns x Layout.nonempty refl h)) ∙ T .word;

@@ -1,18 +1,20 @@
 -- A form of every sound view: a memory that shows it. The columns stand one after the other, each computed entry by entry; in the link columns
 -- a node's link is found in the line of the queue in which the node stands.
-use mathlib.Core.Bool.{cond}
+use mathlib.Core.Bool.{Bool, true, false, cond}
 use mathlib.Core.List.{List, [], _∷_, _++_, map, reverse}
 use mathlib.Core.Option.{Option, none, some}
-use Prim.Native.Nat.{ℕ, suc, _+_, _-_, _/_, _%_, _^_, _<_}
+use Prim.Native.Nat.{ℕ, zero, suc, _+_, _-_, _*_, _/_, _%_, _^_, _<_}
 use lib.Dec.{eqb, leb}
 use lib.ListN.{length, getD}
 use Rattle.rules.specs.Ids.{of, from, ids}
 use Rattle.rules.specs.State.{semaphore, flag, mailbox, pool, Wait, asleep, timed, on, State, dormant, ready, suspended, waiting, waiting-suspended, depth, Body, task}
-use Rattle.rules.specs.Places.{Place, readyAt, waiters, mail, lineAt}
+use Rattle.rules.specs.Places.{Place, readyAt, waiters, mail, freeIn, Sort, tasks, messages, blocks, sortAt, lineAt}
 use Rattle.rules.specs.View.{View}
 use Rattle.memory_rings.specs.Rings.{All, headOf}
+use Rattle.memory_columns.specs.declared.Rings.{Rings}
+use Rattle.memory_columns.specs.declared.Rings.the-variants.{Tasks, Messages, Blocks}
 use Rattle.memory_columns.specs.Layout as Layout
-use Rattle.memory_columns.specs.Layout.{Column, maxPriorities, maxObjects, maxMessages, readyNode, waitNode, mailNode, same}
+use Rattle.memory_columns.specs.Layout.{Column, maxPriorities, maxObjects, maxMessages, maxBlocks, readyNode, waitNode, mailNode, freeNode, blockNode, nextOf, prevOf, same}
 use Rattle.memory_picture.specs.Picture.{maskOf, occupied, kindNumber, anchor}
 use Rattle.memory_picture.specs.Perform.{codeKept, interruptedKept}
 
@@ -77,6 +79,24 @@ abbrev pub mailHome : Option ℕ → Option Place
 mailHome none = none
 mailHome (some m) = some (mail m)
 
+-- of a block of pool p, from its mark
+abbrev pub blockHome : ℕ → Bool → Option Place
+blockHome p true = some (freeIn p)
+blockHome p false = none
+
+-- of a node: that of task i, of message j, of the block of a pool that has the node
+abbrev pub homeOf : Body → Rings → ℕ → Option Place
+homeOf b Tasks i = taskHome (task b i .state) (task b i .priority)
+homeOf b Messages j = mailHome (of (b .store .messages) j none)
+homeOf b Blocks zero = none
+homeOf b Blocks (suc x) = blockHome (suc (x / maxBlocks)) (of (of (b .store .pools) (suc (x / maxBlocks)) []) (suc (x % maxBlocks)) false)
+
+-- how many nodes are ids
+abbrev pub idsKept : Body → Rings → ℕ
+idsKept b Tasks = length (b .tasks)
+idsKept b Messages = length (b .store .messages)
+idsKept b Blocks = maxBlocks * length (b .store .pools)
+
 -- the queue of an anchor
 unfoldable pub taskPlace : ℕ → Place
 taskPlace a =
@@ -87,6 +107,23 @@ taskPlace a =
 
 unfoldable pub mailPlace : ℕ → Place
 mailPlace a = mail (a - mailNode 0)
+
+unfoldable pub freePlace : ℕ → Place
+freePlace a = freeIn (a - freeNode 0)
+
+abbrev pub placeOf : Rings → ℕ → Place
+placeOf Tasks = taskPlace
+placeOf Messages = mailPlace
+placeOf Blocks = freePlace
+
+-- the nodes of a line, by the sort
+abbrev pub nodesOf : Sort → List ℕ → List ℕ
+nodesOf tasks l = l
+nodesOf messages l = l
+nodesOf (blocks p) l = map (blockNode p) l
+
+abbrev pub nodeLines : (Place → List ℕ) → Place → List ℕ
+nodeLines L q = nodesOf (sortAt q) (L q)
 
 -- what comes behind x in a line, d behind the last
 unfoldable pub following : ℕ → List ℕ → ℕ → ℕ
@@ -135,12 +172,15 @@ systemWords b =
 abbrev pub handlingWords : Body → List ℕ
 handlingWords b = depth (b .handlers) ∷ interruptedKept (b .handlers) ∷ []
 
--- the link of a node among the rings of tasks, and of messages; back is the same of the lines turned round
-unfoldable pub taskLink : Body → (Place → List ℕ) → ℕ → ℕ
-taskLink b L = link (length (b .tasks)) (λ i. taskHome (task b i .state) (task b i .priority)) taskPlace L
+-- the link of a node among the rings, from the lines of nodes; back is the same of the lines turned round
+unfoldable pub ringLink : Body → Rings → (Place → List ℕ) → ℕ → ℕ
+ringLink b r M = link (idsKept b r) (homeOf b r) (placeOf r) M
 
-unfoldable pub mailLink : Body → (Place → List ℕ) → ℕ → ℕ
-mailLink b L = link (length (b .store .messages)) (λ j. mailHome (of (b .store .messages) j none)) mailPlace L
+abbrev pub nextPart : Body → Rings → (Place → List ℕ) → Part
+nextPart b r L = part (nextOf r) (ringLink b r (nodeLines L))
+
+abbrev pub prevPart : Body → Rings → (Place → List ℕ) → Part
+prevPart b r L = part (prevOf r) (ringLink b r (λ q. reverse (nodeLines L q)))
 
 abbrev pub parts : Body → (Place → List ℕ) → List Part
 parts b L =
@@ -155,17 +195,19 @@ parts b L =
     ∷ part Layout.wish (λ i. wordsOf (task b i .state) .wish)
     ∷ part Layout.mode (λ i. wordsOf (task b i .state) .mode)
     ∷ part Layout.ticks (λ i. wordsOf (task b i .state) .ticks)
-    ∷ part Layout.next (taskLink b L)
-    ∷ part Layout.prev (taskLink b (λ q. reverse (L q)))
+    ∷ nextPart b Tasks L
+    ∷ prevPart b Tasks L
     ∷ part Layout.semaphore (λ s. of (b .store .semaphores) s 0)
     ∷ part Layout.flag (λ f. of (b .store .flags) f 0)
     ∷ part Layout.free (λ p. maskOf (of (b .store .pools) p []))
     ∷ part Layout.size (λ p. length (of (b .store .pools) p []))
-    ∷ part Layout.mailNext (mailLink b L)
-    ∷ part Layout.mailPrev (mailLink b (λ q. reverse (L q)))
+    ∷ nextPart b Messages L
+    ∷ prevPart b Messages L
     ∷ part Layout.system (λ k. getD (systemWords b) k 0)
     ∷ part Layout.handling (λ k. getD (handlingWords b) k 0)
     ∷ part Layout.nonempty (λ k. maskOf (map (λ p. occupied (L (readyAt p))) (ids (b .store .priorities))))
+    ∷ nextPart b Blocks L
+    ∷ prevPart b Blocks L
     ∷ []
 
 -- the memory of a view, and the marks of its messages

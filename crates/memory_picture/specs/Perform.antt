@@ -6,13 +6,14 @@ use mathlib.Core.Path.{_≡_}
 use Prim.Native.Nat.{ℕ}
 use lib.ListN.{length}
 use Rattle.rules.specs.Ids.{of, put, In}
-use Rattle.rules.specs.Codes.{Code, OK, WAITS, H-NUMBER, H-QUEUE, H-SERVED, H-TWICE, H-CALL, H-PAR, E-NOEXS, E-TPRI, E-ILTIME, E-CTX, E-SELF, E-DMT, H-NODMT, H-SUS, E-NOSUS, E-NOWAI, E-QOVR, H-POLL, H-MSG, H-NEST, H-ILBLK, E-TMOUT, E-RLWAI}
+use Rattle.rules.specs.Codes.{Code, OK, WAITS, H-NUMBER, H-QUEUE, H-SERVED, H-TWICE, H-FREE, H-CALL, H-PAR, E-NOEXS, E-TPRI, E-ILTIME, E-CTX, E-SELF, E-DMT, H-NODMT, H-SUS, E-NOSUS, E-NOWAI, E-QOVR, H-POLL, H-MSG, H-NEST, H-ILBLK, E-TMOUT, E-RLWAI}
 use Rattle.rules.specs.State.{Wait, asleep, timed, on, Handlers, no-handler, in-handler, depth, Body, task, isReady}
 use Rattle.rules.specs.Acts.{Act, start, retire, rotate, regrade, wait, release, suspend, resume, wakeups, count, pattern, post, receive, mark, elapse, nest}
 use Rattle.rules.specs.Objects.{laid}
 use Rattle.rules.specs.Sound.{WaitNumbers}
 use Rattle.memory_columns.specs.Layout as Layout
-use Rattle.memory_queues.specs.Moves.{mailAnchor, mailed, unmailed}
+use Rattle.memory_columns.specs.declared.Rings.the-variants.{Messages}
+use Rattle.memory_queues.specs.Moves.{mailAnchor, linked, unlinked}
 use Rattle.memory_tasks.specs.Moves.{rotated, started, retired, regraded, halted, resumed, released, slept, waited}
 use Rattle.memory_objects.specs.Moves.{marked, elapsed, nested}
 use Rattle.memory_picture.specs.Picture.{codeOf, kindNumber}
@@ -27,6 +28,7 @@ codeKept H-NUMBER = 3
 codeKept H-QUEUE = 3
 codeKept H-SERVED = 3
 codeKept H-TWICE = 3
+codeKept H-FREE = 3
 codeKept H-CALL = 3
 codeKept H-PAR = 3
 codeKept E-NOEXS = 3
@@ -69,8 +71,8 @@ performed (resume i) b = resumed i b
 performed (wakeups i n) b = Layout.put Layout.wakeups i n b
 performed (count s n) b = Layout.put Layout.semaphore s n b
 performed (pattern f n) b = Layout.put Layout.flag f n b
-performed (post j m) b = mailed (mailAnchor m) j b
-performed (receive j) b = unmailed j b
+performed (post j m) b = linked Messages (mailAnchor m) j b
+performed (receive j) b = unlinked Messages j b
 performed (mark p k t) b = marked p k t b
 performed elapse b = elapsed b
 performed (nest h) b = nested (depth h) (interruptedKept h) b

@@ -4,18 +4,20 @@ use mathlib.Core.Bool.{Bool, true, false, cond}
 use mathlib.Core.List.{List, [], _∷_, map}
 use mathlib.Core.Option.{Option, none, some}
 use mathlib.Core.Path.{_≡_}
-use Prim.Native.Nat.{ℕ, zero, suc, _+_, _*_, _/_, _%_, _^_, _<_}
+use Prim.Native.Nat.{ℕ, zero, suc, _+_, _-_, _*_, _/_, _%_, _^_, _<_}
 use lib.Dec.{eqb}
 use lib.ListN.{length}
 use Rattle.rules.specs.Ids.{of, ids, once}
 use Rattle.rules.specs.Codes.{Code, OK, H-NUMBER, E-TMOUT, E-RLWAI}
 use Rattle.rules.specs.State.{Kind, semaphore, flag, mailbox, pool, Wait, asleep, timed, on, State, dormant, ready, suspended, waiting, waiting-suspended, Task, Store, Handlers, no-handler, in-handler, Body}
-use Rattle.rules.specs.Places.{Place, readyAt, waiters, mail, Exists, tabulate}
+use Rattle.rules.specs.Places.{Place, readyAt, waiters, mail, freeIn, Sort, tasks, messages, blocks, sortAt, Exists, tabulate}
 use Rattle.rules.specs.View.{View}
 use Rattle.rules.specs.Sound.{Sound}
 use Rattle.memory_rings.specs.Rings.{lineOf, Linked}
+use Rattle.memory_columns.specs.declared.Rings.{Rings}
+use Rattle.memory_columns.specs.declared.Rings.the-variants.{Tasks, Messages, Blocks}
 use Rattle.memory_columns.specs.Layout as Layout
-use Rattle.memory_columns.specs.Layout.{stateWords, maxMessages, readyNode, waitNode, mailNode, words, entry}
+use Rattle.memory_columns.specs.Layout.{stateWords, maxMessages, maxBlocks, readyNode, waitNode, mailNode, freeNode, beforePool, nextOf, prevOf, words, entry}
 
 -- ---- tasks
 
@@ -59,12 +61,15 @@ bitsOf (suc k) m = eqb (m % 2) 1 ∷ bitsOf k (m / 2)
 unfoldable pub poolShown : ℕ → ℕ → List Bool
 poolShown k m = cond (eqb (m / 2 ^ k) 0) (bitsOf k m) []
 
--- how many tasks and messages there are: the ids of the rings. What stands at a number above them is no part of the picture.
+-- how many tasks, messages and pools there are. What stands at a number above them is no part of the picture.
 abbrev pub tasksShown : List ℕ → ℕ
 tasksShown b = entry Layout.system b Layout.tasks
 
 abbrev pub messagesShown : List ℕ → ℕ
 messagesShown b = entry Layout.system b Layout.messages
+
+abbrev pub poolsShown : List ℕ → ℕ
+poolsShown b = entry Layout.system b Layout.pools
 
 -- ticks since the start, in two halves
 abbrev pub clockShown : List ℕ → ℕ
@@ -77,7 +82,7 @@ storeShown b msgs = record {
   flags = map (entry Layout.flag b) (ids (entry Layout.system b Layout.flags));
   mailboxes = entry Layout.system b Layout.mailboxes;
   messages = map (λ j. messageShown (of msgs j 0)) (ids (messagesShown b));
-  pools = map (λ p. poolShown (entry Layout.size b p) (entry Layout.free b p)) (ids (entry Layout.system b Layout.pools));
+  pools = map (λ p. poolShown (entry Layout.size b p) (entry Layout.free b p)) (ids (poolsShown b));
   clock = clockShown b;
 }
 
@@ -101,16 +106,39 @@ kindNumber flag = Layout.flags
 kindNumber mailbox = Layout.mailboxes
 kindNumber pool = Layout.pools
 
--- the anchor of a queue, among the rings of tasks or of messages
+-- the anchor of a queue
 unfoldable pub anchor : Place → ℕ
 anchor (readyAt p) = readyNode p
 anchor (waiters k o) = waitNode (kindNumber k) o
 anchor (mail m) = mailNode m
+anchor (freeIn p) = freeNode p
+
+-- the rings in which what is of a sort stands
+abbrev pub ringsOf : Sort → Rings
+ringsOf tasks = Tasks
+ringsOf messages = Messages
+ringsOf (blocks p) = Blocks
+
+abbrev pub ringsAt : Place → Rings
+ringsAt q = ringsOf (sortAt q)
+
+-- how many of their nodes are ids; each pool has as many as a pool can have blocks
+abbrev pub idsShown : List ℕ → Rings → ℕ
+idsShown b Tasks = tasksShown b
+idsShown b Messages = messagesShown b
+idsShown b Blocks = maxBlocks * poolsShown b
+
+-- what a line of nodes shows, by the sort: a node of another pool shows a number that is no block's
+abbrev pub numbersOf : Sort → List ℕ → List ℕ
+numbersOf tasks l = l
+numbersOf messages l = l
+numbersOf (blocks p) l = map (λ x. x - beforePool p) l
+
+abbrev pub nodesShown : List ℕ → Place → List ℕ
+nodesShown b q = lineOf (idsShown b (ringsAt q)) (words (nextOf (ringsAt q)) b) (anchor q)
 
 unfoldable pub lineShown : List ℕ → Place → List ℕ
-lineShown b (readyAt p) = lineOf (tasksShown b) (words Layout.next b) (anchor (readyAt p))
-lineShown b (waiters k o) = lineOf (tasksShown b) (words Layout.next b) (anchor (waiters k o))
-lineShown b (mail m) = lineOf (messagesShown b) (words Layout.mailNext b) (anchor (mail m))
+lineShown b q = numbersOf (sortAt q) (nodesShown b q)
 
 unfoldable pub viewShown : List ℕ → List ℕ → View
 viewShown b msgs = record { body = bodyShown b msgs; lines = tabulate (storeShown b msgs) (lineShown b) }
@@ -132,13 +160,16 @@ nonemptyShown b = maskOf (map (λ p. occupied (lineShown b (readyAt p))) (ids (e
 
 -- ---- whole links
 
--- an anchor that is in use, of tasks' queues or of mailboxes
-pub data UsedByTasks (u : Store) : ℕ → Type 0 where
-  ready-queue : (p : ℕ) → Exists u (readyAt p) → UsedByTasks u (anchor (readyAt p))
-  wait-queue : (k : Kind) (o : ℕ) → Exists u (waiters k o) → UsedByTasks u (anchor (waiters k o))
+-- an anchor of these rings that is in use
+pub record Used (u : Store) (r : Rings) (a : ℕ) : Type 0 where
+  pub place : Place
+  pub there : Exists u place
+  pub among : ringsAt place ≡ r
+  pub here : anchor place ≡ a
 
-pub data UsedByMail (u : Store) : ℕ → Type 0 where
-  mailbox-queue : (m : ℕ) → Exists u (mail m) → UsedByMail u (anchor (mail m))
+-- these links are rings, forwards and backwards
+abbrev pub WholeRings : List ℕ → List ℕ → Rings → Type 0
+WholeRings b msgs r = Linked (idsShown b r) (Used (storeShown b msgs) r) (words (nextOf r) b) (words (prevOf r) b) (lineOf (idsShown b r) (words (nextOf r) b))
 
 -- the memory has its size, the clock's low half is a word, the links are rings, forwards and backwards, and the word of nonempty ready queues
 -- is that of the rings
@@ -146,9 +177,8 @@ pub record Whole (b msgs : List ℕ) : Type 0 where
   pub size : length b ≡ stateWords
   pub marks : length msgs ≡ maxMessages
   pub low : entry Layout.system b Layout.clockLow < 2 ^ 32
-  pub tasks : Linked (tasksShown b) (UsedByTasks (storeShown b msgs)) (words Layout.next b) (words Layout.prev b) (lineOf (tasksShown b) (words Layout.next b))
+  pub rings : (r : Rings) → WholeRings b msgs r
   pub word : entry Layout.nonempty b 0 ≡ nonemptyShown b
-  pub mails : Linked (messagesShown b) (UsedByMail (storeShown b msgs)) (words Layout.mailNext b) (words Layout.mailPrev b) (lineOf (messagesShown b) (words Layout.mailNext b))
 
 -- the memory shows the view
 pub record Shows (b msgs : List ℕ) (v : View) : Type 0 where

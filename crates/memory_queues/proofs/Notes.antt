@@ -9,7 +9,8 @@ use borrow.Author.Tests.{le-leb, lt-leb, lt-ltb}
 use Rattle.memory_rings.specs.Links.{firstOf}
 use Rattle.memory_columns.specs.Layout.{maxPriorities, readyNode, next, nonempty, words, entry, put}
 use Rattle.memory_columns.specs.Bits.{remasked}
-use Rattle.memory_queues.specs.Moves.{annotated, relinked, unlinked, queued, unqueued}
+use Rattle.memory_columns.specs.declared.Rings.the-variants.{Tasks}
+use Rattle.memory_queues.specs.Moves.{annotated, linked, unlinked, queued, unqueued}
 
 module _ (a : ℕ) (x : Bool) (b : List ℕ) where
   pub note-below : a < readyNode 1 → b ≡ annotated a x b
@@ -24,10 +25,10 @@ module _ (a : ℕ) (x : Bool) (b : List ℕ) where
   unfolding annotated
   note-in h k em en eb = eb ∙ rw (le-leb (readyNode 1) a h, le-leb a (readyNode maxPriorities) k, en, em, lt-ltb (a - readyNode 1) 32 (omega arith))
 
-pub push-steps : (a t : ℕ) (b : List ℕ) {b₁ b₂ : List ℕ} → b₁ ≡ relinked a t b → b₂ ≡ annotated a true b₁ → b₂ ≡ queued a t b
+pub push-steps : (a t : ℕ) (b : List ℕ) {b₁ b₂ : List ℕ} → b₁ ≡ linked Tasks a t b → b₂ ≡ annotated a true b₁ → b₂ ≡ queued a t b
 unfolding queued
 push-steps a t b e f = f ∙ ap (annotated a true) e
 
-pub leave-steps : (t : ℕ) (b : List ℕ) {n f : ℕ} {b₁ b₂ : List ℕ} → n ≡ entry next b t → b₁ ≡ unlinked t b → f ≡ firstOf (words next b₁) n → b₂ ≡ annotated n (not (eqb f 0)) b₁ → b₂ ≡ unqueued t b
+pub leave-steps : (t : ℕ) (b : List ℕ) {n f : ℕ} {b₁ b₂ : List ℕ} → n ≡ entry next b t → b₁ ≡ unlinked Tasks t b → f ≡ firstOf (words next b₁) n → b₂ ≡ annotated n (not (eqb f 0)) b₁ → b₂ ≡ unqueued t b
 unfolding unqueued
 leave-steps t b en e ef g = g ∙ rw (ef, e, en)

@@ -1,4 +1,4 @@
--- What a move of a task or a message makes of each column. Assumes nothing.
+-- What a move in the rings makes of each column. Assumes nothing.
 use mathlib.Core.Bool.{Bool, true, false, cond}
 use mathlib.Core.List.{List, [], _∷_}
 use mathlib.Core.Path.{_≡_, refl, ap, _∙_, subst}
@@ -13,10 +13,13 @@ use Rattle.memory_rings.specs.Columns.{col, splice}
 use Rattle.memory_rings.specs.Links.{pushNext, pushPrev, leftNext, leftPrev, half, nexts, prevs, pushed, left, cleared}
 use Rattle.memory_rings.proofs.Columns.{length-col, col-splice-inside}
 use Rattle.memory_rings.proofs.Halves.{nexts-pushed, prevs-pushed, length-pushed, nexts-left, prevs-left, length-left, nexts-cleared, prevs-cleared, length-cleared}
-use Rattle.memory_columns.specs.Layout.{Column, stateWords, fits, back, both, next, prev, mailNext, mailPrev, nonempty, isReadyNode, links, readyNode, words, entry, put, Only}
+use Rattle.memory_columns.specs.declared.Rings.{Rings}
+use Rattle.memory_columns.specs.declared.Rings.the-variants.{Tasks}
+use Rattle.memory_columns.specs.Layout.{Column, stateWords, fits, back, both, next, prev, nextOf, prevOf, linksOf, nonempty, isReadyNode, readyNode, words, entry, put, Only}
 use Rattle.memory_columns.specs.Bits.{masked}
 use Rattle.memory_columns.proofs.Frame.{Sized, fits-in, words-length, put-size, put-only, entry-put, nexts-both, prevs-both, splice-size, splice-only, only-both, only-none}
-use Rattle.memory_queues.specs.Moves.{noted, annotated, inhabited, relinked as relinkedWords, unlinked, queued, unqueued, clearedQueue, mailed, unmailed, clearedMail}
+use Rattle.memory_queues.specs.Moves.{noted, annotated, inhabited, linked, unlinked, emptied, queued, unqueued}
+use Rattle.memory_queues.proofs.Parts.{links-fit}
 
 -- ---- rings: the links forth in column n, and the links back behind them, are others
 
@@ -55,30 +58,19 @@ module _ (b : List ℕ) (size : Sized b) where
     clear : (a : ℕ) → Relinked n b (splice (n .at) (cleared a (words (both n) b)) b) (set (words n b) a a) (set (words (back n) b) a a)
     clear a = rw (← nexts-both n b size k, ← prevs-both n b size k, ← nexts-cleared, ← prevs-cleared) (relinked (cleared a (words (both n) b)) (length-cleared a (words (both n) b) ∙ long))
 
-  -- the rings of tasks, and those of messages
-  relinked-law : (a t : ℕ) → Relinked next b (relinkedWords a t b) (pushNext (words next b) (words prev b) a t) (pushPrev (words prev b) a t)
-  unfolding relinkedWords
-  relinked-law = push next refl
+  -- rings of any sort
+  module _ (r : Rings) where
+    pub linked-law : (a i : ℕ) → Relinked (nextOf r) b (linked r a i b) (pushNext (words (nextOf r) b) (words (prevOf r) b) a i) (pushPrev (words (prevOf r) b) a i)
+    unfolding linked
+    linked-law = push (nextOf r) (links-fit r)
 
-  unlinked-law : (t : ℕ) → Relinked next b (unlinked t b) (leftNext (words next b) (words prev b) t) (leftPrev (words next b) (words prev b) t)
-  unfolding unlinked
-  unlinked-law = take-out next refl
+    pub unlinked-law : (i : ℕ) → Relinked (nextOf r) b (unlinked r i b) (leftNext (words (nextOf r) b) (words (prevOf r) b) i) (leftPrev (words (nextOf r) b) (words (prevOf r) b) i)
+    unfolding unlinked
+    unlinked-law = take-out (nextOf r) (links-fit r)
 
-  pub cleared-queue-law : (a : ℕ) → Relinked next b (clearedQueue a b) (set (words next b) a a) (set (words prev b) a a)
-  unfolding clearedQueue
-  cleared-queue-law = clear next refl
-
-  pub mailed-law : (a j : ℕ) → Relinked mailNext b (mailed a j b) (pushNext (words mailNext b) (words mailPrev b) a j) (pushPrev (words mailPrev b) a j)
-  unfolding mailed
-  mailed-law = push mailNext refl
-
-  pub unmailed-law : (j : ℕ) → Relinked mailNext b (unmailed j b) (leftNext (words mailNext b) (words mailPrev b) j) (leftPrev (words mailNext b) (words mailPrev b) j)
-  unfolding unmailed
-  unmailed-law = take-out mailNext refl
-
-  pub cleared-mail-law : (a : ℕ) → Relinked mailNext b (clearedMail a b) (set (words mailNext b) a a) (set (words mailPrev b) a a)
-  unfolding clearedMail
-  cleared-mail-law = clear mailNext refl
+    pub emptied-law : (a : ℕ) → Relinked (nextOf r) b (emptied r a b) (set (words (nextOf r) b) a a) (set (words (prevOf r) b) a a)
+    unfolding emptied
+    emptied-law = clear (nextOf r) (links-fit r)
 
   -- a word that was just written: with numerals for p and q it computes
   pub put-at : (p q i v : ℕ) → i < q → getD (set (col p q b) i v) i 0 ≡ cond (leb (p + q) stateWords) v (getD (set (col p q b) i v) i 0)
@@ -92,7 +84,7 @@ module _ (b : List ℕ) (size : Sized b) where
 
 pub record Requeued (b c nx pv : List ℕ) (w : ℕ) : Type 0 where
   pub size : Sized c
-  pub only : Only (links ∷ nonempty ∷ []) b c
+  pub only : Only (linksOf Tasks ∷ nonempty ∷ []) b c
   pub next : words next c ≡ nx
   pub prev : words prev c ≡ pv
   pub word : entry nonempty c 0 ≡ w
@@ -135,13 +127,13 @@ requeued {b} {c} a x R = record {
 module _ (b : List ℕ) (size : Sized b) where
   pub queued-law : (a t : ℕ) → Requeued b (queued a t b) (pushNext (words next b) (words prev b) a t) (pushPrev (words prev b) a t) (noted a true (entry nonempty b 0))
   unfolding queued
-  queued-law a t = requeued a true (relinked-law b size a t)
+  queued-law a t = requeued a true (linked-law b size Tasks a t)
 
   pub unqueued-law : (t : ℕ) → Requeued b (unqueued t b) (leftNext (words next b) (words prev b) t) (leftPrev (words next b) (words prev b) t)
       (noted (entry next b t) (inhabited (leftNext (words next b) (words prev b) t) (entry next b t)) (entry nonempty b 0))
   unfolding unqueued
   unqueued-law t =
-      let R = unlinked-law b size t in
+      let R = unlinked-law b size Tasks t in
       let n : ℕ = entry next b t in
-      subst (λ (l : List ℕ). Requeued b (annotated n (inhabited (words next (unlinked t b)) n) (unlinked t b)) (leftNext (words next b) (words prev b) t) (leftPrev (words next b) (words prev b) t)
-      (noted n (inhabited l n) (entry nonempty b 0))) (R .next) (requeued n (inhabited (words next (unlinked t b)) n) R)
+      subst (λ (l : List ℕ). Requeued b (annotated n (inhabited (words next (unlinked Tasks t b)) n) (unlinked Tasks t b)) (leftNext (words next b) (words prev b) t) (leftPrev (words next b) (words prev b) t)
+      (noted n (inhabited l n) (entry nonempty b 0))) (R .next) (requeued n (inhabited (words next (unlinked Tasks t b)) n) R)

@@ -5,13 +5,15 @@ use Prim.Native.Nat.{ℕ, _-_}
 use lib.Dec.{eqb, leb}
 use Rattle.memory_rings.specs.Columns.{splice}
 use Rattle.memory_rings.specs.Links.{pushed, left, cleared, firstOf}
+use Rattle.memory_columns.specs.declared.Rings.{Rings}
+use Rattle.memory_columns.specs.declared.Rings.the-variants.{Tasks}
 use Rattle.memory_columns.specs.Layout as Layout
-use Rattle.memory_columns.specs.Layout.{maxPriorities, maxObjects, readyNode, isReadyNode, waitNode, mailNode, object, next, links, mailLinks, nonempty, words, entry, put}
+use Rattle.memory_columns.specs.Layout.{maxPriorities, maxObjects, maxPools, maxBlocks, readyNode, isReadyNode, waitNode, mailNode, freeNode, blockNode, next, linksOf, nonempty, words, entry, put}
 use Rattle.memory_columns.specs.Bits.{masked}
 
--- ---- queues
+-- ---- nodes
 
--- the anchor of a ready queue, and of the waiters on an object
+-- the anchor of a ready queue, of the waiters on an object, of a mailbox's messages, of a pool's free blocks
 abbrev pub readyAnchor : ℕ → ℕ
 readyAnchor p = cond (leb p maxPriorities) (readyNode p) 0
 
@@ -20,6 +22,29 @@ waitAnchor k o = cond (leb k Layout.pools && leb o maxObjects) (waitNode k o) 0
 
 abbrev pub mailAnchor : ℕ → ℕ
 mailAnchor m = cond (leb m maxObjects) (mailNode m) 0
+
+abbrev pub freeAnchor : ℕ → ℕ
+freeAnchor p = cond (leb p maxPools) (freeNode p) 0
+
+-- the node of a block
+abbrev pub nodeOfBlock : ℕ → ℕ → ℕ
+nodeOfBlock p k = cond (leb 1 p && (leb p maxPools && leb k maxBlocks)) (blockNode p k) 0
+
+-- ---- rings of any sort
+
+-- id i goes last behind an anchor
+unfoldable pub linked : Rings → ℕ → ℕ → List ℕ → List ℕ
+linked r a i b = splice (linksOf r .at) (pushed a i (words (linksOf r) b)) b
+
+-- it leaves its queue
+unfoldable pub unlinked : Rings → ℕ → List ℕ → List ℕ
+unlinked r i b = splice (linksOf r .at) (left i (words (linksOf r) b)) b
+
+-- the queue of an anchor is made empty
+unfoldable pub emptied : Rings → ℕ → List ℕ → List ℕ
+emptied r a b = splice (linksOf r .at) (cleared a (words (linksOf r) b)) b
+
+-- ---- the queues of tasks
 
 -- The word of nonempty ready queues with the mark of an anchor as x says; an anchor that is no ready queue's has none.
 abbrev pub noted : ℕ → Bool → ℕ → ℕ
@@ -33,29 +58,9 @@ abbrev pub inhabited : List ℕ → ℕ → Bool
 inhabited nx a = not (eqb (firstOf nx a) 0)
 
 -- task t goes last in the queue of an anchor, which has a task then
-unfoldable pub relinked : ℕ → ℕ → List ℕ → List ℕ
-relinked a t b = splice (links .at) (pushed a t (words links b)) b
-
 unfoldable pub queued : ℕ → ℕ → List ℕ → List ℕ
-queued a t b = annotated a true (relinked a t b)
+queued a t b = annotated a true (linked Tasks a t b)
 
 -- it leaves its queue; if it was the last one there, the node behind it is the anchor, whose queue may be empty then
-unfoldable pub unlinked : ℕ → List ℕ → List ℕ
-unlinked t b = splice (links .at) (left t (words links b)) b
-
 unfoldable pub unqueued : ℕ → List ℕ → List ℕ
-unqueued t b = annotated (entry next b t) (inhabited (words next (unlinked t b)) (entry next b t)) (unlinked t b)
-
--- the queue of an anchor is made empty
-unfoldable pub clearedQueue : ℕ → List ℕ → List ℕ
-clearedQueue a b = splice (links .at) (cleared a (words links b)) b
-
--- the same for message j, and for an anchor of mailboxes
-unfoldable pub mailed : ℕ → ℕ → List ℕ → List ℕ
-mailed a j b = splice (mailLinks .at) (pushed a j (words mailLinks b)) b
-
-unfoldable pub unmailed : ℕ → List ℕ → List ℕ
-unmailed j b = splice (mailLinks .at) (left j (words mailLinks b)) b
-
-unfoldable pub clearedMail : ℕ → List ℕ → List ℕ
-clearedMail a b = splice (mailLinks .at) (cleared a (words mailLinks b)) b
+unqueued t b = annotated (entry next b t) (inhabited (words next (unlinked Tasks t b)) (entry next b t)) (unlinked Tasks t b)

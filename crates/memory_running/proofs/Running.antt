@@ -9,21 +9,21 @@ use Rattle.rules.specs.Ids.{ids, first}
 use Rattle.rules.specs.Places.{readyAt, tabulate}
 use Rattle.rules.specs.View.{best, reported, running}
 use Rattle.memory_rings.specs.Links.{firstOf}
-use Rattle.memory_rings.specs.Rings.{lineOf, Linked}
 use Rattle.memory_rings.proofs.Laws.{first-law}
+use Rattle.memory_columns.specs.declared.Rings.the-variants.{Tasks}
 use Rattle.memory_columns.specs.Layout as Layout
 use Rattle.memory_columns.specs.Layout.{maxPriorities, words, entry}
 use Rattle.memory_queues.specs.Moves.{readyAnchor}
-use Rattle.memory_picture.specs.Picture.{tasksShown, storeShown, handlersShown, bodyShown, anchor, lineShown, viewShown, nonemptyShown, UsedByTasks, ready-queue, Accepted}
+use Rattle.memory_picture.specs.Picture.{tasksShown, storeShown, handlersShown, bodyShown, anchor, lineShown, viewShown, nonemptyShown, WholeRings, Accepted}
+use Rattle.memory_picture.proofs.Done.{used-at}
 use Rattle.memory_running.specs.Running.{headAt, readyMarks, bestOf, runningOf}
 use Rattle.memory_running.proofs.Lowest.{HeadOf, head-of, marks-mask, lowest-first}
 
 -- the head of a ready queue, where the links are whole
-module _ (b msgs : List ℕ) (W : Linked (tasksShown b) (UsedByTasks (storeShown b msgs)) (words Layout.next b) (words Layout.prev b) (lineOf (tasksShown b) (words Layout.next b)))
-    (few : entry Layout.system b Layout.priorities ≤ maxPriorities) where
+module _ (b msgs : List ℕ) (W : WholeRings b msgs Tasks) (few : entry Layout.system b Layout.priorities ≤ maxPriorities) where
   head : (p : ℕ) → 1 ≤ p → p ≤ entry Layout.system b Layout.priorities → HeadOf (headAt b p) (lineShown b (readyAt p))
   unfolding storeShown lineShown anchor
-  head p h k = head-of (tasksShown b) (headAt b p) (lineShown b (readyAt p)) (ap (firstOf (words Layout.next b)) at ∙ first-law W (anchor (readyAt p)) (ready-queue p (h, k))) (W .ring (anchor (readyAt p)) (ready-queue p (h, k)) .ids)
+  head p h k = head-of (tasksShown b) (headAt b p) (lineShown b (readyAt p)) (ap (firstOf (words Layout.next b)) at ∙ first-law W (anchor (readyAt p)) (used-at (readyAt p) (h, k))) (W .ring (anchor (readyAt p)) (used-at (readyAt p) (h, k)) .ids)
     where
       at : readyAnchor p ≡ anchor (readyAt p)
       at = rw (le-leb p maxPriorities (omega (arith, few)))
@@ -35,7 +35,7 @@ module _ (b msgs : List ℕ) (W : Linked (tasksShown b) (UsedByTasks (storeShown
 
 pub best-law : (b msgs : List ℕ) → Accepted b msgs → bestOf b ≡ first (best (viewShown b msgs))
 unfolding bestOf nonemptyShown viewShown tabulate ids storeShown bodyShown
-best-law b msgs A = rw (A .whole .word) (lowest-first b (λ p. lineShown b (readyAt p)) (entry Layout.system b Layout.priorities) few (head b msgs (A .whole .tasks) few))
+best-law b msgs A = rw (A .whole .word) (lowest-first b (λ p. lineShown b (readyAt p)) (entry Layout.system b Layout.priorities) few (head b msgs (A .whole .rings Tasks) few))
   where
     few : entry Layout.system b Layout.priorities ≤ maxPriorities
     few = A .sound .body .sizes .priorities .1

@@ -4,6 +4,7 @@ use memory_columns::DEPTH;
 use memory_columns::INTERRUPTED;
 use memory_columns::MAX_PRIORITIES;
 use memory_columns::PRIORITIES;
+use memory_columns::Rings;
 use memory_columns::STATE_WORDS;
 use memory_columns::at_most;
 use memory_columns::handling;
@@ -35,7 +36,7 @@ fn marks_of(words: &[u32; STATE_WORDS], n: u32) -> u32
     let mut p: u32 = 1;
     let mut left = n;
     while 0 < left {
-        if first(words, ready_anchor(p)) != 0 {
+        if first(words, Rings::Tasks, ready_anchor(p)) != 0 {
             marks = marks | (1 << (p - 1));
         }
         p += 1;
@@ -60,7 +61,7 @@ pub fn best_task(words: &[u32; STATE_WORDS]) -> u32
     if p == 0 {
         0
     } else {
-        first(words, ready_anchor(p))
+        first(words, Rings::Tasks, ready_anchor(p))
     }
 }
 

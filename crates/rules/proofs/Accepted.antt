@@ -9,13 +9,13 @@ use Prim.Native.Nat.{ℕ, zero, suc, _+_, _-_, _≤_, _<_, _^_}
 use native.Mathlib.Nat.{le-antisymm}
 use native.Mathlib.Omega.{arith}
 use lib.Dec.{leb, lit<}
-use lib.ListN.{length, getD, length-map, length-replicate}
+use lib.ListN.{length, getD, replicate, length-map, length-replicate}
 use borrow.Author.Tests.{leb-true}
 use Rattle.rules.specs.Ids.{of, In, once, times}
 use Rattle.rules.specs.Setup.{Fault, S1, S2, S3, S4, Read, got, refused, and-then, wordAt, Range, to, within, readWord, Section, priorities, sections, readEntry, readEntries, readSection, readSections, Entry, Setup, setupOf, readSetup, at-end, setup, taskEntry, wordOf}
 pub use Rattle.rules.specs.Setup.{GoodSetup}
 use Rattle.rules.specs.State.{dormant, nobody}
-use Rattle.rules.specs.Places.{Place, readyAt, waiters, mail, belongs, tabulate}
+use Rattle.rules.specs.Places.{Place, readyAt, waiters, mail, freeIn, belongs, tabulate}
 use Rattle.rules.specs.Sound.{SoundTask, SoundBody, AllUnserved, Sound}
 use Rattle.rules.specs.Kernel.{idleTask, idle}
 use Rattle.rules.proofs.Ids.{Each, of-replicate}
@@ -190,6 +190,13 @@ idle-state [] i = refl
 idle-state (x ∷ l) zero = refl
 idle-state (x ∷ l) (suc i) = idle-state l i
 
+all-out : (l : List ℕ) (p k : ℕ) → of (of (map (λ n. replicate n false) l) p []) k false ≡ false
+all-out l p zero = refl
+all-out l zero (suc k) = refl
+all-out [] (suc p) (suc k) = refl
+all-out (n ∷ l) (suc zero) (suc k) = of-replicate n (suc k) false
+all-out (n ∷ l) (suc (suc p)) (suc k) = all-out l (suc p) (suc k)
+
 pub nobody-belongs : (u : Setup) (q : Place) (i : ℕ) → belongs (idle u) q i ≡ false
 unfolding belongs idle
 nobody-belongs u (readyAt p) zero = refl
@@ -197,6 +204,7 @@ nobody-belongs u (readyAt p) (suc i) = rw (idle-state (u .tasks) i)
 nobody-belongs u (waiters k o) zero = refl
 nobody-belongs u (waiters k o) (suc i) = rw (idle-state (u .tasks) i)
 nobody-belongs u (mail m) i = rw (of-replicate {A = Option ℕ} (u .messages) i none)
+nobody-belongs u (freeIn p) i = all-out (u .pools) p i
 
 module _ (u : Setup) (g : GoodSetup u) where
   idle-task : (e : Entry) → In (e .priority) (u .priorities) → SoundTask (idle u .store) (idleTask e)
@@ -228,7 +236,7 @@ module _ (u : Setup) (g : GoodSetup u) where
       semaphores = λ s r. each-of _ (u .semaphores) s 0 (g .counts) r;
       flags = λ f r. each-of _ (u .flags) f 0 (g .patterns) r;
       messages = λ j r. rw (of-replicate {A = Option ℕ} (u .messages) j none) tt;
-      pools = λ p r. each-of (λ l. In (length l) 32) _ p [] (each-map _ _ _ (u .pools) (λ n h. rw (length-replicate n true) h) (g .blocks)) r;
+      pools = λ p r. each-of (λ l. In (length l) 32) _ p [] (each-map _ _ _ (u .pools) (λ n h. rw (length-replicate n false) h) (g .blocks)) r;
       clock = lit< tt;
     };
     tasks = λ i r. each-of (SoundTask (idle u .store)) _ i nobody (each-map _ _ idleTask (u .tasks) idle-task (g .starts)) r;
@@ -240,7 +248,7 @@ module _ (u : Setup) (g : GoodSetup u) where
   idle-unserved zero r = tt
   idle-unserved (suc i) r = rw (idle-state (u .tasks) i) tt
 
-  -- before any task is started: nobody stands in a line
+  -- before any block is freed and any task started: nothing stands in a line
   pub unstarted-sound : Sound (record { body = idle u; lines = tabulate (idle u .store) (λ q. []) })
   unfolding times
   unstarted-sound = record {

@@ -1,25 +1,25 @@
 -- The plain kernel's view after an act, an event, or a start is its view before, after the same on queues: in each queue one that goes
 -- last has the largest number, and the others keep theirs.
 use mathlib.Core.Bool.{Bool, true, false, not, cond, _&&_}
-use mathlib.Core.List.{List, [], _∷_, _++_, append-nil}
+use mathlib.Core.List.{List, [], _∷_, _++_, map, append-nil}
 use mathlib.Core.Option.{none}
 use mathlib.Core.Path.{_≡_, refl, sym, ap, _∙_, subst}
-use Prim.Native.Nat.{ℕ, suc, _<_}
+use Prim.Native.Nat.{ℕ, zero, suc, _<_}
 use native.Mathlib.Omega.{arith}
 use lib.Dec.{eqb}
 use lib.ListN.{length, length-map, length-replicate, replicate}
 use Rattle.rules.specs.Ids.{of, put, ids, In, keep, byNumber}
 use Rattle.rules.specs.State.{Body}
-use Rattle.rules.specs.Places.{Place, Sort, tasks, messages, sameSort, sortAt, Item, item, same, population, many, belongs, Exists, tabulate}
+use Rattle.rules.specs.Places.{Place, Sort, tasks, messages, blocks, sameSort, sortAt, Item, item, same, population, many, belongs, Exists, tabulate}
 use Rattle.rules.specs.Setup.{Setup}
 use Rattle.rules.specs.Events.{Event}
 use Rattle.rules.specs.Acts.{Act, after, Move, stay, leave, last, move}
 use Rattle.rules.specs.View.{line, moved, act, acts}
 use Rattle.rules.specs.Table.{judge}
 use Rattle.rules.specs.Answers.{answer}
-use Rattle.rules.specs.Kernel.{idleTask, idle, starts, fresh, next, served}
+use Rattle.rules.specs.Kernel.{idleTask, idle, begins, fresh, next, served}
 use Rattle.rules.specs.Plain.{Plain, numbersOf, numberOf, queueOf, viewOf, with-count, with-numbers, renumbered, plainAct, plainActs, unstarted, plainFresh, plainNext, plainAnswer}
-use Rattle.rules.proofs.Ids.{of-replicate, length-put, of-put-other, of-put-same, put-any, keep-keep, keep-same, keep-none}
+use Rattle.rules.proofs.Ids.{of-replicate, length-put, of-put-other, of-put-same, of-put-change, put-empty, put-any, keep-keep, keep-same, keep-all, keep-none}
 use Rattle.rules.proofs.Fits.{Fits, fits, population-after, in-range}
 use Rattle.rules.proofs.Lines.{line-tabulate, tabulate-same, exists-after}
 use Rattle.rules.proofs.Accepted.{nobody-belongs}
@@ -35,12 +35,18 @@ pub record Numbers (s : Plain) : Type 0 where
 numbers-count : (c : Body) (n : ℕ) (s : Plain) (t : Sort) → numbersOf (with-count c n s) t ≡ numbersOf s t
 numbers-count c n s tasks = refl
 numbers-count c n s messages = refl
+numbers-count c n s (blocks p) = refl
 
 numbers-with : (s : Plain) (r t : Sort) (i n : ℕ) → numbersOf (with-numbers r (put (numbersOf s r) i n) s) t ≡ cond (sameSort r t) (put (numbersOf s t) i n) (numbersOf s t)
 numbers-with s tasks tasks i n = refl
 numbers-with s tasks messages i n = refl
+numbers-with s tasks (blocks q) i n = refl
 numbers-with s messages tasks i n = refl
 numbers-with s messages messages i n = refl
+numbers-with s messages (blocks q) i n = refl
+numbers-with s (blocks p) tasks i n = refl
+numbers-with s (blocks p) messages i n = refl
+numbers-with s (blocks p) (blocks q) i n = of-put-change (λ l. put l i n) (s .blocks) p q [] (put-empty i n)
 
 -- where nobody goes last all numbers stay
 pub number-body : (c : Body) (s : Plain) (x : Item) → numberOf (with-count c (s .count) s) x ≡ numberOf s x
@@ -111,11 +117,6 @@ numbers-acts [] s h = h
 numbers-acts (a ∷ l) s h = numbers-acts l (plainAct a s) (numbers-act a s h)
 
 -- ---- a queue of the plain kernel after an act is its queue before, after the act's move
-
-keep-all : (l : List ℕ) → keep (λ i. true) l ≡ l
-unfolding keep
-keep-all [] = refl
-keep-all (x ∷ l) = ap (λ (m : List ℕ). x ∷ m) (keep-all l)
 
 module _ (c : Body) (s : Plain) (h : Numbers s) (few : (q : Place) → many c q ≡ many (s .body) q) where
   -- i belonged to the queue before
@@ -202,13 +203,29 @@ numbers-unstarted u = record { below = λ x. zeroes (x .sort) (x .id); lengths =
     none-yet : (n i : ℕ) → of (replicate n 0) i 0 < 1
     none-yet n i = omega (arith, of-replicate {A = ℕ} n i 0)
 
+    none-in : (l : List ℕ) (p i : ℕ) → of (of (map (λ n. replicate n 0) l) p []) i 0 < 1
+    none-in l zero zero = omega arith
+    none-in l zero (suc i) = omega arith
+    none-in [] (suc p) zero = omega arith
+    none-in [] (suc p) (suc i) = omega arith
+    none-in (n ∷ l) (suc zero) i = none-yet n i
+    none-in (n ∷ l) (suc (suc p)) i = none-in l (suc p) i
+
     zeroes : (t : Sort) (i : ℕ) → of (numbersOf (unstarted u) t) i 0 < 1
     zeroes tasks i = none-yet (length (u .tasks)) i
     zeroes messages i = none-yet (u .messages) i
+    zeroes (blocks p) i = none-in (u .pools) p i
+
+    as-many : (l : List ℕ) (p : ℕ) → length {A = ℕ} (of (map (λ n. replicate n 0) l) p []) ≡ length (of (map (λ n. replicate n false) l) p [])
+    as-many l zero = refl
+    as-many [] (suc p) = refl
+    as-many (n ∷ l) (suc zero) = length-replicate n 0 ∙ sym (length-replicate n false)
+    as-many (n ∷ l) (suc (suc p)) = as-many l (suc p)
 
     lengths : (t : Sort) → length (numbersOf (unstarted u) t) ≡ population (idle u) t
     lengths tasks = length-replicate (length (u .tasks)) 0 ∙ sym (length-map (u .tasks) idleTask)
     lengths messages = length-replicate (u .messages) 0 ∙ sym (length-replicate (u .messages) none)
+    lengths (blocks p) = as-many (u .pools) p
 
 pub queue-unstarted : (u : Setup) (q : Place) → queueOf (unstarted u) q ≡ []
 unfolding queueOf unstarted byNumber
@@ -217,12 +234,12 @@ queue-unstarted u q = ap (byNumber (λ i. numberOf (unstarted u) (item q i))) (k
 pub fresh-shows : (u : Setup) → viewOf (plainFresh u) ≡ fresh u
 unfolding plainFresh fresh viewOf unstarted
 fresh-shows u =
-    acts-show (starts 1 (u .tasks)) (unstarted u) (numbers-unstarted u)
-    ∙ ap (acts (starts 1 (u .tasks))) (λ z. record { body = idle u; lines = tabulate-same (idle u .store) (queueOf (unstarted u)) (λ q. []) (λ q e. queue-unstarted u q) z })
+    acts-show (begins u) (unstarted u) (numbers-unstarted u)
+    ∙ ap (acts (begins u)) (λ z. record { body = idle u; lines = tabulate-same (idle u .store) (queueOf (unstarted u)) (λ q. []) (λ q e. queue-unstarted u q) z })
 
 pub numbers-fresh : (u : Setup) → Numbers (plainFresh u)
 unfolding plainFresh
-numbers-fresh u = numbers-acts (starts 1 (u .tasks)) (unstarted u) (numbers-unstarted u)
+numbers-fresh u = numbers-acts (begins u) (unstarted u) (numbers-unstarted u)
 
 -- ---- an event
 

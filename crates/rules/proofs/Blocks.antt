@@ -1,40 +1,41 @@
 -- The blocks' accounts: at each event the grants less the returns of a block are the change of its mark. Only get_blk, pget_blk and
 -- rel_blk touch a mark or hand a block over; every other event is still. Assumes nothing.
 use mathlib.Core.Bool.{Bool, true, false, not, cond, _&&_, _||_, and-false, false≢true}
-use mathlib.Core.List.{List, [], _∷_, _++_, map}
+use mathlib.Core.List.{List, [], _∷_, _++_, map, append-nil}
 use mathlib.Core.Logic.{_⊎_, inl, inr, _≢_}
 use mathlib.Core.Option.{Option, none, some}
 use mathlib.Core.Path.{_≡_, refl, sym, ap, _∙_}
-use Prim.Native.Nat.{ℕ, zero, suc, _+_, _-_, _≤_, _<_}
+use Prim.Native.Nat.{ℕ, zero, suc, _+_, _<_}
 use native.Mathlib.Nat.{add-zero, zero-add}
 use native.Mathlib.Omega.{arith}
 use lib.Dec.{eqb}
 use lib.IntN.{ℤ, pos}
 use lib.ListN.{length, getD, set}
 use borrow.Author.Tests.{eqb-true, not-false}
-use Rattle.rules.specs.Ids.{of, put, ids, In, once, times}
+use Rattle.rules.specs.Ids.{of, put, ids, In, keep, once, times}
 use Rattle.rules.specs.Codes.{Code, OK, E-TMOUT, E-RLWAI, H-POLL, number}
 use Rattle.rules.specs.State.{Kind, semaphore, flag, mailbox, pool, Wait, asleep, timed, on, State, dormant, ready, suspended, waiting, waiting-suspended, Task, Body, task, nobody, objects, waitOf, wish, isDormant, isWaiting, isFreed, sleeps}
-use Rattle.rules.specs.Places.{waiters, belongs, sameKind, waitsOn, awaits}
+use Rattle.rules.specs.Places.{waiters, freeIn, blocks, sameSort, aTask, belongs, sameKind, waitsOn, awaits}
 use Rattle.rules.specs.Events.{Event, tick, enter, exit, call, nat, outside}
-use Rattle.rules.specs.Acts.{Act, start, retire, rotate, regrade, wait, release, suspend, resume, wakeups, count, pattern, post, receive, mark, elapse, nest, change, started, retired, freed, releasedTask, halted, resumed, older, with-state, with-priority, with-wakeups, with-cell, after, afters}
-use Rattle.rules.specs.View.{View, line}
-use Rattle.rules.specs.Verdicts.{Verdict, refuse}
+use Rattle.rules.specs.Acts.{Act, start, retire, rotate, regrade, wait, release, suspend, resume, wakeups, count, pattern, post, receive, mark, elapse, nest, change, started, retired, freed, releasedTask, halted, resumed, older, with-state, with-priority, with-wakeups, with-cell, after, afters, Move, stay, leave, last, move, releasedMove, haltedMove, resumedMove, regradedMove}
+use Rattle.rules.specs.View.{View, line, moved, act, acts}
+use Rattle.rules.specs.Verdicts.{Verdict, refuse, gives, done}
 use Rattle.rules.specs.Tasks.{stateOf, starting, sta-tsk, ext-tsk, ter-tsk, chg-pri, rot-rdq, rel-wai, sus-tsk, rsm-tsk, take-wakeup, slp-tsk, wai-tsk, waking, wup-tsk, can-wup, get-tid, tsk-sts}
-use Rattle.rules.specs.Objects.{waits-on, to-first, obj-sts, met, left, serve-flag, sig-sem, take-sem, set-flg, clr-flg, take-flg, snd-msg, take-msg, blocksOf, lowest, take-blk, rel-blk}
+use Rattle.rules.specs.Objects.{waits-on, to-first, obj-sts, met, left, serve-flag, sig-sem, take-sem, set-flg, clr-flg, take-flg, snd-msg, take-msg, blocksOf, take-blk, rel-blk}
 use Rattle.rules.specs.Time.{get-tim, ending, endings, timeout, ticked}
 use Rattle.rules.specs.Handling.{entered, exited}
 use Rattle.rules.specs.Rows.{staTsk, extTsk, terTsk, chgPri, rotRdq, relWai, susTsk, rsmTsk, slpTsk, waiTsk, wupTsk, canWup, sigSem, waiSem, preqSem, setFlg, clrFlg, waiFlg, polFlg, sndMsg, rcvMsg, prcvMsg, getBlk, pgetBlk, relBlk, getTid, tskSts, semSts, flgSts, mbxSts, mplSts, getTim}
 use Rattle.rules.specs.Table.{caller, handles, table, judge}
 use Rattle.rules.specs.Sound.{Sound}
-use Rattle.rules.specs.Answers.{Answer, answer}
+use Rattle.rules.specs.Answers.{answer}
 use Rattle.rules.specs.Kernel.{next, served}
 use Rattle.rules.specs.Blocks.{isFree, is, ok, taken, handed, handedCount, returned}
-use Rattle.rules.proofs.Ids.{of-put-same, of-put-other, tested, kept-passes, times-head, times-tail}
+use Rattle.rules.proofs.Ids.{of-put-same, of-put-other, tested, kept-passes, times-head, times-tail, keep-all}
 use Rattle.rules.proofs.States.{waits-by, waiting-tells, dormant-tells, halted-same, resumed-same, older-same}
 use Rattle.rules.proofs.Cells.{change-each, map-each, body-acts}
-use Rattle.rules.proofs.Judge.{_⊗_, bad, bad-not-ok, AllRows, by-check, by-first, by-count, by-call, OnActs, on-acts, acts-check, acts-choose, acts-first, acts-count, acts-wait}
-use Rattle.rules.proofs.Queues.{stands-belongs, first-belongs}
+use Rattle.rules.proofs.Judge.{_⊗_, bad, bad-not-ok, AllRows, by-check, by-first, by-call, OnActs, on-acts, acts-check, acts-choose, acts-first, acts-count, acts-wait}
+use Rattle.rules.proofs.Lines.{exists-before, line-act}
+use Rattle.rules.proofs.Queues.{body-act, stands-belongs, first-belongs}
 use Rattle.rules.proofs.Waits.{in-by, neither, waits-other}
 
 -- ---- no block is handed to a task
@@ -167,6 +168,82 @@ act-pools (mark p k t) b d = absurd d
 act-pools elapse b d = refl
 act-pools (nest h) b d = refl
 
+-- ---- the lines of free blocks move by marks alone
+
+-- whoever moves is no block
+abbrev Elsewhere : Move → Type 0
+Elsewhere stay = Unit {0}
+Elsewhere (leave x) = (p : ℕ) → sameSort (x .sort) (blocks p) ≡ false
+Elsewhere (last x) = (p : ℕ) → sameSort (x .sort) (blocks p) ≡ false
+
+elsewhere-moved : (c : Body) (m : Move) (p : ℕ) (l : List ℕ) → Elsewhere m → moved c m (freeIn p) l ≡ l
+unfolding moved keep
+elsewhere-moved c stay p l h = refl
+elsewhere-moved c (leave x) p l h = rw (h p) (keep-all l)
+elsewhere-moved c (last x) p l h = rw (h p) (append-nil _ ∙ keep-all l)
+
+released-elsewhere : (s : State) (i : ℕ) → Elsewhere (releasedMove s (aTask i))
+released-elsewhere dormant i = tt
+released-elsewhere ready i = tt
+released-elsewhere suspended i = tt
+released-elsewhere (waiting w) i = λ p. refl
+released-elsewhere (waiting-suspended w) i = λ p. refl
+
+halted-elsewhere : (s : State) (i : ℕ) → Elsewhere (haltedMove s (aTask i))
+halted-elsewhere dormant i = tt
+halted-elsewhere ready i = λ p. refl
+halted-elsewhere suspended i = tt
+halted-elsewhere (waiting w) i = tt
+halted-elsewhere (waiting-suspended w) i = tt
+
+resumed-elsewhere : (s : State) (i : ℕ) → Elsewhere (resumedMove s (aTask i))
+resumed-elsewhere dormant i = tt
+resumed-elsewhere ready i = tt
+resumed-elsewhere suspended i = λ p. refl
+resumed-elsewhere (waiting w) i = tt
+resumed-elsewhere (waiting-suspended w) i = tt
+
+regraded-elsewhere : (s : State) (i : ℕ) → Elsewhere (regradedMove s (aTask i))
+regraded-elsewhere dormant i = tt
+regraded-elsewhere ready i = λ p. refl
+regraded-elsewhere suspended i = tt
+regraded-elsewhere (waiting w) i = tt
+regraded-elsewhere (waiting-suspended w) i = tt
+
+act-elsewhere : (a : Act) (b : Body) → Still-act b a → (c : Body) → Elsewhere (move c a)
+unfolding move
+act-elsewhere (start j) b d c = λ p. refl
+act-elsewhere (retire j) b d c = λ p. refl
+act-elsewhere (rotate j) b d c = λ p. refl
+act-elsewhere (regrade j n) b d c = regraded-elsewhere (task c j .state) j
+act-elsewhere (wait j x) b d c = λ p. refl
+act-elsewhere (release j x w) b d c = released-elsewhere (task c j .state) j
+act-elsewhere (suspend j) b d c = halted-elsewhere (task c j .state) j
+act-elsewhere (resume j) b d c = resumed-elsewhere (task c j .state) j
+act-elsewhere (wakeups j n) b d c = tt
+act-elsewhere (count s n) b d c = tt
+act-elsewhere (pattern f n) b d c = tt
+act-elsewhere (post j m) b d c = λ p. refl
+act-elsewhere (receive j) b d c = λ p. refl
+act-elsewhere (mark p k t) b d c = absurd d
+act-elsewhere elapse b d c = tt
+act-elsewhere (nest h) b d c = tt
+
+-- the acts leave these lines alone
+abbrev pub Unmoved : List Act → Type 0
+Unmoved l = (v : View) (p : ℕ) → In p (length (v .body .store .pools)) → line (acts l v) (freeIn p) ≡ line v (freeIn p)
+
+act-unmoved : (a : Act) → ((c : Body) → Elsewhere (move c a)) → (v : View) (p : ℕ) → In p (length (v .body .store .pools)) → line (act a v) (freeIn p) ≡ line v (freeIn p)
+act-unmoved a h v p r = line-act a v (freeIn p) r ∙ elsewhere-moved _ (move (v .body) a) p (line v (freeIn p)) (h (v .body))
+
+pub start-unmoved : (i : ℕ) → Unmoved (start i ∷ [])
+unfolding acts move
+start-unmoved i v p r = act-unmoved (start i) (λ b q. refl) v p r
+
+pub release-unmoved : (i : ℕ) (c : Code) (w : ℕ) → Unmoved (release i c w ∷ [])
+unfolding acts move
+release-unmoved i c w v p r = act-unmoved (release i c w) (λ b. released-elsewhere (task b i .state) i) v p r
+
 -- ---- a list of acts: releases of tasks that wait on no pool, a pattern set, a tick gone by
 
 abbrev Pools-kept : Body → Body → Type 0
@@ -200,22 +277,36 @@ unfolding afters
 asides-act b c [] g k = (k, refl)
 asides-act b c (a ∷ l) g k = let r = asides-act b (after a c) l (g .1) (aside-act b c a (g .0) k) in (r .0, r .1 ∙ aside-pools b c a (g .0))
 
+aside-elsewhere : (b : Body) (a : Act) → Aside b a → (c : Body) → Elsewhere (move c a)
+unfolding move
+aside-elsewhere b a (frees j d w n) c = released-elsewhere (task c j .state) j
+aside-elsewhere b a (sets f n) c = tt
+aside-elsewhere b a elapses c = tt
+
+asides-unmoved : (b : Body) (l : List Act) → Asides b l → Unmoved l
+unfolding acts
+asides-unmoved b [] g v p r = refl
+asides-unmoved b (a ∷ l) g v p r =
+    asides-unmoved b l (g .1) (act a v) p (rw (body-act a v) (exists-before a (v .body) (freeIn p) r)) ∙ act-unmoved a (aside-elsewhere b a (g .0)) v p r
+
 -- ---- a verdict that hands nothing over and leaves the pools alone
 
 pub record Still (b : Body) (l : List Act) : Type 0 where
   pub pools : afters l b .store .pools ≡ b .store .pools
   pub empty : (i : ℕ) → Empty-handed (task b i) (task (afters l b) i)
+  pub unmoved : Unmoved l
 
 still-none : (b : Body) → Still b []
-unfolding afters
-still-none b = record { pools = refl; empty = λ i. empty-same (task b i) }
+unfolding afters acts
+still-none b = record { pools = refl; empty = λ i. empty-same (task b i); unmoved = λ v p r. refl }
 
 still-one : (b : Body) (a : Act) → Still-act b a → Still b (a ∷ [])
-unfolding afters
-still-one b a g = record { pools = act-pools a b g; empty = act-empty a b g }
+unfolding afters acts
+still-one b a g = record { pools = act-pools a b g; empty = act-empty a b g; unmoved = λ v p r. act-unmoved a (act-elsewhere a b g) v p r }
 
 still-list : (b : Body) (l : List Act) → Asides b l → Still b l
-still-list b l g = let r = asides-act b b l g (λ i p. refl) in record { pools = r .1; empty = λ i. pools-empty (task b i) (task (afters l b) i) (r .0 i) }
+still-list b l g = let r = asides-act b b l g (λ i p. refl) in
+    record { pools = r .1; empty = λ i. pools-empty (task b i) (task (afters l b) i) (r .0 i); unmoved = asides-unmoved b l g }
 
 -- the same as a property of verdicts
 abbrev StillVerdict : Body → Verdict → Type 0
@@ -369,52 +460,72 @@ hand-balance b i q j e p k =
     (handed-put p k (b .tasks) i (releasedTask OK j (task b i)) (tested (λ t. awaits (t .state) pool q) (b .tasks) i nobody refl e) ∙ ap once (handed-over (task b i) q j e p k))
     ∙ ap (λ (n : ℕ). once (not (isFree b p k)) + n) (zero-add _)
 
+-- ---- what an event deals out: nothing; a block that is granted, returned to the free ones, or handed over to a waiter
+
+-- block j of pool q is out
+pub record OutBlock (b : Body) (q j : ℕ) : Type 0 where
+  pub pool : In q (length (b .store .pools))
+  pub block : In j (length (of (b .store .pools) q []))
+  pub out : isFree b q j ≡ false
+
+module _ (v : View) (e : Event) where
+  -- the answer says that no block is taken; that this one is; the same of a return
+  abbrev pub NoneTaken : Verdict → Type 0
+  NoneTaken r = (p k : ℕ) → taken e (number (r .code)) (r .w1) p k ≡ false
+
+  abbrev pub Taken : Verdict → ℕ → ℕ → Type 0
+  Taken r q j = (p k : ℕ) → taken e (number (r .code)) (r .w1) p k ≡ (eqb q p && eqb j k)
+
+  abbrev pub NoneReturned : Verdict → Type 0
+  NoneReturned r = (p k : ℕ) → returned e (number (r .code)) p k ≡ false
+
+  abbrev pub Returned : Verdict → ℕ → ℕ → Type 0
+  Returned r q j = (p k : ℕ) → returned e (number (r .code)) p k ≡ (eqb q p && eqb j k)
+
+  pub data Deal : Verdict → Type 0 where
+    nothing : (r : Verdict) → NoneTaken r → NoneReturned r → Still (v .body) (r .acts) → Deal r
+    grant : (q j : ℕ) (m : List ℕ) → Taken (gives j 0 (mark q j false ∷ [])) q j → NoneReturned (gives j 0 (mark q j false ∷ []))
+        → In q (length (v .body .store .pools)) → line v (freeIn q) ≡ j ∷ m → Deal (gives j 0 (mark q j false ∷ []))
+    free : (q j : ℕ) → NoneTaken (done (mark q j true ∷ [])) → Returned (done (mark q j true ∷ [])) q j → OutBlock (v .body) q j → Deal (done (mark q j true ∷ []))
+    hand : (q j i : ℕ) → NoneTaken (done (release i OK j ∷ [])) → Returned (done (release i OK j ∷ [])) q j → OutBlock (v .body) q j
+        → awaits (task (v .body) i .state) pool q ≡ true → Deal (done (release i OK j ∷ []))
+
 -- ---- every call
 
--- the lowest free block is free
-lowest-free : (k j : ℕ) (l : List Bool) → lowest k l ≡ suc j → k ≢ 0 → (k ≤ suc j) × (getD l (suc j - k) true ≡ true)
-lowest-free k j [] e z = absurd (omega arith)
-lowest-free k j (true ∷ l) e z = (omega arith, let d : suc j - k ≡ 0 = omega arith in rw d)
-lowest-free k j (false ∷ l) e z =
-    let r = lowest-free (suc k) j l e (λ d. omega arith) in
-    let d : suc j - k ≡ suc (suc j - suc k) = omega (arith, r .0) in (omega (arith, r .0), rw d (r .1))
-
-lowest-block : (j : ℕ) (l : List Bool) → lowest 1 l ≡ suc j → getD l j true ≡ true
-lowest-block j l e = let d : suc j - 1 ≡ j = omega arith in rw d at (lowest-free 1 j l e (λ w. omega arith) .1)
-
-module _ (v : View) (s : Sound v) (x a y z : ℤ) (p k : ℕ) (rp : In p (length (v .body .store .pools))) (rk : In k (length (of (v .body .store .pools) p []))) where
-  -- the account of the block at call n
-  data Books (n : ℤ) (r : Verdict) : Type 0 where
-    books : Balance (v .body) (afters (r .acts) (v .body)) (taken (call x n a y z) (number (r .code)) (r .w1) p k) (returned (call x n a y z) (number (r .code)) p k) p k → Books n r
+module _ (v : View) (s : Sound v) (x a y z : ℤ) where
+  -- at call n
+  abbrev Deals : ℤ → Verdict → Type 0
+  Deals n r = Deal v (call x n a y z) r
 
   -- a code that is not 0 takes nothing and returns nothing
-  no-way : (n : ℤ) (c : Code) → bad c ≡ true → Books n (refuse c)
+  no-way : (n : ℤ) (c : Code) → bad c ≡ true → Deals n (refuse c)
   unfolding ok
-  no-way n c e = books (rw (bad-not-ok c e, and-false (is n 23 || is n 24), and-false (is n 25)) (still-balance (v .body) [] (still-none (v .body)) p k))
+  no-way n c e = nothing (refuse c) (λ p k. rw (bad-not-ok c e) (and-false (is n 23 || is n 24))) (λ p k. rw (bad-not-ok c e) (and-false (is n 25))) (still-none (v .body))
 
-  quiet : {n : ℤ} {r : Verdict} → is n 23 ≡ false → is n 24 ≡ false → is n 25 ≡ false → StillVerdict (v .body) r → Books n r
-  quiet {r} c d e (on-acts g) = books (rw (c, d, e) (still-balance (v .body) (r .acts) g p k))
+  quiet : {n : ℤ} {r : Verdict} → is n 23 ≡ false → is n 24 ≡ false → is n 25 ≡ false → StillVerdict (v .body) r → Deals n r
+  quiet {r} c d e (on-acts g) = nothing r (λ p k. rw (c, d)) (λ p k. rw e) g
 
   -- a call that waits takes nothing and returns nothing
-  waits-books : (n : ℤ) (me : ℕ) (q : Kind) (o : ℤ) → is n 25 ≡ false → Books n (waits-on me q o)
-  unfolding ok number
-  waits-books n me q o e = books (rw (e, and-false) (still-balance (v .body) _ (still-one (v .body) (wait me (on q (nat o) 0 0)) tt) p k))
+  waits-deal : {n : ℤ} (me : ℕ) (q : Kind) (o : ℤ) → Deals n (waits-on me q o)
+  unfolding number
+  waits-deal {n} me q o = nothing (waits-on me q o) (λ p k. and-false (is n 23 || is n 24)) (λ p k. and-false (is n 25)) (still-one (v .body) (wait me (on q (nat o) 0 0)) tt)
 
-  -- get_blk and pget_blk
-  takes : (n : ℤ) (other : Verdict) → (is n 23 || is n 24) ≡ true → is n 25 ≡ false → Books n other → Books n (take-blk v a other)
-  unfolding take-blk afters ok number
-  takes n other c d h = by-count Books no-way (λ e. h) (λ j e. books (rw (c, d) (mark-balance (v .body) (nat a) (suc j) true (lowest-block j (blocksOf v a) e) p k rp rk)))
+  -- get_blk and pget_blk: the first of the free ones
+  takes : {n : ℤ} {other : Verdict} → (is n 23 || is n 24) ≡ true → is n 25 ≡ false → outside a (objects (v .body .store) pool) ≡ false → Deals n other → Deals n (take-blk v a other)
+  unfolding take-blk number
+  takes c d o h = by-first Deals no-way (λ e. h) (λ j m e. grant (nat a) j m (λ p k. rw c) (λ p k. rw d) (in-by a _ o) e)
 
   -- rel_blk: to the first waiter, else free
-  gives-back : outside a (objects (v .body .store) pool) ≡ false → Books (pos 25) (rel-blk v a y)
-  unfolding rel-blk to-first afters ok number bad
+  gives-back : outside a (objects (v .body .store) pool) ≡ false → Deals (pos 25) (rel-blk v a y)
+  unfolding rel-blk to-first number bad
   gives-back o =
-      by-check Books no-way _ refl (λ e. by-first Books no-way
-      (λ w. books (mark-balance (v .body) (nat a) (nat y) false (neither (outside y (length (blocksOf v a))) (of (blocksOf v a) (nat y) true) e .1) p k rp rk))
-      (λ i m w. books (hand-balance (v .body) i (nat a) (nat y) (waiter-waits v s pool (nat a) (in-by a _ o) i m w) p k)))
+      by-check Deals no-way _ refl (λ e. let n = neither (outside y (length (blocksOf v a))) (of (blocksOf v a) (nat y) true) e in
+      let b : OutBlock (v .body) (nat a) (nat y) = record { pool = in-by a _ o; block = in-by y _ (n .0); out = n .1 } in
+      by-first Deals no-way (λ w. free (nat a) (nat y) (λ p k. refl) (λ p k. refl) b)
+      (λ i m w. hand (nat a) (nat y) i (λ p k. refl) (λ p k. refl) b (waiter-waits v s pool (nat a) (in-by a _ o) i m w)))
 
   module _ (h : Bool) (me : ℕ) where
-    rows : AllRows Books v h me 1 (table v me a y z)
+    rows : AllRows Deals v h me 1 (table v me a y z)
     unfolding table staTsk extTsk terTsk chgPri rotRdq relWai susTsk rsmTsk slpTsk waiTsk wupTsk canWup sigSem waiSem preqSem setFlg clrFlg waiFlg polFlg sndMsg rcvMsg prcvMsg getBlk pgetBlk relBlk getTid tskSts semSts flgSts mbxSts mplSts getTim starting sta-tsk ext-tsk ter-tsk chg-pri rot-rdq rel-wai sus-tsk rsm-tsk take-wakeup slp-tsk wai-tsk waking wup-tsk can-wup get-tid tsk-sts obj-sts sig-sem take-sem clr-flg take-flg snd-msg take-msg get-tim bad ok number
     rows =
         (λ t. quiet refl refl refl (search calm depth 9))
@@ -439,8 +550,8 @@ module _ (v : View) (s : Sound v) (x a y z : ℤ) (p k : ℕ) (rp : In p (length
         ⊗ (λ t. quiet refl refl refl (acts-check _ (still-none _) (λ e. still-to-first v s mailbox a (nat y) _ refl (t .words .0) (search calm depth 9))))
         ⊗ (λ t. quiet refl refl refl (search calm depth 9))
         ⊗ (λ t. quiet refl refl refl (search calm depth 9))
-        ⊗ (λ t. takes (pos 23) _ refl refl (waits-books (pos 23) me pool a refl))
-        ⊗ (λ t. takes (pos 24) _ refl refl (no-way (pos 24) H-POLL refl))
+        ⊗ (λ t. takes refl refl (t .words .0) (waits-deal me pool a))
+        ⊗ (λ t. takes refl refl (t .words .0) (no-way (pos 24) H-POLL refl))
         ⊗ (λ t. gives-back (t .words .0))
         ⊗ (λ t. quiet refl refl refl (search calm depth 9))
         ⊗ (λ t. quiet refl refl refl (search calm depth 9))
@@ -461,13 +572,33 @@ exit-still : (v : View) → StillVerdict (v .body) (exited v)
 unfolding exited
 exit-still v = search calm depth 9
 
+pub event-deal : (v : View) → Sound v → (e : Event) → Deal v e (judge v e)
+unfolding judge ticked
+event-deal v s tick = nothing _ (λ p k. refl) (λ p k. refl) (tick-still (v .body))
+event-deal v s enter = elim (enter-still v) [ on-acts g ↦ nothing _ (λ p k. refl) (λ p k. refl) g ]
+event-deal v s exit = elim (exit-still v) [ on-acts g ↦ nothing _ (λ p k. refl) (λ p k. refl) g ]
+event-deal v s (call x n a y z) = by-call (Deals v s x a y z) (no-way v s x a y z) v a y z (λ h. rows v s x a y z (handles v h) (caller v h)) x n
+
+-- ---- the accounts
+
+-- a block that is listed as free may be granted
+marked-free : (l : List Bool) (k : ℕ) → of l k false ≡ true → of l k true ≡ true
+marked-free l zero e = refl
+marked-free [] (suc k) e = refl
+marked-free (x ∷ l) (suc zero) e = e
+marked-free (x ∷ l) (suc (suc k)) e = marked-free l (suc k) e
+
+deal-balance : (v : View) → Sound v → (e : Event) (r : Verdict) → Deal v e r → (p k : ℕ) → In p (length (v .body .store .pools)) → In k (length (of (v .body .store .pools) p []))
+    → Balance (v .body) (afters (r .acts) (v .body)) (taken e (number (r .code)) (r .w1) p k) (returned e (number (r .code)) p k) p k
+unfolding afters belongs
+deal-balance v s e r (nothing w t g h) p k rp rk = rw (t p k, g p k) (still-balance (v .body) (r .acts) h p k)
+deal-balance v s e r (grant q j m t g i l) p k rp rk =
+    rw (t p k, g p k) (mark-balance (v .body) q j true (marked-free (of (v .body .store .pools) q []) j (first-belongs v s (freeIn q) i j m l)) p k rp rk)
+deal-balance v s e r (free q j t g b) p k rp rk = rw (t p k, g p k) (mark-balance (v .body) q j false (b .out) p k rp rk)
+deal-balance v s e r (hand q j i t g b w) p k rp rk = rw (t p k, g p k) (hand-balance (v .body) i q j w p k)
+
 -- the account of every block at every event on a sound state
 pub event-balance : (v : View) → Sound v → (e : Event) (p k : ℕ) → In p (length (v .body .store .pools)) → In k (length (of (v .body .store .pools) p []))
     → Balance (v .body) (next v e .body) (taken e (number (served v e .answer .code)) (served v e .answer .w1) p k) (returned e (number (served v e .answer .code)) p k) p k
-unfolding next served answer judge ticked entered exited ok number
-event-balance v s tick p k rp rk = rw (body-acts (ticked v .acts) v) (still-balance (v .body) _ (tick-still (v .body)) p k)
-event-balance v s enter p k rp rk = rw (body-acts (entered v .acts) v) (elim (enter-still v) [ on-acts g ↦ still-balance (v .body) _ g p k ])
-event-balance v s exit p k rp rk = rw (body-acts (exited v .acts) v) (elim (exit-still v) [ on-acts g ↦ still-balance (v .body) _ g p k ])
-event-balance v s (call x n a y z) p k rp rk =
-    rw (body-acts (judge v (call x n a y z) .acts) v)
-    (elim (by-call (Books v s x a y z p k rp rk) (no-way v s x a y z p k rp rk) v a y z (λ h. rows v s x a y z p k rp rk (handles v h) (caller v h)) x n) [ books h ↦ h ])
+unfolding next served answer
+event-balance v s e p k rp rk = rw (body-acts (judge v e .acts) v) (deal-balance v s e (judge v e) (event-deal v s e) p k rp rk)

@@ -13,15 +13,15 @@ use lib.IntN.{ℤ}
 use lib.ListN.{length, getD}
 use borrow.Author.Tests.{eqb-true, eqb-false, ne-eqb}
 use Rattle.rules.specs.Ids.{of, from, ids, In, once, times}
-use Rattle.rules.specs.Codes.{tellsDamage, H-NUMBER, H-QUEUE, H-SERVED, H-TWICE}
+use Rattle.rules.specs.Codes.{tellsDamage, H-NUMBER, H-QUEUE, H-SERVED, H-TWICE, H-FREE}
 use Rattle.rules.specs.State.{semaphore, flag, mailbox, pool, Wait, asleep, timed, on, Body, task, waitOf}
-use Rattle.rules.specs.Places.{Place, readyAt, waiters, mail, population, many, belongs, lies, lineAt, Exists}
+use Rattle.rules.specs.Places.{Place, readyAt, waiters, mail, freeIn, population, many, belongs, lies, lineAt, Exists}
 use Rattle.rules.specs.Events.{Event}
 use Rattle.rules.specs.View.{View, line}
 use Rattle.rules.specs.Answers.{answer}
 use Rattle.rules.specs.Sound.{WaitNumbers, anyLies, Unserved, Queue, Sound}
 use Rattle.rules.specs.Check.{sound?}
-use Rattle.rules.specs.Breach.{Breach, breach-at, Ranged, ranged?, ofTasks, InPlace, some?, served-beside, Alone, held, HeldOnce, Rule, is-yes, rulesOf, firstBad, unless, firstOf, breachBy, breach, BrokenAt, Kept, AllKept, First, MarksFit, Named, by-number, by-rule, by-mark}
+use Rattle.rules.specs.Breach.{Breach, breach-at, Ranged, ranged?, ofTasks, InPlace, some?, served-beside, Alone, held, HeldOnce, Listed, Rule, is-yes, rulesOf, firstBad, unless, firstOf, breachBy, breach, BrokenAt, Kept, AllKept, First, MarksFit, Named, by-number, by-rule, by-mark}
 use Rattle.rules.specs.Kernel.{served, damaged, guarded, event, guardedCell, cell}
 use Rattle.rules.proofs.Queues.{empty-line-belongs, first-belongs}
 use Rattle.rules.proofs.Calls.{nowhere-lies}
@@ -167,10 +167,15 @@ module _ (v : View) (r : Ranged v) where
       unfolding rulesOf
       told-twice j h = told-first (breach-at H-TWICE j) (inr (q, inr (s, inl (refl, h))))
 
-      -- any breach but these, which no rule over the ids names
-      pub told-rest : Kept (length (v .body .store .messages)) (HeldOnce v) → breach v ≡ breach-at H-NUMBER 0
-      unfolding rulesOf
-      told-rest t = told-kept (q, (s, (t, tt)))
+      module _ (t : Kept (length (v .body .store .messages)) (HeldOnce v)) where
+        pub told-free : (p : ℕ) → BrokenAt (length (v .body .store .pools)) (Listed v) p → breach v ≡ breach-at H-FREE p
+        unfolding rulesOf
+        told-free p h = told-first (breach-at H-FREE p) (inr (q, inr (s, inr (t, inl (refl, h)))))
+
+        -- any breach but these, which no rule over the ids names
+        pub told-rest : Kept (length (v .body .store .pools)) (Listed v) → breach v ≡ breach-at H-NUMBER 0
+        unfolding rulesOf
+        told-rest f = told-kept (q, (s, (t, (f, tt))))
 
 -- ---- a code of damage is told
 
@@ -192,7 +197,7 @@ unfolding breach breachBy tellsDamage rulesOf
 breach-tells v = go (ranged? v)
   where
     go : (d : Dec (Ranged v)) → tellsDamage (breachBy v d .code) ≡ true
-    go (yes r) = tells-of (rulesOf v) (refl, (refl, (refl, tt)))
+    go (yes r) = tells-of (rulesOf v) (refl, (refl, (refl, (refl, tt))))
     go (no k) = refl
 
 -- ---- messages: by their marks, and by the lines
@@ -263,6 +268,7 @@ unfolding population
 in-tasks b (readyAt p) i e r = r
 in-tasks b (waiters k o) i e r = r
 in-tasks b (mail m) i e r = absurd (false≢true e)
+in-tasks b (freeIn p) i e r = absurd (false≢true e)
 
 module _ (v : View) (s : Sound v) where
   sound-ranged : Ranged v
@@ -292,7 +298,7 @@ module _ (v : View) (s : Sound v) where
   unfolding rulesOf population
   sound-kept = (
     λ i r q e t. s .queues q e .stands i (in-tasks (v .body) q i t r),
-    (λ i r. unserved-beside (waitOf (task (v .body) i .state)) (s .body .tasks i r .wait) (s .unserved i r), (sound-held, tt)),
+    (λ i r. unserved-beside (waitOf (task (v .body) i .state)) (s .body .tasks i r .wait) (s .unserved i r), (sound-held, (λ p r k i. s .queues (freeIn p) r .stands k i, tt))),
   )
 
   sound-marks : MarksFit v
@@ -309,6 +315,7 @@ module _ (v : View) (r : Ranged v) (k : AllKept (rulesOf v)) (f : MarksFit v) wh
       by (readyAt p) e i n = k .0 i n (readyAt p) e refl
       by (waiters c o) e i n = k .0 i n (waiters c o) e refl
       by (mail m) e i n = f m e i n
+      by (freeIn p) e i n = k .1 .1 .1 .0 p e i n
 
   beside-unserved : (w : Option Wait) → WaitNumbers (v .body .store) w → served-beside v w ≡ false → Unserved (v .body .store) w
   unfolding belongs

@@ -14,23 +14,23 @@ use lib.Dec.{eqb, leb, lit<}
 use lib.IntN.{ℤ, pos, negsuc}
 use lib.ListN.{length}
 use borrow.Author.Tests.{eqb-true, eqb-false, eq-eqb, ne-eqb, leb-false, not-false}
-use Rattle.rules.specs.Ids.{of, ids, In, once, times}
+use Rattle.rules.specs.Ids.{of, from, ids, In, once, times}
 use Rattle.rules.specs.Codes.{Code, OK, E-TMOUT}
 use Rattle.rules.specs.State.{Kind, semaphore, flag, mailbox, pool, Wait, on, State, dormant, ready, suspended, waiting, waiting-suspended, Task, no-handler, depth, Body, task, nobody, objects, waitOf, isDormant, isWaiting, sleeps, wish}
-use Rattle.rules.specs.Places.{waiters, mail, belongs, awaits, lies}
-use Rattle.rules.specs.Setup.{Entry}
+use Rattle.rules.specs.Places.{waiters, mail, freeIn, belongs, awaits, lies}
+use Rattle.rules.specs.Setup.{Entry, Setup}
 use Rattle.rules.specs.Events.{Event, tick, enter, exit, call, Word, Words, nat, bits, outside, above}
-use Rattle.rules.specs.Acts.{Act, start, wait, release, wakeups, elapse, after, freed, releasedTask, with-state, with-cell}
+use Rattle.rules.specs.Acts.{Act, start, wait, release, wakeups, mark, elapse, after, freed, releasedTask, with-state, with-cell}
 use Rattle.rules.specs.View.{View, line, act, acts}
 use Rattle.rules.specs.Verdicts.{Verdict, waits}
 use Rattle.rules.specs.Tasks.{stateOf, starting, sta-tsk, ext-tsk, ter-tsk, chg-pri, rot-rdq, rel-wai, sus-tsk, rsm-tsk, take-wakeup, slp-tsk, wai-for, wai-tsk, waking, wup-tsk, can-wup, get-tid, tsk-sts}
-use Rattle.rules.specs.Objects.{to-first, obj-sts, countOf, sig-sem, take-sem, patternOf, met, left, serve-flag, set-flg, clr-flg, take-flg, snd-msg, take-msg, blocksOf, lowest, free, take-blk, rel-blk}
+use Rattle.rules.specs.Objects.{to-first, obj-sts, countOf, sig-sem, take-sem, patternOf, met, left, serve-flag, set-flg, clr-flg, take-flg, snd-msg, take-msg, blocksOf, free, take-blk, rel-blk}
 use Rattle.rules.specs.Time.{get-tim, ending, endings, timeout, ticked}
 use Rattle.rules.specs.Handling.{entered, exited}
 use Rattle.rules.specs.Rows.{staTsk, extTsk, terTsk, chgPri, rotRdq, relWai, susTsk, rsmTsk, slpTsk, waiTsk, wupTsk, canWup, sigSem, waiSem, preqSem, setFlg, clrFlg, waiFlg, polFlg, sndMsg, rcvMsg, prcvMsg, getBlk, pgetBlk, relBlk, getTid, tskSts, semSts, flgSts, mbxSts, mplSts, getTim}
 use Rattle.rules.specs.Table.{table, caller, handles, judge}
 use Rattle.rules.specs.Sound.{WishNumbers, WaitNumbers, anyLies, would-serve, Unserved, AllUnserved, SoundBody, Sound}
-use Rattle.rules.specs.Kernel.{starts, next}
+use Rattle.rules.specs.Kernel.{frees, starts, begins, next}
 use Rattle.rules.proofs.Ids.{of-put-other, put-either, inside, tested, times-keep, times-ids}
 use Rattle.rules.proofs.Keeps.{NoneAt, Asks, Pre, asks-waits}
 use Rattle.rules.proofs.Queues.{sound-act, body-act, empty-belongs, none-waits, belongs-stands}
@@ -58,6 +58,25 @@ starts-steps b i (e ∷ l) = go (e .started) (starts-steps (after (start i) b) (
     go : (t : Bool) → Steps (after (start i) b) (starts (suc i) l) → Steps b (starts (suc i) l) → Steps b (cond t (start i ∷ starts (suc i) l) (starts (suc i) l))
     go true p q = (tt, p)
     go false p q = q
+
+-- where nobody waits on a pool, blocks may be freed
+abbrev NoneWait : Body → Type 0
+NoneWait b = (q : ℕ) → NoneAt b pool q
+
+marks-steps : (b : Body) (p j n : ℕ) (r m : List Act) → NoneWait b → ((c : Body) → NoneWait c → Steps c (r ++ m)) → Steps b (map (λ k. mark p k true) (from j n) ++ r ++ m)
+unfolding after
+marks-steps b p j zero r m h g = g b h
+marks-steps b p j (suc n) r m h g = (inr (h p), marks-steps (after (mark p j true) b) p (suc j) n r m h g)
+
+frees-steps : (b : Body) (p : ℕ) (l : List ℕ) (m : List Act) → NoneWait b → ((c : Body) → Steps c m) → Steps b (frees p l ++ m)
+unfolding frees ids
+frees-steps b p [] m h g = g b
+frees-steps b p (n ∷ l) m h g = marks-steps b p 1 n (frees (suc p) l) m h (λ c k. frees-steps c (suc p) l m k g)
+
+-- the fresh state's acts need only that nobody waits on a pool
+pub begins-steps : (b : Body) (u : Setup) → NoneWait b → Steps b (begins u)
+unfolding begins
+begins-steps b u h = frees-steps b 1 (u .pools) (starts 1 (u .tasks)) h (λ c. starts-steps c 1 (u .tasks))
 
 -- ---- verdicts whose acts find what they need
 
@@ -112,10 +131,14 @@ module _ (b : Body) (h : SoundBody b) where
 
 -- ---- pools and mailboxes
 
-lowest-none : (k : ℕ) (l : List Bool) → lowest (suc k) l ≡ 0 → free l ≡ 0
-lowest-none k [] e = refl
-lowest-none k (true ∷ l) e = absurd (omega arith)
-lowest-none k (false ∷ l) e = lowest-none (suc k) l e
+none-free : (l : List Bool) → ((k : ℕ) → of l k false ≡ false) → free l ≡ 0
+none-free [] f = refl
+none-free (true ∷ l) f = absurd (false≢true (sym (f 1)))
+none-free (false ∷ l) f = none-free l later
+  where
+    later : (k : ℕ) → of l k false ≡ false
+    later zero = refl
+    later (suc k) = f (suc (suc k))
 
 pub nowhere-lies : (l : List (Option ℕ)) (m : ℕ) → ((j : ℕ) → lies (of l j none) m ≡ false) → anyLies l m ≡ false
 nowhere-lies [] m f = refl
@@ -438,9 +461,9 @@ module _ (v : View) (h : Sound v) (a : ℤ) where
   unfolding take-msg belongs
   msg-fine r i f = acts-first (λ e. f (nowhere-lies (v .body .store .messages) (nat a) (empty-belongs v h (mail (nat a)) i e))) (λ x m e. on-acts (tt, tt))
 
-  blk-fine : (r : Verdict) → (free (blocksOf v a) ≡ 0 → Fine (v .body) r) → Fine (v .body) (take-blk v a r)
-  unfolding take-blk
-  blk-fine r f = acts-count (λ e. f (lowest-none 0 (blocksOf v a) e)) (λ k e. on-acts (inl refl, tt))
+  blk-fine : (r : Verdict) → There pool → (free (blocksOf v a) ≡ 0 → Fine (v .body) r) → Fine (v .body) (take-blk v a r)
+  unfolding take-blk belongs
+  blk-fine r i f = acts-first (λ e. f (none-free (blocksOf v a) (empty-belongs v h (freeIn (nat a)) i e))) (λ x m e. on-acts (inl refl, tt))
 
   ret-fine : (k : ℤ) → Word k → There pool → Fine (v .body) (rel-blk v a k)
   unfolding rel-blk
@@ -486,8 +509,8 @@ module _ (v : View) (h : Sound v) (x : Bool) (a p c : ℤ) (wa : Word a) (wp : W
       ⊗ (λ t. snd-fine v h a p wp (here mailbox (t .words .0)))
       ⊗ (λ t. msg-fine v h a _ (here mailbox (t .words .0)) (λ n. waits-fine v h a me mailbox 0 0 (alone (t .context)) (here mailbox (t .words .0)) (refl, refl) n))
       ⊗ (λ t. msg-fine v h a _ (here mailbox (t .words .0)) (λ n. on-acts tt))
-      ⊗ (λ t. blk-fine v h a _ (λ z. waits-fine v h a me pool 0 0 (alone (t .context)) (here pool (t .words .0)) (refl, refl) (ap not (eq-eqb _ 0 z))))
-      ⊗ (λ t. blk-fine v h a _ (λ z. on-acts tt))
+      ⊗ (λ t. blk-fine v h a _ (here pool (t .words .0)) (λ z. waits-fine v h a me pool 0 0 (alone (t .context)) (here pool (t .words .0)) (refl, refl) (ap not (eq-eqb _ 0 z))))
+      ⊗ (λ t. blk-fine v h a _ (here pool (t .words .0)) (λ z. on-acts tt))
       ⊗ (λ t. ret-fine v h a p wp (here pool (t .words .0)))
       ⊗ (λ t. on-acts tt)
       ⊗ (λ t. on-acts tt)

@@ -1,32 +1,31 @@
 -- Demand 3: for every accepted setup and every list of events the claim of specs/Demand3.antt holds. Assumes nothing.
-use mathlib.Core.Bool.{Bool, true, false, not, cond, false≢true}
-use mathlib.Core.List.{List, [], _∷_, map}
+use mathlib.Core.Bool.{Bool, true, false, not, false≢true}
+use mathlib.Core.List.{List, [], _∷_}
 use mathlib.Core.Path.{_≡_, refl, sym, ap, _∙_, subst}
-use Prim.Native.Nat.{ℕ, zero, suc, _+_}
+use Prim.Native.Nat.{ℕ, _+_}
 use native.Mathlib.Nat.{add-comm}
 use native.Mathlib.Omega.{arith}
-use lib.ListN.{length, replicate}
+use lib.ListN.{length}
 use Rattle.rules.specs.Ids.{of, In, once}
 use Rattle.rules.specs.Codes.{tellsDamage}
 use Rattle.rules.specs.State.{pool, Body}
-use Rattle.rules.specs.Setup.{got, setup, Entry, Setup}
-use Rattle.rules.specs.Places.{tabulate}
+use Rattle.rules.specs.Setup.{got, setup, Setup}
 use Rattle.rules.specs.Events.{Event, AllWords}
-use Rattle.rules.specs.Acts.{start, after, afters}
-use Rattle.rules.specs.View.{View, acts}
+use Rattle.rules.specs.Acts.{afters}
+use Rattle.rules.specs.View.{View}
 use Rattle.rules.specs.Table.{judge}
 use Rattle.rules.specs.Answers.{answer, readCell}
 use Rattle.rules.specs.Sound.{Sound}
-use Rattle.rules.specs.Kernel.{idle, starts, fresh, next, served, event}
+use Rattle.rules.specs.Kernel.{fresh, next, served, event}
 use Rattle.rules.specs.Plain.{Plain, viewOf, plainFresh, plainNext, plainAnswer}
 use Rattle.rules.specs.Blocks.{isFree, Happened, granted, gaveBack, grants, returns, Accounted}
 use Rattle.rules.specs.Demand3.{Agree, Alike, happened, Demand3}
-use Rattle.rules.proofs.Ids.{of-replicate}
 use Rattle.rules.proofs.Sizes.{SameSizes, sizes-afters}
 use Rattle.rules.proofs.Agree.{Numbers, fresh-shows, numbers-fresh, next-shows, numbers-next, same-answer}
 use Rattle.rules.proofs.Blocks.{event-balance}
 use Rattle.rules.proofs.Cells.{body-acts}
 use Rattle.rules.proofs.Clean.{judge-not-damage}
+use Rattle.rules.proofs.Fresh.{fresh-free}
 use Rattle.rules.proofs.Events.{event-served, event-next, cell-reads, sound-event, fresh-sound}
 
 -- ---- the ledger of one block: its grants are its returns, and one more if it is out
@@ -108,34 +107,10 @@ run past v s (e ∷ l) p n g h w = (
 
 -- ---- from the fresh start: no block is out, and none was granted or returned
 
-all-free : (l : List ℕ) (p k : ℕ) → of (of (map (λ n. replicate n true) l) p []) k true ≡ true
-all-free l p zero = refl
-all-free l zero (suc k) = refl
-all-free [] (suc p) (suc k) = refl
-all-free (n ∷ l) (suc zero) (suc k) = of-replicate n (suc k) true
-all-free (n ∷ l) (suc (suc p)) (suc k) = all-free l (suc p) (suc k)
-
-starts-pools : (i : ℕ) (l : List Entry) (b : Body) → afters (starts i l) b .store .pools ≡ b .store .pools
-unfolding starts afters after
-starts-pools i [] b = refl
-starts-pools i (e ∷ l) b = go (e .started) (starts-pools (suc i) l (after (start i) b)) (starts-pools (suc i) l b)
-  where
-    go : (t : Bool) → afters (starts (suc i) l) (after (start i) b) .store .pools ≡ b .store .pools → afters (starts (suc i) l) b .store .pools ≡ b .store .pools
-        → afters (cond t (start i ∷ starts (suc i) l) (starts (suc i) l)) b .store .pools ≡ b .store .pools
-    go true p q = p
-    go false p q = q
-
-fresh-pools : (u : Setup) → plainFresh u .body .store .pools ≡ idle u .store .pools
-unfolding fresh viewOf
-fresh-pools u =
-    ap (λ (v : View). v .body .store .pools) (fresh-shows u)
-    ∙ ap (λ (b : Body). b .store .pools) (body-acts (starts 1 (u .tasks)) (record { body = idle u; lines = tabulate (idle u .store) (λ q. []) }))
-    ∙ starts-pools 1 (u .tasks) (idle u)
-
-fresh-ledgers : (u : Setup) → Ledgers [] (plainFresh u .body)
-unfolding Ledger grants returns idle
-fresh-ledgers u p rp k rk = rw (fresh-pools u, all-free (u .pools) p k)
+fresh-ledgers : (s : List ℕ) (u : Setup) (i : ℕ) → setup s ≡ got u i → Ledgers [] (plainFresh u .body)
+unfolding Ledger grants returns viewOf
+fresh-ledgers s u i e = subst (λ (v : View). Ledgers [] (v .body)) (sym (fresh-shows u)) (λ p rp k rk. rw (fresh-free s u i e p k rp rk))
 
 -- For every byte string that the setup's definition accepts and every list of events with 32-bit words.
 pub demand3 : (s : List ℕ) (u : Setup) (i : ℕ) → setup s ≡ got u i → (l : List Event) → AllWords l → Demand3 [] (fresh u) (plainFresh u) l
-demand3 s u i e l w = run [] (fresh u) (plainFresh u) l (sym (fresh-shows u)) (numbers-fresh u) (fresh-sound s u i e) (fresh-ledgers u) w
+demand3 s u i e l w = run [] (fresh u) (plainFresh u) l (sym (fresh-shows u)) (numbers-fresh u) (fresh-sound s u i e) (fresh-ledgers s u i e) w

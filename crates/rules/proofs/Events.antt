@@ -9,10 +9,12 @@ use Rattle.rules.specs.View.{View}
 use Rattle.rules.specs.Answers.{readCell}
 use Rattle.rules.specs.Sound.{Sound}
 use Rattle.rules.specs.Check.{sound?}
-use Rattle.rules.specs.Kernel.{starts, fresh, next, served, damaged, guarded, event, guardedCell, cell}
+use Rattle.rules.specs.State.{pool}
+use Rattle.rules.specs.Places.{waiters, belongs}
+use Rattle.rules.specs.Kernel.{begins, fresh, next, served, damaged, guarded, event, guardedCell, cell}
 use Rattle.rules.specs.Runs.{states}
-use Rattle.rules.proofs.Accepted.{setup-good, unstarted-sound}
-use Rattle.rules.proofs.Calls.{sound-acts, sound-next, starts-steps}
+use Rattle.rules.proofs.Accepted.{setup-good, nobody-belongs, unstarted-sound}
+use Rattle.rules.proofs.Calls.{sound-acts, sound-next, begins-steps}
 
 -- on a sound state an event is served, on any other it is told what is broken
 pub event-served : (v : View) (e : Event) → Sound v → event v e ≡ served v e
@@ -54,5 +56,5 @@ sound-states v (e ∷ l) s w = sound-states (event v e .next) l (sound-event v e
 
 -- the fresh state of an accepted setup is sound
 pub fresh-sound : (s : List ℕ) (u : Setup) (i : ℕ) → setup s ≡ got u i → Sound (fresh u)
-unfolding fresh
-fresh-sound s u i e = sound-acts (starts 1 (u .tasks)) _ (unstarted-sound u (setup-good s u i e)) (starts-steps _ 1 (u .tasks))
+unfolding fresh belongs
+fresh-sound s u i e = sound-acts (begins u) _ (unstarted-sound u (setup-good s u i e)) (begins-steps _ u (λ q j. nobody-belongs u (waiters pool q) j))

@@ -99,6 +99,22 @@ module _ {ℓ} {A : Type ℓ} where
   of-map f l zero d e = sym e
   of-map f l (suc i) d e = ap (λ (x : A). getD (map f l) i x) (sym e) ∙ List·getD-map f l i d
 
+  -- an entry is changed by f, which leaves the default alone
+  pub of-put-change : (f : A → A) (l : List A) (i j : ℕ) (d : A) → f d ≡ d → of (put l i (f (of l i d))) j d ≡ cond (eqb i j) (f (of l j d)) (of l j d)
+  of-put-change f l i j d n = go (eqb i j) refl
+    where
+      there : In j (length l) ⊎ (of l j d ≡ d) → of (put l j (f (of l j d))) j d ≡ f (of l j d)
+      there (inl r) = of-put-same l j (f (of l j d)) d r
+      there (inr e) = elim (put-either l j (f (of l j d)) d) [ inl k ↦ k | inr k ↦ k ∙ sym (ap f e ∙ n) ]
+
+      go : (t : Bool) → eqb i j ≡ t → of (put l i (f (of l i d))) j d ≡ cond t (f (of l j d)) (of l j d)
+      go true e = rw (eqb-true i j e) (there (inside l j d))
+      go false e = of-put-other l i j _ d e
+
+  pub put-empty : (i : ℕ) (a : A) → put [] i a ≡ []
+  put-empty zero a = refl
+  put-empty (suc i) a = refl
+
   -- a table of defaults
   pub of-replicate : (n i : ℕ) (d : A) → of (replicate n d) i d ≡ d
   of-replicate n zero d = refl
@@ -168,6 +184,11 @@ keep-append p (x ∷ l) m = go (p x) (keep-append p l m)
 
 pub keep-same : {p r : ℕ → Bool} (l : List ℕ) → ((i : ℕ) → p i ≡ r i) → keep p l ≡ keep r l
 keep-same l h = ap (λ (f : ℕ → Bool). keep f l) (fun-ext h)
+
+pub keep-all : (l : List ℕ) → keep (λ i. true) l ≡ l
+unfolding keep
+keep-all [] = refl
+keep-all (x ∷ l) = ap (λ (m : List ℕ). x ∷ m) (keep-all l)
 
 pub keep-none : (l : List ℕ) → keep (λ i. false) l ≡ []
 unfolding keep
@@ -250,3 +271,13 @@ times-from-in i k (suc n) a b = go (ℕ-discrete k i) (times-from-in i (suc k) n
 pub times-ids : (i n : ℕ) → In i n → times i (ids n) ≡ 1
 unfolding ids
 times-ids i n h = times-from-in i 1 n (h .0) (omega (arith, h .1))
+
+-- one that does not stand in a list leaves it as it is
+pub absent-leaves : (j : ℕ) (l : List ℕ) → times j l ≡ 0 → keep (λ i. not (eqb j i)) l ≡ l
+unfolding keep times
+absent-leaves j [] e = refl
+absent-leaves j (x ∷ l) e = go (eqb j x) refl (absent-leaves j l (omega (arith, e)))
+  where
+    go : (t : Bool) → eqb j x ≡ t → keep (λ i. not (eqb j i)) l ≡ l → cond (not t) (x ∷ keep (λ i. not (eqb j i)) l) (keep (λ i. not (eqb j i)) l) ≡ x ∷ l
+    go true d h = absurd (omega (arith, e, ap once (eq-eqb x j (sym (eqb-true j x d)))))
+    go false d h = ap (λ (m : List ℕ). x ∷ m) h

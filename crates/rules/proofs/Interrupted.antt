@@ -10,7 +10,7 @@ use borrow.Author.Tests.{eq-eqb, ne-eqb, lt-leb}
 use Rattle.rules.specs.Ids.{keep}
 use Rattle.rules.specs.Codes.{Code, OK, H-CALL, E-CTX, H-NEST}
 use Rattle.rules.specs.State.{State, dormant, ready, suspended, waiting, waiting-suspended, Handlers, no-handler, in-handler, depth, isOpen, Body, task, isReady, isSuspended, isFreed}
-use Rattle.rules.specs.Places.{Place, readyAt, waiters, mail, belongs, tabulate}
+use Rattle.rules.specs.Places.{Place, readyAt, waiters, mail, freeIn, belongs, tabulate}
 use Rattle.rules.specs.Events.{Event, tick, enter, exit, call, eventOf, AllWords}
 use Rattle.rules.specs.Acts.{Act, rotate, wait, release, pattern, elapse, nest, with-handlers, after, afters, Move, stay, leave, last, move}
 use Rattle.rules.specs.View.{View, line, best, head, reported, running, alone, without, moved, act, acts}
@@ -147,6 +147,7 @@ unfolding belongs
 belongs-under h b (readyAt p) i = refl
 belongs-under h b (waiters k o) i = refl
 belongs-under h b (mail m) i = refl
+belongs-under h b (freeIn p) i = refl
 
 moved-under : (h : Handlers) (b : Body) (m : Move) (q : Place) (l : List ℕ) → moved (with-handlers h b) m q l ≡ moved b m q l
 unfolding moved

@@ -31,5 +31,7 @@ pub mod Agree
 pub mod Rising
 pub mod Blocks
 pub mod Released
+pub mod Fresh
 pub mod Demand3
+pub mod Wear
 pub mod Runs

@@ -11,7 +11,7 @@ use borrow.Author.Tests.{eq-eqb}
 use Rattle.rules.specs.Ids.{of, ids, In, keep}
 use Rattle.rules.specs.Codes.{H-NODMT}
 use Rattle.rules.specs.State.{Kind, semaphore, flag, mailbox, pool, Store, Body, task, objects, isDormant}
-use Rattle.rules.specs.Places.{Place, readyAt, waiters, mail, sameSort, sortAt, Item, aTask, item, same, belongs, at, each, Lines, lineAt, Exists, tabulate}
+use Rattle.rules.specs.Places.{Place, readyAt, waiters, mail, freeIn, sameSort, sortAt, Item, aTask, item, same, belongs, at, each, Lines, lineAt, Exists, tabulate}
 use Rattle.rules.specs.Events.{nat}
 use Rattle.rules.specs.Acts.{Act, start, after, last, move}
 use Rattle.rules.specs.View.{View, line, alone, without, moved, act, acts}
@@ -39,6 +39,7 @@ line-tabulate u f (readyAt p) h = of-ids (λ n. f (readyAt n)) (u .priorities) p
 line-tabulate u f (waiters k o) h =
     ap (λ (t : List (List ℕ)). of t o []) (at-each (λ k. map (λ n. f (waiters k n)) (ids (objects u k))) k) ∙ of-ids (λ n. f (waiters k n)) (objects u k) o [] h
 line-tabulate u f (mail m) h = of-ids (λ n. f (mail n)) (u .mailboxes) m [] h
+line-tabulate u f (freeIn p) h = of-ids (λ n. f (freeIn n)) (length (u .pools)) p [] h
 
 -- functions that agree at the places that there are make the same table
 pub tabulate-same : (u : Store) (f g : Place → List ℕ) → ((q : Place) → Exists u q → f q ≡ g q) → tabulate u f ≡ tabulate u g
@@ -47,6 +48,7 @@ tabulate-same u f g h = λ z. record {
   ready = map-ids (λ p. f (readyAt p)) (λ p. g (readyAt p)) (u .priorities) (λ p e. h (readyAt p) e) z;
   waiting = each (λ k. map-ids (λ o. f (waiters k o)) (λ o. g (waiters k o)) (objects u k) (λ o e. h (waiters k o) e) z);
   mail = map-ids (λ m. f (mail m)) (λ m. g (mail m)) (u .mailboxes) (λ m e. h (mail m) e) z;
+  free = map-ids (λ p. f (freeIn p)) (λ p. g (freeIn p)) (length (u .pools)) (λ p e. h (freeIn p) e) z;
 }
 
 pub shape-tabulate : (u : Store) (f : Place → List ℕ) → Shape u (tabulate u f)
@@ -55,6 +57,7 @@ shape-tabulate u f = record {
   ready = length-ids (λ p. f (readyAt p)) (u .priorities);
   waiting = λ k. ap (λ (t : List (List ℕ)). length t) (at-each (λ k. map (λ n. f (waiters k n)) (ids (objects u k))) k) ∙ length-ids (λ o. f (waiters k o)) (objects u k);
   mail = length-ids (λ m. f (mail m)) (u .mailboxes);
+  free = length-ids (λ p. f (freeIn p)) (length (u .pools));
 }
 
 -- a table that has a line for each place and for no other is the one made from its own lines
@@ -64,6 +67,7 @@ tabulate-lines u l h = λ z. record {
   ready = (ap (λ (n : ℕ). map (λ p. of (l .ready) p []) (ids n)) (sym (h .ready)) ∙ ids-of (l .ready) []) z;
   waiting = record { semaphores = waits semaphore z; flags = waits flag z; mailboxes = waits mailbox z; pools = waits pool z };
   mail = (ap (λ (n : ℕ). map (λ m. of (l .mail) m []) (ids n)) (sym (h .mail)) ∙ ids-of (l .mail) []) z;
+  free = (ap (λ (n : ℕ). map (λ p. of (l .free) p []) (ids n)) (sym (h .free)) ∙ ids-of (l .free) []) z;
 }
   where
     waits : (k : Kind) → map (λ o. of (at (l .waiting) k) o []) (ids (objects u k)) ≡ at (l .waiting) k
@@ -75,11 +79,13 @@ pub exists-after : (a : Act) (b : Body) (q : Place) → Exists (after a b .store
 exists-after a b (readyAt p) h = subst (In p) (sizes-after a b .priorities) h
 exists-after a b (waiters k o) h = subst (In o) (sizes-after a b .objects k) h
 exists-after a b (mail m) h = subst (In m) (sizes-after a b .objects mailbox) h
+exists-after a b (freeIn p) h = subst (In p) (sizes-after a b .objects pool) h
 
 pub exists-before : (a : Act) (b : Body) (q : Place) → Exists (b .store) q → Exists (after a b .store) q
 exists-before a b (readyAt p) h = subst (In p) (sym (sizes-after a b .priorities)) h
 exists-before a b (waiters k o) h = subst (In o) (sym (sizes-after a b .objects k)) h
 exists-before a b (mail m) h = subst (In m) (sym (sizes-after a b .objects mailbox)) h
+exists-before a b (freeIn p) h = subst (In p) (sym (sizes-after a b .objects pool)) h
 
 -- a line after an act
 pub line-act : (a : Act) (v : View) (q : Place) → Exists (v .body .store) q → line (act a v) q ≡ moved (after a (v .body)) (move (v .body) a) q (line v q)

@@ -1,7 +1,7 @@
 -- Only an accepted rel_wai makes a cell E_RLWAI, and no event is answered with it: every other act leaves a cell alone or writes another
 -- code. Over runs: a cell reads E_RLWAI exactly if such a rel_wai was the task's last release or start. Assumes nothing.
 use mathlib.Core.Bool.{Bool, true, false, cond, false≢true}
-use mathlib.Core.List.{List, [], _∷_, map}
+use mathlib.Core.List.{List, [], _∷_, _++_, map}
 use mathlib.Core.Logic.{_⊎_, inl, inr, _≢_, _↔_}
 use mathlib.Core.Path.{_≡_, refl, sym, ap, _∙_, subst}
 use Prim.Native.Nat.{ℕ, zero, suc}
@@ -11,7 +11,7 @@ use lib.Dec.{eqb}
 use lib.IntN.{ℤ, pos, negsuc}
 use lib.ListN.{length}
 use borrow.Author.Tests.{ne-eqb}
-use Rattle.rules.specs.Ids.{of, In}
+use Rattle.rules.specs.Ids.{of, from, ids, In}
 use Rattle.rules.specs.Codes.{Code, OK, E-NOEXS, E-NOWAI, E-RLWAI, number, tellsDamage}
 use Rattle.rules.specs.State.{Wait, State, dormant, ready, suspended, waiting, waiting-suspended, Cell, Task, Body, task, nobody, isDormant, isReady, isWaiting}
 use Rattle.rules.specs.Places.{tabulate}
@@ -30,7 +30,7 @@ use Rattle.rules.specs.Sound.{CellNumbers, Sound}
 use Rattle.rules.specs.Check.{sound?}
 use Rattle.rules.specs.Breach.{breach}
 use Rattle.rules.specs.Answers.{answer, readCell}
-use Rattle.rules.specs.Kernel.{idleTask, idle, starts, fresh, next, served, damaged, guarded, event, cell}
+use Rattle.rules.specs.Kernel.{idleTask, idle, frees, starts, begins, fresh, next, served, damaged, guarded, event, cell}
 use Rattle.rules.specs.Plain.{Plain, viewOf, plainAnswer}
 use Rattle.rules.specs.Runs.{states}
 use Rattle.rules.specs.Broken.{broken, isFresh, StaysBroken, BreaksOff, OnlyRelWai, NeverFresh, BrokenOff}
@@ -395,7 +395,10 @@ idle-whole [] (suc i) = served-whole
 idle-whole (x ∷ l) (suc zero) = served-whole
 idle-whole (x ∷ l) (suc (suc i)) = idle-whole l (suc i)
 
-starts-whole : (k : ℕ) (l : List Entry) (b : Body) → ((i : ℕ) → task b i .cell .code ≢ E-RLWAI) → (i : ℕ) → task (afters (starts k l) b) i .cell .code ≢ E-RLWAI
+abbrev NoneBroken : Body → Type 0
+NoneBroken b = (i : ℕ) → task b i .cell .code ≢ E-RLWAI
+
+starts-whole : (k : ℕ) (l : List Entry) (b : Body) → NoneBroken b → NoneBroken (afters (starts k l) b)
 unfolding starts afters
 starts-whole k [] b h = h
 starts-whole k (e ∷ l) b h = go (e .started) (starts-whole (suc k) l (after (start k) b) (λ i. one i (act-whole (start k) b tt i))) (starts-whole (suc k) l b h)
@@ -404,14 +407,28 @@ starts-whole k (e ∷ l) b h = go (e .started) (starts-whole (suc k) l (after (s
     one i (inl n) = n
     one i (inr c) = λ d. h i (ap (λ c. c .code) (sym (c .0)) ∙ d)
 
-    go : (t : Bool) → ((i : ℕ) → task (afters (starts (suc k) l) (after (start k) b)) i .cell .code ≢ E-RLWAI) → ((i : ℕ) → task (afters (starts (suc k) l) b) i .cell .code ≢ E-RLWAI)
-        → (i : ℕ) → task (afters (cond t (start k ∷ starts (suc k) l) (starts (suc k) l)) b) i .cell .code ≢ E-RLWAI
+    go : (t : Bool) → NoneBroken (afters (starts (suc k) l) (after (start k) b)) → NoneBroken (afters (starts (suc k) l) b)
+        → NoneBroken (afters (cond t (start k ∷ starts (suc k) l) (starts (suc k) l)) b)
     go true p q = p
     go false p q = q
 
-fresh-whole : (u : Setup) (i : ℕ) → task (fresh u .body) i .cell .code ≢ E-RLWAI
-unfolding fresh idle
-fresh-whole u i = rw (body-acts (starts 1 (u .tasks)) (record { body = idle u; lines = tabulate (idle u .store) (λ q. []) })) (starts-whole 1 (u .tasks) (idle u) (idle-whole (u .tasks)) i)
+-- blocks that are freed change no cell
+marks-whole : (p j n : ℕ) (r m : List Act) → ((b : Body) → NoneBroken b → NoneBroken (afters (r ++ m) b))
+    → (b : Body) → NoneBroken b → NoneBroken (afters (map (λ k. mark p k true) (from j n) ++ r ++ m) b)
+unfolding afters after
+marks-whole p j zero r m g b h = g b h
+marks-whole p j (suc n) r m g b h = marks-whole p (suc j) n r m g (after (mark p j true) b) h
+
+frees-whole : (p : ℕ) (l : List ℕ) (m : List Act) → ((b : Body) → NoneBroken b → NoneBroken (afters m b)) → (b : Body) → NoneBroken b → NoneBroken (afters (frees p l ++ m) b)
+unfolding frees ids
+frees-whole p [] m g b h = g b h
+frees-whole p (n ∷ l) m g b h = marks-whole p 1 n (frees (suc p) l) m (frees-whole (suc p) l m g) b h
+
+fresh-whole : (u : Setup) → NoneBroken (fresh u .body)
+unfolding fresh idle begins
+fresh-whole u i =
+    rw (body-acts (begins u) (record { body = idle u; lines = tabulate (idle u .store) (λ q. []) }))
+    (frees-whole 1 (u .pools) (starts 1 (u .tasks)) (starts-whole 1 (u .tasks)) (idle u) (idle-whole (u .tasks)) i)
 
 -- In a run from the fresh state a cell reads E_RLWAI exactly if some event is an accepted rel_wai that names the task, and no event behind
 -- it releases or starts the task.

@@ -3,17 +3,18 @@ use mathlib.Core.Bool.{Bool, true, false, cond, not, _&&_}
 use mathlib.Core.List.{List, [], _∷_, _++_}
 use mathlib.Core.Path.{_≡_, refl, sym, ap, _∙_, subst}
 use mathlib.Core.Logic.{_⊎_, inl, inr, _≢_}
-use Prim.Native.Nat.{ℕ, suc, _+_, _≤_, _<_}
+use Prim.Native.Nat.{ℕ, zero, suc, _+_, _≤_, _<_}
 use native.Mathlib.Nat.{add-zero}
 use native.Mathlib.Omega.{arith}
 use lib.Dec.{eqb}
 use lib.ListN.{length, getD}
-use Rattle.rules.specs.Ids.{In, keep, once, times, first}
+use Rattle.rules.specs.Ids.{of, In, keep, once, times, first}
 use Rattle.rules.specs.State.{Kind, Body, task, isReady}
-use Rattle.rules.specs.Places.{Place, readyAt, waiters, sameSort, sortAt, Item, item, same, many, belongs, lineAt, Exists}
+use Rattle.rules.specs.Places.{Place, readyAt, waiters, freeIn, sameSort, sortAt, Item, item, same, population, many, belongs, lineAt, Exists}
 use Rattle.rules.specs.Acts.{Act, after, Move, stay, leave, last, move}
 use Rattle.rules.specs.View.{View, line, nonempty, best, head, alone, without, moved, act}
 use Rattle.rules.specs.Sound.{Shape, Known, Queue, Sound}
+use Rattle.rules.specs.Blocks.{isFree}
 use Rattle.rules.proofs.Ids.{Each, times-append, times-keep, times-head}
 use Rattle.rules.proofs.Waits.{both-true}
 use Rattle.rules.proofs.Fits.{Fits, fits, population-after, in-range}
@@ -196,3 +197,18 @@ sound-act a v h p = record {
   where
     queue : (q : Place) → Exists (v .body .store) q → Queue (act a v .body) q (line (act a v) q)
     queue q r = rw (body-act a v, line-act a v q r) (queue-moved (v .body) (after a (v .body)) (move (v .body) a) q (line v q) (fits a (v .body)) (population-after a (v .body) (sortAt q)) (h .queues q r))
+
+-- ---- free blocks
+
+-- a block that exists reads the same by either default
+pub mark-there : (l : List Bool) (k : ℕ) → In k (length l) → of l k false ≡ of l k true
+mark-there l zero r = absurd (omega (arith, r .0))
+mark-there [] (suc k) r = absurd (omega (arith, r .1))
+mark-there (x ∷ l) (suc zero) r = refl
+mark-there (x ∷ l) (suc (suc k)) r = mark-there l (suc k) (omega arith, omega (arith, r .1))
+
+-- it stands in the line exactly if it is free
+pub stands-free : (v : View) → Sound v → (p k : ℕ) → In p (length (v .body .store .pools)) → In k (length (of (v .body .store .pools) p []))
+    → times k (line v (freeIn p)) ≡ once (isFree (v .body) p k)
+unfolding belongs population
+stands-free v s p k rp rk = s .queues (freeIn p) rp .stands k rk ∙ ap once (mark-there (of (v .body .store .pools) p []) k rk)

@@ -12,14 +12,14 @@ use lib.ListN.{length}
 use borrow.Author.Tests.{eqb-true, eq-eqb, ne-eqb, not-true}
 use Rattle.rules.specs.Ids.{of, from, ids, In, keep, once, times, first}
 use Rattle.rules.specs.State.{no-handler, Kind, Wait, asleep, timed, on, Body, task, waitOf, isReady}
-use Rattle.rules.specs.Places.{Place, readyAt, waiters, mail, Sort, tasks, messages, sameSort, sortAt, Item, aTask, item, same, population, many, belongs, waitsOn, lies, Exists, tabulate}
+use Rattle.rules.specs.Places.{Place, readyAt, waiters, mail, freeIn, Sort, tasks, messages, blocks, sameSort, sortAt, Item, aTask, item, same, population, many, belongs, waitsOn, lies, Exists, tabulate}
 use Rattle.rules.specs.Setup.{Setup}
 use Rattle.rules.specs.Events.{Event}
 use Rattle.rules.specs.Acts.{Act, after, Move, stay, leave, last, move}
 use Rattle.rules.specs.View.{View, line, nonempty, running, alone, without, moved}
 use Rattle.rules.specs.Table.{judge}
 use Rattle.rules.specs.Sound.{Sound}
-use Rattle.rules.specs.Kernel.{starts}
+use Rattle.rules.specs.Kernel.{begins}
 use Rattle.rules.specs.Plain.{Plain, numberOf, queueOf, viewOf, renumbered, plainAct, plainActs, unstarted, plainFresh, plainNext}
 use Rattle.rules.specs.Order.{Rising, Ordered, OneLine, Ready, Before, HeadRuns, WhoRuns}
 use Rattle.rules.proofs.Ids.{Each, times-append, times-keep, has-keep, kept-passes, times-ids, times-head, times-tail}
@@ -109,7 +109,7 @@ ordered-acts (a ∷ l) s h o = ordered-acts l (plainAct a s) (numbers-act a s h)
 
 pub ordered-fresh : (u : Setup) → Ordered (plainFresh u)
 unfolding plainFresh
-ordered-fresh u = ordered-acts (starts 1 (u .tasks)) (unstarted u) (numbers-unstarted u) (λ q. rw (queue-unstarted u q) tt)
+ordered-fresh u = ordered-acts (begins u) (unstarted u) (numbers-unstarted u) (λ q. rw (queue-unstarted u q) tt)
 
 pub ordered-next : (s : Plain) (e : Event) → Numbers s → Ordered s → Ordered (plainNext s e)
 unfolding plainNext
@@ -138,6 +138,7 @@ mailHome (some m) = mail m
 abbrev home : Body → Sort → ℕ → Place
 home b tasks i = cond (isReady (task b i .state)) (readyAt (task b i .priority)) (waitHome (waitOf (task b i .state)))
 home b messages j = mailHome (of (b .store .messages) j none)
+home b (blocks p) k = freeIn p
 
 waits-home : (w : Option Wait) (k : Kind) (o : ℕ) → waitsOn w k o ≡ true → waitHome w ≡ waiters k o
 waits-home w k o e = ap waitHome (waits-asks w k o e .2)
@@ -151,6 +152,7 @@ unfolding belongs
 at-home b (readyAt p) i e = rw (ready-is b p i e .0, ready-is b p i e .1)
 at-home b (waiters k o) i e = rw (waiting-tells (task b i .state) (waits-by (λ w. waitsOn w k o) refl (task b i .state) e) .0) (waits-home (waitOf (task b i .state)) k o e)
 at-home b (mail m) i e = lies-home (of (b .store .messages) i none) m e
+at-home b (freeIn p) i e = refl
 
 pub one-place : (b : Body) (q r : Place) (i j : ℕ) → item q i ≡ item r j → belongs b q i ≡ true → belongs b r j ≡ true → q ≡ r
 one-place b q r i j e f g = sym (at-home b q i f) ∙ ap (λ (x : Item). home b (x .sort) (x .id)) e ∙ at-home b r j g
@@ -226,6 +228,12 @@ times-queue s q i =
     go : (t : Bool) → belongs (s .body) q i ≡ t → cond t (times i (ids (many (s .body) q))) 0 ≡ once t
     go true e = times-ids i (many (s .body) q) (in-range (s .body) q i e)
     go false e = refl
+
+-- the first of a queue has the smallest number: of free blocks it is the one longest free
+pub first-least : (s : Plain) → Ordered s → (q : Place) (x : ℕ) (m : List ℕ) → queueOf s q ≡ x ∷ m → (j : ℕ) → belongs (s .body) q j ≡ true → j ≢ x → numberOf s (item q x) < numberOf s (item q j)
+unfolding times
+first-least s o q x m e j b n =
+    subst (λ (l : List ℕ). Rising (λ i. numberOf s (item q i)) l) e (o q) .0 j (λ k. absurd (omega (arith, sym (rw (e, ne-eqb x j (λ d. n (sym d)), k) at (times-queue s q j)) ∙ refl, ap once b)))
 
 module _ (s : Plain) (g : Sound (viewOf s)) (o : Ordered s) (z : s .body .handlers ≡ no-handler) where
   -- the ready queue of a priority

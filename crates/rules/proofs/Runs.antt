@@ -1,4 +1,4 @@
--- What holds of every state that a run reaches: who runs, the order of the lines, and that no block is given out twice. Assumes nothing.
+-- What holds of every state that a run reaches: who runs, the order of the lines, that no block is given out twice, and that the one longest free is. Assumes nothing.
 use mathlib.Core.Bool.{Bool, true, false, not}
 use mathlib.Core.List.{List, [], _∷_}
 use mathlib.Core.Path.{_≡_}
@@ -7,7 +7,7 @@ use native.Mathlib.Omega.{arith}
 use lib.ListN.{length}
 use Rattle.rules.specs.Ids.{of, In, once}
 use Rattle.rules.specs.Setup.{got, setup, Setup}
-use Rattle.rules.specs.Events.{Event, AllWords}
+use Rattle.rules.specs.Events.{Event, Words, AllWords}
 use Rattle.rules.specs.Sound.{Sound}
 use Rattle.rules.specs.Kernel.{fresh}
 use Rattle.rules.specs.Plain.{Plain, viewOf, plainFresh, plainNext}
@@ -15,11 +15,13 @@ use Rattle.rules.specs.Runs.{states, plainStates}
 use Rattle.rules.specs.Order.{Ordered, OneLine, WhoRuns}
 use Rattle.rules.specs.Blocks.{isFree, granted, gaveBack}
 use Rattle.rules.specs.Demand3.{happened}
+use Rattle.rules.specs.Wear.{LongestFree}
 use Rattle.rules.proofs.Agree.{Numbers, fresh-shows, numbers-fresh, next-shows, numbers-next}
 use Rattle.rules.proofs.Calls.{sound-next}
 use Rattle.rules.proofs.Demand3.{plain-balance}
 use Rattle.rules.proofs.Events.{fresh-sound, sound-states}
 use Rattle.rules.proofs.Rising.{ordered-fresh, ordered-next, one-line, who-runs}
+use Rattle.rules.proofs.Wear.{longest-free}
 
 -- a state of the plain kernel that some run reaches
 record Reached (s : Plain) : Type 0 where
@@ -49,9 +51,13 @@ module _ (s : List ℕ) (u : Setup) (i : ℕ) (e : setup s ≡ got u i) (l : Lis
   pub run-ordered : Ordered (plainStates (plainFresh u) l)
   run-ordered = by-run .ordered
 
-  -- each task and each message stands in at most one line, once
+  -- each task, each message and each block stands in at most one line, once
   pub run-one-line : OneLine (states (fresh u) l)
   run-one-line = one-line (states (fresh u) l) (sound-states (fresh u) l (fresh-sound s u i e) w)
+
+  -- a grant takes the block longest free
+  pub run-longest-free : (f : Event) → Words f → LongestFree (plainStates (plainFresh u) l) f
+  run-longest-free f wf = longest-free (plainStates (plainFresh u) l) f (by-run .numbers) (by-run .ordered) (by-run .sound) wf
 
   -- a block that is out is never granted, unless the same event returns it
   pub out-not-granted : (f : Event) (p k : ℕ) → In p (length (plainStates (plainFresh u) l .body .store .pools)) → In k (length (of (plainStates (plainFresh u) l .body .store .pools) p []))

@@ -1,12 +1,12 @@
 -- The acts of which every event is made: what each changes in the state, and who leaves a queue or goes last in one.
-use mathlib.Core.Bool.{Bool, cond}
+use mathlib.Core.Bool.{Bool, true, false, cond}
 use mathlib.Core.List.{List, [], _∷_, map}
 use mathlib.Core.Option.{Option, none, some}
 use Prim.Native.Nat.{ℕ, suc, pred, _%_, _^_}
 use Rattle.rules.specs.Ids.{of, put}
 use Rattle.rules.specs.Codes.{Code, OK}
 use Rattle.rules.specs.State.{Wait, asleep, timed, on, State, dormant, ready, suspended, waiting, waiting-suspended, Cell, Task, Store, Handlers, Body, task, isWaiting}
-use Rattle.rules.specs.Places.{Item, aTask, aMessage}
+use Rattle.rules.specs.Places.{Item, aTask, aMessage, aBlock}
 
 pub data Act : Type 0 where
   -- task i: started, sent dormant, given priority p, moved behind the others of its ready queue
@@ -186,6 +186,11 @@ regradedMove suspended x = stay
 regradedMove (waiting w) x = stay
 regradedMove (waiting-suspended w) x = stay
 
+-- A returned block goes last among the free ones; a block that is granted leaves them.
+abbrev pub markedMove : Bool → Item → Move
+markedMove true x = last x
+markedMove false x = leave x
+
 -- from the state before the act
 unfoldable pub move : Body → Act → Move
 move b (start i) = last (aTask i)
@@ -201,6 +206,6 @@ move b (count s n) = stay
 move b (pattern f n) = stay
 move b (post j m) = last (aMessage j)
 move b (receive j) = leave (aMessage j)
-move b (mark p k t) = stay
+move b (mark p k t) = markedMove t (aBlock p k)
 move b elapse = stay
 move b (nest h) = stay

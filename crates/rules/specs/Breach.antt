@@ -8,12 +8,12 @@ use Prim.Native.Nat.{ℕ, zero, suc, _+_, _≤_, _<_}
 use native.Mathlib.Decide.{decLe, ℕ-discrete}
 use lib.ListN.{length}
 use Rattle.rules.specs.Ids.{ids, In, once, times}
-use Rattle.rules.specs.Codes.{Code, H-NUMBER, H-QUEUE, H-SERVED, H-TWICE}
+use Rattle.rules.specs.Codes.{Code, H-NUMBER, H-QUEUE, H-SERVED, H-TWICE, H-FREE}
 use Rattle.rules.specs.State.{Kind, semaphore, flag, mailbox, pool, Wait, asleep, timed, on, task, waitOf}
-use Rattle.rules.specs.Places.{Place, mail, tasks, sameSort, sortAt, many, belongs, Exists}
+use Rattle.rules.specs.Places.{Place, mail, freeIn, tasks, sameSort, sortAt, many, belongs, Exists}
 use Rattle.rules.specs.View.{View, line}
 use Rattle.rules.specs.Sound.{would-serve, SoundBody, Shape, Known}
-use Rattle.rules.specs.Check.{convert, both?, if?, body?, shape?, known?, places?}
+use Rattle.rules.specs.Check.{convert, both?, if?, every?, body?, shape?, known?, places?}
 
 -- the code of the rule, and the id at which it is broken (0: the code names none)
 pub record Breach : Type 0 where
@@ -62,7 +62,8 @@ abbrev pub some? : List ℕ → Bool
 some? [] = false
 some? (x ∷ l) = true
 
--- of a mailbox its line is read, not the messages' marks: where the two disagree, the line is what a receiver would get
+-- Of a mailbox its line is read, not the messages' marks: where the two disagree, the line is what a receiver would get. Of a pool the marks are
+-- read, not its line: they decide what is free.
 abbrev pub beside : View → Kind → ℕ → ℕ → ℕ → Bool
 beside v semaphore o p m = would-serve (v .body .store) semaphore o p m
 beside v flag o p m = would-serve (v .body .store) flag o p m
@@ -90,6 +91,16 @@ held j (l ∷ ls) = times j l + held j ls
 abbrev pub HeldOnce : View → ℕ → Type 0
 HeldOnce v j = held j (v .lines .mail) ≤ 1
 
+-- ---- -24: a free block missing from, doubled in or foreign to the queue of its pool
+
+-- of a pool: each of its blocks stands in the queue once if it is marked free, and else not at all
+abbrev pub Listed : View → ℕ → Type 0
+Listed v p = (k : ℕ) → In k (many (v .body) (freeIn p)) → Stands v (freeIn p) k
+
+unfoldable pub listed? : (v : View) (p : ℕ) → Dec (Listed v p)
+unfolding every? ℕ-discrete
+listed? v p = every? (many (v .body) (freeIn p)) (λ k. ℕ-discrete (times k (line v (freeIn p))) _)
+
 -- ---- the rules in order
 
 -- a code, the ids 1 to count, and what is to hold at each
@@ -103,11 +114,12 @@ abbrev pub rule : Code → ℕ → (P : ℕ → Type 0) → ((i : ℕ) → Dec (
 rule c n P d = record { code = c; count = n; Keeps = P; keeps? = d }
 
 unfoldable pub rulesOf : View → List Rule
-unfolding in-place? decLe
+unfolding in-place? decLe listed?
 rulesOf v =
     rule H-QUEUE (length (v .body .tasks)) (InPlace v) (in-place? v)
     ∷ rule H-SERVED (length (v .body .tasks)) (Alone v) (λ i. Bool-discrete _ false)
     ∷ rule H-TWICE (length (v .body .store .messages)) (HeldOnce v) (λ j. decLe (held j (v .lines .mail)) 1)
+    ∷ rule H-FREE (length (v .body .store .pools)) (Listed v) (listed? v)
     ∷ []
 
 -- ---- the first broken

@@ -12,7 +12,7 @@ use lib.ListN.{length}
 use Rattle.rules.specs.Ids.{of, In, times}
 use Rattle.rules.specs.Codes.{OK, E-TMOUT, E-RLWAI, Code-discrete}
 use Rattle.rules.specs.State.{Kind, semaphore, flag, mailbox, pool, Wait, asleep, timed, on, Cell, Task, Store, Handlers, no-handler, in-handler, Body, task, objects, waitOf, isDormant, sleeps}
-use Rattle.rules.specs.Places.{Place, readyAt, waiters, mail, many, at, Lines, Exists}
+use Rattle.rules.specs.Places.{Place, readyAt, waiters, mail, freeIn, many, at, Lines, Exists}
 use Rattle.rules.specs.Sound.{Sizes, LiesWell, StoreNumbers, CellNumbers, WishNumbers, WaitNumbers, Unserved, SoundTask, HandlersFit, SoundBody, Shape, Known, Queue, Sound}
 use Rattle.rules.specs.View.{View, line}
 
@@ -143,8 +143,9 @@ body? b =
 unfoldable pub shape? : (u : Store) (l : Lines) → Dec (Shape u l)
 unfolding convert both? kinds? ℕ-discrete
 shape? u l =
-    convert (λ t. record { ready = t .0; waiting = t .1 .0; mail = t .1 .1 }) (λ r. (r .ready, (r .waiting, r .mail)))
-    (both? (ℕ-discrete (length (l .ready)) (u .priorities)) (both? (kinds? (λ k. ℕ-discrete (length (at (l .waiting) k)) (objects u k))) (ℕ-discrete (length (l .mail)) (u .mailboxes))))
+    convert (λ t. record { ready = t .0; waiting = t .1 .0; mail = t .1 .1 .0; free = t .1 .1 .1 }) (λ r. (r .ready, (r .waiting, (r .mail, r .free))))
+    (both? (ℕ-discrete (length (l .ready)) (u .priorities)) (both? (kinds? (λ k. ℕ-discrete (length (at (l .waiting) k)) (objects u k)))
+    (both? (ℕ-discrete (length (l .mail)) (u .mailboxes)) (ℕ-discrete (length (l .free)) (length (u .pools))))))
 
 unfoldable pub known? : (n : ℕ) (l : List ℕ) → Dec (Known n l)
 unfolding both? in?
@@ -158,18 +159,22 @@ queue? b q l = convert (λ t. record { known = t .0; stands = t .1 }) (λ r. (r 
 unfoldable pub places? : {P : Place → Type 0} (u : Store) → ((q : Place) → Dec (P q)) → Dec ((q : Place) → Exists u q → P q)
 unfolding convert both? every? kinds?
 places? {P} u d =
-    convert all parts (both? (every? (u .priorities) (λ p. d (readyAt p))) (both? (kinds? (λ k. every? (objects u k) (λ o. d (waiters k o)))) (every? (u .mailboxes) (λ m. d (mail m)))))
+    convert all parts (both? (every? (u .priorities) (λ p. d (readyAt p))) (both? (kinds? (λ k. every? (objects u k) (λ o. d (waiters k o))))
+    (both? (every? (u .mailboxes) (λ m. d (mail m))) (every? (length (u .pools)) (λ p. d (freeIn p))))))
   where
     Parts : Type 0
-    Parts = ((p : ℕ) → In p (u .priorities) → P (readyAt p)) × (((k : Kind) (o : ℕ) → In o (objects u k) → P (waiters k o)) × ((m : ℕ) → In m (u .mailboxes) → P (mail m)))
+    Parts =
+        ((p : ℕ) → In p (u .priorities) → P (readyAt p))
+        × (((k : Kind) (o : ℕ) → In o (objects u k) → P (waiters k o)) × (((m : ℕ) → In m (u .mailboxes) → P (mail m)) × ((p : ℕ) → In p (length (u .pools)) → P (freeIn p))))
 
     all : Parts → (q : Place) → Exists u q → P q
     all t (readyAt p) h = t .0 p h
     all t (waiters k o) h = t .1 .0 k o h
-    all t (mail m) h = t .1 .1 m h
+    all t (mail m) h = t .1 .1 .0 m h
+    all t (freeIn p) h = t .1 .1 .1 p h
 
     parts : ((q : Place) → Exists u q → P q) → Parts
-    parts f = (λ p h. f (readyAt p) h, (λ k o h. f (waiters k o) h, λ m h. f (mail m) h))
+    parts f = (λ p h. f (readyAt p) h, (λ k o h. f (waiters k o) h, (λ m h. f (mail m) h, λ p h. f (freeIn p) h)))
 
 unfoldable pub unserved? : (u : Store) (w : Option Wait) → Dec (Unserved u w)
 unserved? u none = yes tt

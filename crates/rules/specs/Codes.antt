@@ -5,7 +5,7 @@ use lib.Dec.{leb}
 use lib.IntN.{ℤ, pos, negsuc, negℤ}
 
 pub data Code : Type 0 where
-  OK WAITS H-NUMBER H-QUEUE H-SERVED H-TWICE H-CALL H-PAR E-NOEXS E-TPRI E-ILTIME E-CTX E-SELF E-DMT H-NODMT H-SUS E-NOSUS E-NOWAI E-QOVR H-POLL H-MSG H-NEST H-ILBLK E-TMOUT E-RLWAI : Code
+  OK WAITS H-NUMBER H-QUEUE H-SERVED H-TWICE H-FREE H-CALL H-PAR E-NOEXS E-TPRI E-ILTIME E-CTX E-SELF E-DMT H-NODMT H-SUS E-NOSUS E-NOWAI E-QOVR H-POLL H-MSG H-NEST H-ILBLK E-TMOUT E-RLWAI : Code
   deriving Discrete as Code-discrete
 
 abbrev pub minus : ℕ → ℤ
@@ -19,6 +19,7 @@ number H-NUMBER = minus 20
 number H-QUEUE = minus 21
 number H-SERVED = minus 22
 number H-TWICE = minus 23
+number H-FREE = minus 24
 number H-CALL = minus 1
 number H-PAR = minus 2
 number E-NOEXS = minus 2100

@@ -1,16 +1,17 @@
 -- The kernel with queues: its fresh state, and an event on a state that may be damaged.
-use mathlib.Core.Bool.{true, cond}
-use mathlib.Core.List.{List, [], _∷_, map}
+use mathlib.Core.Bool.{true, false, cond}
+use mathlib.Core.List.{List, [], _∷_, _++_, map}
 use mathlib.Core.Option.{none}
 use Prim.Native.Nat.{ℕ, suc}
 use lib.IntN.{ℤ}
 use lib.ListN.{replicate}
+use Rattle.rules.specs.Ids.{ids}
 use Rattle.rules.specs.Codes.{Code, OK}
 use Rattle.rules.specs.State.{dormant, Cell, Task, no-handler, Body}
 use Rattle.rules.specs.Places.{tabulate}
 use Rattle.rules.specs.Setup.{Entry, Setup}
 use Rattle.rules.specs.Events.{Event}
-use Rattle.rules.specs.Acts.{Act, start}
+use Rattle.rules.specs.Acts.{Act, start, mark}
 use Rattle.rules.specs.View.{View, running, acts}
 use Rattle.rules.specs.Table.{judge}
 use Rattle.rules.specs.Answers.{Answer, answer, readCell}
@@ -23,7 +24,7 @@ use Rattle.rules.specs.Breach.{breach}
 abbrev pub idleTask : Entry → Task
 idleTask e = record { state = dormant; priority = e .priority; start = e .priority; wakeups = 0; cell = record { code = OK; word = 0 } }
 
--- every task dormant, every block free, every mailbox empty, clock 0, wake-up counts 0, answer cells 0 and 0, no handler open
+-- before the start: every task dormant, every block out, every mailbox empty, clock 0, wake-up counts 0, answer cells 0 and 0, no handler open
 unfoldable pub idle : Setup → Body
 idle u = record {
   tasks = map idleTask (u .tasks);
@@ -33,19 +34,28 @@ idle u = record {
     flags = u .flags;
     mailboxes = u .mailboxes;
     messages = replicate (u .messages) none;
-    pools = map (λ n. replicate n true) (u .pools);
+    pools = map (λ n. replicate n false) (u .pools);
     clock = 0;
   };
   handlers = no-handler;
 }
+
+-- Every block is free: those of each pool, from pool p on, in the order of their numbers.
+unfoldable pub frees : ℕ → List ℕ → List Act
+frees p [] = []
+frees p (n ∷ l) = map (λ k. mark p k true) (ids n) ++ frees (suc p) l
 
 -- Started tasks enter the ready queues in id order, the others are dormant.
 unfoldable pub starts : ℕ → List Entry → List Act
 starts i [] = []
 starts i (e ∷ l) = cond (e .started) (start i ∷ starts (suc i) l) (starts (suc i) l)
 
+-- how a fresh state comes about: the blocks are freed, then the tasks started
+unfoldable pub begins : Setup → List Act
+begins u = frees 1 (u .pools) ++ starts 1 (u .tasks)
+
 unfoldable pub fresh : Setup → View
-fresh u = acts (starts 1 (u .tasks)) (record { body = idle u; lines = tabulate (idle u .store) (λ q. []) })
+fresh u = acts (begins u) (record { body = idle u; lines = tabulate (idle u .store) (λ q. []) })
 
 -- ---- an event
 

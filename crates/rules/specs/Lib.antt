@@ -29,4 +29,5 @@ pub mod Order
 pub mod Blocks
 pub mod Releases
 pub mod Demand3
+pub mod Wear
 pub mod Broken

@@ -12,7 +12,7 @@ use lib.ListN.{length}
 use Rattle.rules.specs.Ids.{of, keep, first, place}
 use Rattle.rules.specs.Codes.{OK, E-QOVR, H-POLL, H-MSG, H-ILBLK}
 use Rattle.rules.specs.State.{Kind, semaphore, flag, mailbox, pool, on, Body, task, waitOf, wish}
-use Rattle.rules.specs.Places.{waiters, mail}
+use Rattle.rules.specs.Places.{waiters, mail, freeIn}
 use Rattle.rules.specs.Events.{nat, bits, outside}
 use Rattle.rules.specs.Acts.{Act, release, count, pattern, post, receive, mark}
 use Rattle.rules.specs.View.{View, line}
@@ -131,23 +131,17 @@ take-msg v a other = onFirst (line v (mail (nat a))) other (λ m. gives m 0 (rec
 abbrev pub blocksOf : View → ℤ → List Bool
 blocksOf v a = of (v .body .store .pools) (nat a) []
 
--- the lowest-numbered free block, where the first has number k; 0 if none is free
-abbrev pub lowest : ℕ → List Bool → ℕ
-lowest k [] = 0
-lowest k (true ∷ l) = k
-lowest k (false ∷ l) = lowest (suc k) l
-
 -- the number of free blocks
 abbrev pub free : List Bool → ℕ
 free [] = 0
 free (true ∷ l) = suc (free l)
 free (false ∷ l) = free l
 
--- 23 get_blk(a) T, 24 pget_blk(a): w1 is the lowest-numbered free block.
+-- 23 get_blk(a) T, 24 pget_blk(a): w1 is the block longest free.
 unfoldable pub take-blk : View → ℤ → Verdict → Verdict
-take-blk v a other = onCount (lowest 1 (blocksOf v a)) other (λ k. gives (suc k) 0 (mark (nat a) (suc k) false ∷ []))
+take-blk v a other = onFirst (line v (freeIn (nat a))) other (λ k. gives k 0 (mark (nat a) k false ∷ []))
 
--- 25 rel_blk(a, b): to the first waiter, else free. A block number outside the pool, or free, is refused.
+-- 25 rel_blk(a, b): to the first waiter, else free, behind the other free ones. A block number outside the pool, or free, is refused.
 unfoldable pub rel-blk : View → ℤ → ℤ → Verdict
 rel-blk v a b =
     check (outside b (length (blocksOf v a)) || of (blocksOf v a) (nat b) true) H-ILBLK

@@ -19,7 +19,7 @@ Rising number (x ∷ l) = ((y : ℕ) → times y l ≢ 0 → number x < number y
 abbrev pub Ordered : Plain → Type 0
 Ordered s = (q : Place) → Rising (λ i. numberOf s (item q i)) (queueOf s q)
 
--- each task and each message stands in at most one line, once
+-- each task, each message and each block stands in at most one line, once
 pub record OneLine (v : View) : Type 0 where
   pub once : (q : Place) → Exists (v .body .store) q → (i : ℕ) → times i (line v q) ≤ 1
   pub one : (q r : Place) → Exists (v .body .store) q → Exists (v .body .store) r → (i j : ℕ) → item q i ≡ item r j

@@ -19,21 +19,21 @@ use Rattle.rules.specs.Rows.{staTsk, extTsk, terTsk, chgPri, rotRdq, rel
 use Rattle.rules.specs.Table.{refusals, judged, table, looked-up, numbered, called, judge}
 use Rattle.rules.specs.Answers.{Answer, releasedCount, answer, numbers, readCell}
 use Rattle.rules.specs.Check.{convert, both?, either?, not?, if?, every?, kinds?, in?, sizes?, lies-well?, store?, cell?, wish?, wait?, unserved?, task?, handlers?, body?, shape?, known?, queue?, places?, sound?}
-use Rattle.rules.specs.Breach.{ranged?, in-place?, held, rulesOf, firstBad, firstOf, breachBy, breach}
-use Rattle.rules.specs.Kernel.{idle, starts, fresh, next, served, damaged, guarded, event, guardedCell, cell}
+use Rattle.rules.specs.Breach.{ranged?, in-place?, held, listed?, rulesOf, firstBad, firstOf, breachBy, breach}
+use Rattle.rules.specs.Kernel.{idle, frees, starts, begins, fresh, next, served, damaged, guarded, event, guardedCell, cell}
 use Rattle.rules.specs.Plain.{Plain, queueOf, viewOf, renumbered, plainAct, plainActs, unstarted, plainFresh, plainNext, plainAnswer}
 
 -- ---- answers and states. Whoever unfolds these computes any run: their lines name all that a run computes with.
 
 -- the answers of the kernel with queues
 unfoldable pub answers : View → List Event → List Answer
-unfolding ids keep times byNumber number and-then readWord readEntry readEntries readSection readSections readSetup at-end setup population belongs lineAt tabulate after move running moved act acts check choose onFirst onCount starting sta-tsk ext-tsk ter-tsk chg-pri rot-rdq rel-wai sus-tsk rsm-tsk take-wakeup slp-tsk wai-for wai-tsk waking wup-tsk can-wup get-tid stateNumber tsk-sts to-first obj-sts sig-sem take-sem looks set-flg clr-flg take-flg snd-msg take-msg take-blk rel-blk get-tim ticked entered exited staTsk extTsk terTsk chgPri rotRdq relWai susTsk rsmTsk slpTsk waiTsk wupTsk canWup sigSem waiSem preqSem setFlg clrFlg waiFlg polFlg sndMsg rcvMsg prcvMsg getBlk pgetBlk relBlk getTid tskSts semSts flgSts mbxSts mplSts getTim refusals judged table looked-up numbered called judge releasedCount answer readCell idle starts fresh next served damaged guarded event guardedCell cell convert both? either? not? if? every? kinds? in? sizes? lies-well? store? cell? wish? wait? unserved? task? handlers? body? shape? known? queue? places? sound? ranged? in-place? held rulesOf firstBad firstOf breachBy breach decLe decLt ℕ-discrete
+unfolding ids keep times byNumber number and-then readWord readEntry readEntries readSection readSections readSetup at-end setup population belongs lineAt tabulate after move running moved act acts check choose onFirst onCount starting sta-tsk ext-tsk ter-tsk chg-pri rot-rdq rel-wai sus-tsk rsm-tsk take-wakeup slp-tsk wai-for wai-tsk waking wup-tsk can-wup get-tid stateNumber tsk-sts to-first obj-sts sig-sem take-sem looks set-flg clr-flg take-flg snd-msg take-msg take-blk rel-blk get-tim ticked entered exited staTsk extTsk terTsk chgPri rotRdq relWai susTsk rsmTsk slpTsk waiTsk wupTsk canWup sigSem waiSem preqSem setFlg clrFlg waiFlg polFlg sndMsg rcvMsg prcvMsg getBlk pgetBlk relBlk getTid tskSts semSts flgSts mbxSts mplSts getTim refusals judged table looked-up numbered called judge releasedCount answer readCell idle frees starts begins fresh next served damaged guarded event guardedCell cell convert both? either? not? if? every? kinds? in? sizes? lies-well? store? cell? wish? wait? unserved? task? handlers? body? shape? known? queue? places? sound? ranged? in-place? held listed? rulesOf firstBad firstOf breachBy breach decLe decLt ℕ-discrete
 answers v [] = []
 answers v (e ∷ l) = event v e .answer ∷ answers (event v e .next) l
 
 -- the answers of the plain kernel
 unfoldable pub plainAnswers : Plain → List Event → List Answer
-unfolding ids keep times byNumber number and-then readWord readEntry readEntries readSection readSections readSetup at-end setup population belongs lineAt tabulate after move running moved act acts check choose onFirst onCount starting sta-tsk ext-tsk ter-tsk chg-pri rot-rdq rel-wai sus-tsk rsm-tsk take-wakeup slp-tsk wai-for wai-tsk waking wup-tsk can-wup get-tid stateNumber tsk-sts to-first obj-sts sig-sem take-sem looks set-flg clr-flg take-flg snd-msg take-msg take-blk rel-blk get-tim ticked entered exited staTsk extTsk terTsk chgPri rotRdq relWai susTsk rsmTsk slpTsk waiTsk wupTsk canWup sigSem waiSem preqSem setFlg clrFlg waiFlg polFlg sndMsg rcvMsg prcvMsg getBlk pgetBlk relBlk getTid tskSts semSts flgSts mbxSts mplSts getTim refusals judged table looked-up numbered called judge releasedCount answer readCell idle starts fresh next served queueOf viewOf renumbered plainAct plainActs unstarted plainFresh plainNext plainAnswer
+unfolding ids keep times byNumber number and-then readWord readEntry readEntries readSection readSections readSetup at-end setup population belongs lineAt tabulate after move running moved act acts check choose onFirst onCount starting sta-tsk ext-tsk ter-tsk chg-pri rot-rdq rel-wai sus-tsk rsm-tsk take-wakeup slp-tsk wai-for wai-tsk waking wup-tsk can-wup get-tid stateNumber tsk-sts to-first obj-sts sig-sem take-sem looks set-flg clr-flg take-flg snd-msg take-msg take-blk rel-blk get-tim ticked entered exited staTsk extTsk terTsk chgPri rotRdq relWai susTsk rsmTsk slpTsk waiTsk wupTsk canWup sigSem waiSem preqSem setFlg clrFlg waiFlg polFlg sndMsg rcvMsg prcvMsg getBlk pgetBlk relBlk getTid tskSts semSts flgSts mbxSts mplSts getTim refusals judged table looked-up numbered called judge releasedCount answer readCell idle frees starts begins fresh next served queueOf viewOf renumbered plainAct plainActs unstarted plainFresh plainNext plainAnswer
 plainAnswers s [] = []
 plainAnswers s (e ∷ l) = plainAnswer s e ∷ plainAnswers (plainNext s e) l
 

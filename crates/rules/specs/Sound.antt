@@ -89,14 +89,15 @@ pub record Shape (u : Store) (l : Lines) : Type 0 where
   pub ready : length (l .ready) ≡ u .priorities
   pub waiting : (k : Kind) → length (at (l .waiting) k) ≡ objects u k
   pub mail : length (l .mail) ≡ u .mailboxes
+  pub free : length (l .free) ≡ length (u .pools)
 
--- nobody stands in the line but tasks (or messages) that exist
+-- nobody stands in the line but tasks (or messages, or blocks) that exist
 abbrev pub Known : ℕ → List ℕ → Type 0
 Known n [] = Unit {0}
 Known n (x ∷ l) = In x n × Known n l
 
 -- A READY or RUN task stands once in its priority's queue and nowhere else; a waiter on an object once in that object's queue and
--- nowhere else; others in none. A message lies in one mailbox at most, once.
+-- nowhere else; others in none. A message lies in one mailbox at most, once. Each free block is listed once, and no other.
 pub record Queue (b : Body) (q : Place) (l : List ℕ) : Type 0 where
   pub known : Known (many b q) l
   pub stands : (i : ℕ) → In i (many b q) → times i l ≡ once (belongs b q i)

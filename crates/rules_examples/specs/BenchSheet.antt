@@ -159,7 +159,7 @@ abbrev pub freshAt : Setup → ℕ → View
 freshAt u t = record { body = at-clock t (fresh u .body); lines = fresh u .lines }
 
 abbrev pub plainFreshAt : Setup → ℕ → Plain
-plainFreshAt u t = record { body = at-clock t (plainFresh u .body); tasks = plainFresh u .tasks; messages = plainFresh u .messages; count = plainFresh u .count }
+plainFreshAt u t = record { body = at-clock t (plainFresh u .body); tasks = plainFresh u .tasks; messages = plainFresh u .messages; blocks = plainFresh u .blocks; count = plainFresh u .count }
 
 -- ---- what a sheet gives: its setup is accepted, all of its bytes read, and then
 
@@ -249,6 +249,13 @@ benchSheet = record {
       -- clock wrap.
       ∷ case (2 ^ 48 - 1) 1
       (step (X get-tim 0 0 0) (pos 0) 65535 4294967295 1 0 ∷ step (alone tick) (pos 0) 0 0 1 0 ∷ step (X get-tim 0 0 0) (pos 0) 0 0 1 0 ∷ [])
+      1 (pos 0) 0
+      -- Request K7: gets 1 and 2, returns 2, then 1, and is granted 2.
+      ∷ case 0 1
+      (step (X pget-blk 1 0 0) (pos 0) 1 0 1 0
+      ∷ step (X pget-blk 1 0 0) (pos 0) 2 0 1 0
+      ∷ step (X rel-blk 1 2 0) (pos 0) 0 0 1 0
+      ∷ step (X rel-blk 1 1 0) (pos 0) 0 0 1 0 ∷ step (X pget-blk 1 0 0) (pos 0) 2 0 1 0 ∷ [])
       1 (pos 0) 0
       ∷ [];
 }

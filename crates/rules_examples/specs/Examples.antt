@@ -1,5 +1,5 @@
 -- Worked examples: every call in use and every code that a run can give; handlers; damaged states; setups that are refused.
-use mathlib.Core.Bool.{Bool, true, cond}
+use mathlib.Core.Bool.{Bool, true, false, cond}
 use mathlib.Core.List.{List, [], _∷_, _++_, map}
 use mathlib.Core.Option.{Option, none, some}
 use Prim.Native.Nat.{ℕ, _-_, _/_, _%_, _^_}
@@ -605,8 +605,8 @@ objectExamples = record {
       ∷ step (X snd-msg 1 2 0) (pos 0) 0 0 5 1
       ∷ [])
       2 (pos 0) 2
-      -- 23 get_blk(a), 24 pget_blk(a): w1 is the lowest-numbered free block. 25 rel_blk(a, b): to the first waiter, else free. H_ILBLK: block
-      -- number outside the pool, or free. 31 mpl_sts: w2 number of free blocks.
+      -- 23 get_blk(a), 24 pget_blk(a): w1 is the block longest free. 25 rel_blk(a, b): to the first waiter, else free, behind the other free
+      -- ones. H_ILBLK: block number outside the pool, or free. 31 mpl_sts: w2 number of free blocks.
       ∷ case 0 1
       (step (X mpl-sts 1 0 0) (pos 0) 0 2 1 0
       ∷ step (X get-blk 1 0 0) (pos 0) 1 0 1 0
@@ -620,11 +620,45 @@ objectExamples = record {
       ∷ step (X mpl-sts 1 0 0) (pos 0) 0 1 1 0
       ∷ step (X rel-blk 1 2 0) (minus 10) 0 0 1 0
       ∷ step (H rel-blk 1 1 0) (pos 0) 0 0 1 0
-      ∷ step (X pget-blk 1 0 0) (pos 0) 1 0 1 0
+      ∷ step (X pget-blk 1 0 0) (pos 0) 2 0 1 0
       ∷ step (H get-blk 1 0 0) (minus 2629) 0 0 1 0
       ∷ step (H rel-blk 3 9 0) (minus 2100) 0 0 1 0
       ∷ [])
       1 (pos 0) 0
+      -- Blocks wear evenly: one that is got and returned again and again takes turns with the one that stays free. Each pool has its own
+      -- queue, and a refused return or poll moves nothing in it.
+      ∷ case 0 1
+      (step (X get-blk 1 0 0) (pos 0) 1 0 1 0
+      ∷ step (X rel-blk 1 1 0) (pos 0) 0 0 1 0
+      ∷ step (X get-blk 1 0 0) (pos 0) 2 0 1 0
+      ∷ step (X rel-blk 1 2 0) (pos 0) 0 0 1 0
+      ∷ step (X rel-blk 1 1 0) (minus 10) 0 0 1 0
+      ∷ step (X get-blk 2 0 0) (pos 0) 1 0 1 0
+      ∷ step (X rel-blk 2 1 0) (pos 0) 0 0 1 0
+      ∷ step (X pget-blk 1 0 0) (pos 0) 1 0 1 0
+      ∷ step (X rel-blk 1 1 0) (pos 0) 0 0 1 0
+      ∷ step (X pget-blk 1 0 0) (pos 0) 2 0 1 0
+      ∷ step (X pget-blk 1 0 0) (pos 0) 1 0 1 0
+      ∷ step (X pget-blk 1 0 0) (minus 5) 0 0 1 0
+      ∷ step (X rel-blk 1 1 0) (pos 0) 0 0 1 0
+      ∷ step (X rel-blk 1 2 0) (pos 0) 0 0 1 0
+      ∷ step (X pget-blk 1 0 0) (pos 0) 1 0 1 0
+      ∷ step (X pget-blk 1 0 0) (pos 0) 2 0 1 0
+      ∷ [])
+      1 (pos 0) 0
+      -- One that goes to a waiter does not stand in the queue: block 2, handed over and then returned, comes behind block 1, returned before.
+      ∷ case 0 1
+      (step (X get-blk 1 0 0) (pos 0) 1 0 1 0
+      ∷ step (X get-blk 1 0 0) (pos 0) 2 0 1 0
+      ∷ step (X get-blk 1 0 0) (pos 1) 0 0 2 0
+      ∷ step (X rel-blk 1 2 0) (pos 0) 0 0 2 1
+      ∷ step (X rel-blk 1 1 0) (pos 0) 0 0 2 0
+      ∷ step (X rel-blk 1 2 0) (pos 0) 0 0 2 0
+      ∷ step (X mpl-sts 1 0 0) (pos 0) 0 2 2 0
+      ∷ step (X pget-blk 1 0 0) (pos 0) 1 0 2 0
+      ∷ step (X pget-blk 1 0 0) (pos 0) 2 0 2 0
+      ∷ [])
+      1 (pos 0) 2
       -- A returned block goes straight to the first waiter: it is never free in between.
       ∷ case 0 1
       (step (X get-blk 1 0 0) (pos 0) 1 0 1 0
@@ -1033,9 +1067,9 @@ runAnswers =
 abbrev with-body : (Body → Body) → View → View
 with-body f v = record { body = f (v .body); lines = v .lines }
 
--- the lines of a priority, of an object and of a mailbox changed
+-- the lines of a priority, of an object, of a mailbox and of a pool changed
 abbrev with-ready : ℕ → List ℕ → View → View
-with-ready p l v = record { body = v .body; lines = record { ready = put (v .lines .ready) p l; waiting = v .lines .waiting; mail = v .lines .mail } }
+with-ready p l v = record { body = v .body; lines = record { ready = put (v .lines .ready) p l; waiting = v .lines .waiting; mail = v .lines .mail; free = v .lines .free } }
 
 abbrev with-waiters : Kind → ℕ → List ℕ → View → View
 with-waiters k o l v = record {
@@ -1044,11 +1078,15 @@ with-waiters k o l v = record {
     ready = v .lines .ready;
     waiting = each (λ j. cond (sameKind k j) (put (at (v .lines .waiting) j) o l) (at (v .lines .waiting) j));
     mail = v .lines .mail;
+    free = v .lines .free;
   };
 }
 
 abbrev with-mail : ℕ → List ℕ → View → View
-with-mail m l v = record { body = v .body; lines = record { ready = v .lines .ready; waiting = v .lines .waiting; mail = put (v .lines .mail) m l } }
+with-mail m l v = record { body = v .body; lines = record { ready = v .lines .ready; waiting = v .lines .waiting; mail = put (v .lines .mail) m l; free = v .lines .free } }
+
+abbrev with-free : ℕ → List ℕ → View → View
+with-free p l v = record { body = v .body; lines = record { ready = v .lines .ready; waiting = v .lines .waiting; mail = v .lines .mail; free = put (v .lines .free) p l } }
 
 -- the mailbox in which each message lies, whatever stands there
 abbrev with-marks : List (Option ℕ) → View → View
@@ -1066,7 +1104,7 @@ with-waiter k o p m v = with-waiters k o (2 ∷ []) (with-ready 2 (1 ∷ 5 ∷ [
 abbrev pub with-sleeper : State → View → View
 with-sleeper s v = with-ready 2 (1 ∷ 5 ∷ []) (with-body (change (with-state s) 2) v)
 
--- other blocks in pool 1
+-- other blocks in pool 1, whatever stands in its queue
 abbrev with-blocks : List Bool → View → View
 with-blocks l = with-body (λ b. with-store (with-pools (l ∷ (true ∷ []) ∷ []) (b .store)) b)
 
@@ -1136,6 +1174,19 @@ damages =
     -- It stands in one in which it does not lie: message 1 lies in none, or in the other.
     ∷ told (minus 20) 0 (with-mail 1 (1 ∷ []))
     ∷ told (minus 20) 0 (λ v. with-mail 2 (1 ∷ []) (with-mail 1 [] (with-message 1 v)))
+    -- Each free block is listed once and no other. Of pool 1, whose two blocks are free: block 2 is missing; both are; block 1 is doubled; it
+    -- stands there though it is out. Of pool 2 its one block is missing; it is doubled.
+    ∷ told (minus 24) 1 (with-free 1 (1 ∷ []))
+    ∷ told (minus 24) 1 (with-free 1 [])
+    ∷ told (minus 24) 1 (with-free 1 (1 ∷ 2 ∷ 1 ∷ []))
+    ∷ told (minus 24) 1 (with-blocks (false ∷ true ∷ []))
+    ∷ told (minus 24) 2 (with-free 2 [])
+    ∷ told (minus 24) 2 (with-free 2 (1 ∷ 1 ∷ []))
+    -- Block 1 of the other pool stands in the queue of pool 1, of which block 1 is out. Pool 2 has no block 2, pool 1 no block 3, and none is 0.
+    ∷ told (minus 24) 1 (λ v. with-free 2 [] (with-free 1 (2 ∷ 1 ∷ []) (with-blocks (false ∷ true ∷ []) v)))
+    ∷ told (minus 20) 0 (with-free 2 (1 ∷ 2 ∷ []))
+    ∷ told (minus 20) 0 (with-free 1 (1 ∷ 2 ∷ 3 ∷ []))
+    ∷ told (minus 20) 0 (with-free 1 (0 ∷ 1 ∷ 2 ∷ []))
     -- A sleeper and a dormant task have wake-up count 0; a dormant task has its starting priority.
     ∷ told (minus 20) 0 (λ v. with-body (change (with-wakeups 1) 2) (with-sleeper (waiting asleep) v))
     ∷ told (minus 20) 0 (λ v. with-body (change (with-wakeups 1) 2) (with-sleeper (waiting-suspended (timed 5)) v))
@@ -1178,15 +1229,22 @@ severalIds =
     (λ v. with-waiters pool 2 (4 ∷ []) (with-waiters semaphore 2 (5 ∷ []) (with-ready 3 [] (with-ready 2 (1 ∷ 2 ∷ []) (waits-on 4 pool 2 0 (waits-on 5 semaphore 2 0 v))))))
     -- Messages 2 and 3 are held twice, the one in both mailboxes, the other in one.
     ∷ told (minus 23) 2 (λ v. with-mail 2 (2 ∷ []) (with-mail 1 (3 ∷ 2 ∷ 3 ∷ []) (with-marks (none ∷ some 1 ∷ some 1 ∷ []) v)))
+    -- Of pool 1 block 1 is missing and block 2 doubled, of pool 2 the one block is missing; of pool 2 alone it is doubled.
+    ∷ told (minus 24) 1 (λ v. with-free 2 [] (with-free 1 (2 ∷ 2 ∷ []) v))
+    ∷ told (minus 24) 2 (λ v. with-free 2 (1 ∷ 1 ∷ []) (with-free 1 (2 ∷ 1 ∷ []) v))
     ∷ []
 
 -- message 1 lies in mailbox 1 and does not stand there; message 3 lies and stands in mailbox 2
 abbrev mark-off : View → View
 mark-off v = with-mail 2 (3 ∷ []) (with-marks (some 1 ∷ none ∷ some 2 ∷ []) v)
 
--- and message 3 stands there twice; and task 2 waits beside a nonzero semaphore; and task 5 is missing
+-- and block 1 of pool 2 is missing; and message 3 stands in mailbox 2 twice; and task 2 waits beside a nonzero semaphore; and task 5 is
+-- missing
+abbrev and-unlisted : View → View
+and-unlisted v = with-free 2 [] (mark-off v)
+
 abbrev and-twice : View → View
-and-twice v = with-mail 2 (3 ∷ 3 ∷ []) (mark-off v)
+and-twice v = with-mail 2 (3 ∷ 3 ∷ []) (and-unlisted v)
 
 abbrev and-served : View → View
 and-served v = with-waiter semaphore 2 0 0 (and-twice v)
@@ -1198,26 +1256,36 @@ and-missing v = with-ready 2 (1 ∷ []) (and-served v)
 abbrev pub severalRules : List Damage
 severalRules =
     told (minus 20) 0 mark-off
+    ∷ told (minus 24) 2 and-unlisted
     ∷ told (minus 23) 3 and-twice
     ∷ told (minus 22) 2 and-served
     ∷ told (minus 21) 5 and-missing
-    -- A number out of range anywhere: the clock is 2^48; a task 9, that there is not, stands in a queue, and a message 4 in a mailbox.
+    -- A number out of range anywhere: the clock is 2^48; a task 9, that there is not, stands in a queue, a message 4 in a
+    -- mailbox, and a block 2 of pool 2 among the free ones.
     ∷ told (minus 20) 0 (λ v. with-body (at-clock (2 ^ 48)) (and-missing v))
     ∷ told (minus 20) 0 (λ v. with-ready 2 (1 ∷ 9 ∷ []) (and-missing v))
     ∷ told (minus 20) 0 (λ v. with-mail 1 (4 ∷ []) (and-missing v))
-    -- Without what comes between: a task missing and a message held twice; a message's mark off, and a task missing, or a waiter served.
+    ∷ told (minus 20) 0 (λ v. with-free 2 (2 ∷ []) (and-missing v))
+    -- Without what comes between: a task missing and a message held twice; a message's mark off, and a task missing, or a waiter served; a
+    -- free block missing, and a task missing, a waiter served, or a message held twice.
     ∷ told (minus 21) 5 (λ v. with-ready 2 (1 ∷ 2 ∷ []) (and-twice v))
     ∷ told (minus 21) 5 (λ v. with-ready 2 (1 ∷ 2 ∷ []) (mark-off v))
     ∷ told (minus 22) 2 (λ v. with-waiter semaphore 2 0 0 (mark-off v))
+    ∷ told (minus 21) 5 (λ v. with-ready 2 (1 ∷ 2 ∷ []) (with-free 1 (1 ∷ []) v))
+    ∷ told (minus 22) 2 (λ v. with-waiter semaphore 2 0 0 (with-free 1 (1 ∷ []) v))
+    ∷ told (minus 23) 1 (λ v. with-mail 1 (1 ∷ 1 ∷ []) (with-message 1 (with-free 1 (1 ∷ []) v)))
     -- Task 2 waits on mailbox 1. Message 1 stands there and lies in none: it would be received; it lies there and does not stand there: it
     -- would not.
     ∷ told (minus 22) 2 (λ v. with-mail 1 (1 ∷ []) (with-waiter mailbox 1 0 0 v))
     ∷ told (minus 20) 0 (λ v. mark-off (with-waiter mailbox 1 0 0 v))
+    -- Task 2 waits on pool 1. The marks decide what is free: its blocks are free and do not stand in the queue; they stand there and are out.
+    ∷ told (minus 22) 2 (λ v. with-free 1 [] (with-waiter pool 1 0 0 v))
+    ∷ told (minus 24) 1 (λ v. with-blocks (false ∷ false ∷ []) (with-waiter pool 1 0 0 v))
     ∷ []
 
 -- close to these, but no rule is broken: a waiter on semaphore 1, whose count is 0; one on flag 2 that asks for a bit that is not set; one
 -- beside another mailbox's message; a sleeper with one tick left; the last clock; a message that lies in a mailbox; the most ticks, wake-ups,
--- pattern and mode; the largest word in a cell, and pattern of a flag
+-- pattern and mode; the largest word in a cell, and pattern of a flag; free blocks in another order; a waiter on a pool whose blocks are out
 abbrev pub repairs : List (View → View)
 repairs =
     with-waiter semaphore 1 0 0
@@ -1231,6 +1299,8 @@ repairs =
     ∷ with-waiter flag 1 (2 ^ 32 - 1) 3
     ∷ with-body (change (with-cell (record { code = OK; word = 2 ^ 32 - 1 })) 2)
     ∷ with-body (λ b. with-store (with-flags ((2 ^ 32 - 1) ∷ 5 ∷ []) (b .store)) b)
+    ∷ with-free 1 (2 ∷ 1 ∷ [])
+    ∷ (λ v. with-free 1 [] (with-blocks (false ∷ false ∷ []) (with-waiter pool 1 0 0 v)))
     ∷ []
 
 -- and with handlers open: 15 of them; one, which interrupted task 1, suspended since, or no longer at the head of its queue

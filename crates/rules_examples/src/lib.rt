@@ -8,5 +8,5 @@ ghost use Rattle.rules_examples.specs.BenchSheet.{benchSheet};
 pub fn case_count() -> u32
     ensures { λ r. ⌜ r ≡ length (benchSheet .cases) ⌝ }
 {
-    16
+    17
 }

@@ -14,7 +14,11 @@ returns-2 c = rw (c .match .keys2)
 
 returns-3 : tie.Need-returns-3
 unfolding number
-returns-3 c = let r = c .match .rest in rw (ne-eqb _ 0 (r .0 .1), ne-eqb _ 1 (r .1))
+returns-3 c = rw (c .match .keys3)
+
+returns-4 : tie.Need-returns-4
+unfolding number
+returns-4 c = let r = c .match .rest in rw (ne-eqb _ 0 (r .0 .0 .1), ne-eqb _ 1 (r .0 .1), ne-eqb _ 2 (r .1))
 
 pub code-of-spec : {M : Type 1} → statement M
-code-of-spec = tie.close (tie.spec returns returns-2 returns-3)
+code-of-spec = tie.close (tie.spec returns returns-2 returns-3 returns-4)

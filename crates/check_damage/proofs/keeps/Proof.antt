@@ -13,6 +13,9 @@ unserved-ok-requires c κs = search needs
 message-once-requires : tie.Need-message-once-requires
 message-once-requires c κs = search needs
 
+pool-listed-requires : tie.Need-pool-listed-requires
+pool-listed-requires c κs = search needs
+
 returns : tie.Need-returns
 returns c = rw (c .before .match .keys1) (c .task-placed .ensures)
 
@@ -20,7 +23,10 @@ returns-2 : tie.Need-returns-2
 returns-2 c = rw (c .before .match .keys2) (c .unserved-ok .ensures)
 
 returns-3 : tie.Need-returns-3
-returns-3 c = let r = c .before .match .rest in rw (ne-eqb _ 0 (r .0 .1), ne-eqb _ 1 (r .1)) (c .message-once .ensures)
+returns-3 c = rw (c .before .match .keys3) (c .message-once .ensures)
+
+returns-4 : tie.Need-returns-4
+returns-4 c = let r = c .before .match .rest in rw (ne-eqb _ 0 (r .0 .0 .1), ne-eqb _ 1 (r .0 .1), ne-eqb _ 2 (r .1)) (c .pool-listed .ensures)
 
 pub keeps-spec : {M : Type 1} → statement M
 keeps-spec =
@@ -29,6 +35,8 @@ keeps-spec =
     task-placed-requires
     unserved-ok-requires
     message-once-requires
+    pool-listed-requires
     returns
     returns-2
-    returns-3)
+    returns-3
+    returns-4)

@@ -8,11 +8,11 @@ use borrow.Author.Needs.{needs}
 use Rattle.check_damage.proofs.message_once.Statement.{statement}
 use Rattle.check_damage.proofs.message_once.Tie as tie
 
-mail-links-requires : tie.Need-mail-links-requires
-mail-links-requires c κs = search needs
+links-requires : tie.Need-links-requires
+links-requires c κs = search needs
 
-system-requires : tie.Need-system-requires
-system-requires c κs = search needs
+ids-in-requires : tie.Need-ids-in-requires
+ids-in-requires c κs = search needs
 
 few-requires : tie.Need-few-requires
 few-requires c κs = search needs
@@ -22,9 +22,9 @@ at-most-once-requires c κs = omega (arith, c .few .ensures .1)
 
 returns : tie.Need-returns
 unfolding messageOnce
-returns c = let f = c .before in let s = f .before in let l = s .before in c .at-most-once .ensures ∙ (λ z. atMostOnce (s .system .ensures z) (l .mail-links .ensures .1 z) (l .before .args .j) (mailNode 0) 0 1 (f .few .ensures .0 z))
+returns c = let f = c .before in let s = f .before in let l = s .before in c .at-most-once .ensures ∙ (λ z. atMostOnce (s .ids-in .ensures z) (l .links .ensures .1 z) (l .before .args .j) (mailNode 0) 0 1 (f .few .ensures .0 z))
 
 pub message-once-spec : {M : Type 1} → statement M
 message-once-spec =
     tie.close
-    (tie.spec mail-links-requires system-requires few-requires at-most-once-requires returns)
+    (tie.spec links-requires ids-in-requires few-requires at-most-once-requires returns)

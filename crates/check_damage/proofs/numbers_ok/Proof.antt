@@ -25,7 +25,21 @@ mails-known-requires c κs = search needs
 
 returns-3 : tie.Need-returns-3
 unfolding numbersOk
-returns-3 c = let j = c .before in let i = j .before .before in also (passed (i .before .ranges-ok .ensures) (i .if1 .left)) (also (passed (j .before .tasks-known .ensures) (j .if2 .left)) (c .mails-known .ensures))
+returns-3 c =
+    let j = c .before .before in
+    let i = j .before .before in
+    also (passed (i .before .ranges-ok .ensures) (i .if1 .left)) (also (passed (j .before .tasks-known .ensures) (j .if2 .left)) (simp (failed (c .before .mails-known .ensures) (c .if3 .taken))))
+
+pools-known-requires : tie.Need-pools-known-requires
+pools-known-requires c κs = search needs
+
+returns-4 : tie.Need-returns-4
+unfolding numbersOk
+returns-4 c =
+    let k = c .before in
+    let j = k .before .before in
+    let i = j .before .before in
+    also (passed (i .before .ranges-ok .ensures) (i .if1 .left)) (also (passed (j .before .tasks-known .ensures) (j .if2 .left)) (also (passed (k .before .mails-known .ensures) (k .if3 .left)) (c .pools-known .ensures)))
 
 pub numbers-ok-spec : {M : Type 1} → statement M
 numbers-ok-spec =
@@ -36,4 +50,6 @@ numbers-ok-spec =
     tasks-known-requires
     returns-2
     mails-known-requires
-    returns-3)
+    returns-3
+    pools-known-requires
+    returns-4)

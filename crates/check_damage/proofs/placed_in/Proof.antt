@@ -11,8 +11,8 @@ use Rattle.check_damage.proofs.placed_in.Tie as tie
 links-requires : tie.Need-links-requires
 links-requires c κs = search needs
 
-system-requires : tie.Need-system-requires
-system-requires c κs = search needs
+ids-in-requires : tie.Need-ids-in-requires
+ids-in-requires c κs = search needs
 
 few-requires : tie.Need-few-requires
 few-requires c κs = search needs
@@ -21,8 +21,8 @@ all-right-requires : tie.Need-all-right-requires
 all-right-requires c κs = omega (arith, c .few .ensures .1)
 
 returns : tie.Need-returns
-returns c = let f = c .before in let s = f .before in let l = s .before in let a = l .before .args in c .all-right .ensures ∙ (λ z. every (f .few .ensures .0 z) 1 (λ o. standsRight (s .system .ensures z) (l .links .ensures .1 z) (a .home) (a .t) (a .before + o)))
+returns c = let f = c .before in let s = f .before in let l = s .before in let a = l .before .args in c .all-right .ensures ∙ (λ z. every (f .few .ensures .0 z) 1 (λ o. standsRight (s .ids-in .ensures z) (l .links .ensures .1 z) (a .home) (a .t) (a .before + o)))
 
 pub placed-in-spec : {M : Type 1} → statement M
 placed-in-spec =
-    tie.close (tie.spec links-requires system-requires few-requires all-right-requires returns)
+    tie.close (tie.spec links-requires ids-in-requires few-requires all-right-requires returns)

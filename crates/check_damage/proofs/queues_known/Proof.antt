@@ -12,8 +12,8 @@ use Rattle.check_damage.proofs.queues_known.Tie as tie
 links-requires : tie.Need-links-requires
 links-requires c κs = search needs
 
-system-requires : tie.Need-system-requires
-system-requires c κs = search needs
+ids-in-requires : tie.Need-ids-in-requires
+ids-in-requires c κs = search needs
 
 few-requires : tie.Need-few-requires
 few-requires c κs = search needs
@@ -22,8 +22,8 @@ all-known-requires : tie.Need-all-known-requires
 all-known-requires c κs = omega (arith, c .few .ensures .1)
 
 returns : tie.Need-returns
-returns c = let f = c .before in let s = f .before in let l = s .before in c .all-known .ensures ∙ (λ z. every (f .few .ensures .0 z) 1 (λ o. known (s .system .ensures z) (lineOf (s .system .ensures z) (l .links .ensures .1 z) (l .before .args .before + o))))
+returns c = let f = c .before in let s = f .before in let l = s .before in c .all-known .ensures ∙ (λ z. every (f .few .ensures .0 z) 1 (λ o. known 0 (s .ids-in .ensures z) (lineOf (s .ids-in .ensures z) (l .links .ensures .1 z) (l .before .args .before + o))))
 
 pub queues-known-spec : {M : Type 1} → statement M
 queues-known-spec =
-    tie.close (tie.spec links-requires system-requires few-requires all-known-requires returns)
+    tie.close (tie.spec links-requires ids-in-requires few-requires all-known-requires returns)

@@ -14,12 +14,12 @@ returns : tie.Need-returns
 unfolding accepts
 returns c = simp (failed (c .before .ranges-ok .ensures) (c .if1 .taken))
 
-tasks-queued-requires : tie.Need-tasks-queued-requires
-tasks-queued-requires c κs = search needs
+queued-requires : tie.Need-queued-requires
+queued-requires c κs = search needs
 
 returns-2 : tie.Need-returns-2
 unfolding accepts
-returns-2 c = simp (failed (c .before .tasks-queued .ensures) (c .if2 .taken), and-false)
+returns-2 c = simp (failed (c .before .queued .ensures) (c .if2 .taken), and-false)
 
 ready-marked-requires : tie.Need-ready-marked-requires
 ready-marked-requires c κs = search needs
@@ -28,12 +28,19 @@ returns-3 : tie.Need-returns-3
 unfolding accepts
 returns-3 c = simp (failed (c .before .ready-marked .ensures) (c .if3 .taken), and-false)
 
-mail-queued-requires : tie.Need-mail-queued-requires
-mail-queued-requires c κs = search needs
+queued-requires-2 : tie.Need-queued-requires-2
+queued-requires-2 c κs = search needs
 
 returns-4 : tie.Need-returns-4
 unfolding accepts
-returns-4 c = simp (failed (c .before .mail-queued .ensures) (c .if4 .taken), and-false)
+returns-4 c = simp (failed (c .before .queued2 .ensures) (c .if4 .taken), and-false)
+
+queued-requires-3 : tie.Need-queued-requires-3
+queued-requires-3 c κs = search needs
+
+returns-5 : tie.Need-returns-5
+unfolding accepts
+returns-5 c = simp (failed (c .before .queued3 .ensures) (c .if5 .taken), and-false)
 
 system-requires : tie.Need-system-requires
 system-requires c κs = search needs
@@ -44,20 +51,22 @@ at-most-requires c κs = search needs
 all-unserved-requires : tie.Need-all-unserved-requires
 all-unserved-requires c κs = search needs
 
-returns-5 : tie.Need-returns-5
+returns-6 : tie.Need-returns-6
 unfolding accepts
-returns-5 c =
+returns-6 c =
     let a = c .before in
-    let i4 = a .before .before in
+    let i5 = a .before .before in
+    let i4 = i5 .before .before in
     let i3 = i4 .before .before in
     let i2 = i3 .before .before in
     let i1 = i2 .before .before in
     let r = passed (i1 .before .ranges-ok .ensures) (i1 .if1 .left) in
     also r
-    (also (passed (i2 .before .tasks-queued .ensures) (i2 .if2 .left))
+    (also (passed (i2 .before .queued .ensures) (i2 .if2 .left))
     (also (passed (i3 .before .ready-marked .ensures) (i3 .if3 .left))
-    (also (passed (i4 .before .mail-queued .ensures) (i4 .if4 .left))
-    (loop-is _ (a .before .system .ensures) (a .at-most .ensures) (c .all-unserved .ensures) (few-ranges _ _ r .tasks)))))
+    (also (passed (i4 .before .queued2 .ensures) (i4 .if4 .left))
+    (also (passed (i5 .before .queued3 .ensures) (i5 .if5 .left))
+    (loop-is _ (a .before .system .ensures) (a .at-most .ensures) (c .all-unserved .ensures) (few-ranges _ _ r .tasks))))))
 
 pub accepts-test-spec : {M : Type 1} → statement M
 accepts-test-spec =
@@ -65,13 +74,15 @@ accepts-test-spec =
     (tie.spec
     ranges-ok-requires
     returns
-    tasks-queued-requires
+    queued-requires
     returns-2
     ready-marked-requires
     returns-3
-    mail-queued-requires
+    queued-requires-2
     returns-4
+    queued-requires-3
+    returns-5
     system-requires
     at-most-requires
     all-unserved-requires
-    returns-5)
+    returns-6)

@@ -29,8 +29,8 @@ meets-requires c κs = search needs
 mail-anchor-requires : tie.Need-mail-anchor-requires
 mail-anchor-requires c κs = search needs
 
-mail-first-requires : tie.Need-mail-first-requires
-mail-first-requires c κs = search needs
+first-requires : tie.Need-first-requires
+first-requires c κs = search needs
 
 free-requires : tie.Need-free-requires
 free-requires c κs = search needs
@@ -45,7 +45,7 @@ returns-2 c = let m = c .before .before .before .before in rw (← m .before .be
 
 returns-3 : tie.Need-returns-3
 unfolding waitFree
-returns-3 c = let m = c .before .before in rw (← m .before .before .kind .ensures, m .match .keys3, ← m .before .object .ensures, ← c .before .mail-anchor .ensures, ← c .mail-first .ensures)
+returns-3 c = let m = c .before .before in rw (← m .before .before .kind .ensures, m .match .keys3, ← m .before .object .ensures, ← c .before .mail-anchor .ensures, ← c .first .ensures)
 
 returns-4 : tie.Need-returns-4
 unfolding waitFree
@@ -67,7 +67,7 @@ wait-free-spec =
     mode-requires
     meets-requires
     mail-anchor-requires
-    mail-first-requires
+    first-requires
     free-requires
     returns
     returns-2

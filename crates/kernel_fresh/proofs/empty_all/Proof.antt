@@ -18,17 +18,21 @@ empty-queues-requires-4 c κs = search needs
 empty-queues-requires-5 : tie.Need-empty-queues-requires-5
 empty-queues-requires-5 c κs = search needs
 
-empty-mailboxes-requires : tie.Need-empty-mailboxes-requires
-empty-mailboxes-requires c κs = search needs
+empty-queues-requires-6 : tie.Need-empty-queues-requires-6
+empty-queues-requires-6 c κs = search needs
+
+empty-queues-requires-7 : tie.Need-empty-queues-requires-7
+empty-queues-requires-7 c κs = search needs
 
 returns : tie.Need-returns
 returns c =
-    let p = c .before .before in
+    let x = c .before .before in
+    let p = x .before .before in
     let m = p .before .before in
     let f = m .before .before in
     let s = f .before .before in
     empty-steps _ _ (s .before .before .empty-queues .ensures) (s .empty-queues2 .ensures) (f .empty-queues3 .ensures) (m .empty-queues4 .ensures)
-    (p .empty-queues5 .ensures) (c .empty-mailboxes .ensures)
+    (p .empty-queues5 .ensures) (x .empty-queues6 .ensures) (c .empty-queues7 .ensures)
 
 pub empty-all-spec : {M : Type 1} → statement M
 empty-all-spec =
@@ -39,5 +43,6 @@ empty-all-spec =
     empty-queues-requires-3
     empty-queues-requires-4
     empty-queues-requires-5
-    empty-mailboxes-requires
+    empty-queues-requires-6
+    empty-queues-requires-7
     returns)

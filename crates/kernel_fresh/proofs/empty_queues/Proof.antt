@@ -3,17 +3,17 @@ use Prim.Native.Nat.{_+_}
 use mathlib.Core.Path.{_≡_, refl, _∙_}
 use native.Mathlib.Omega.{arith}
 use borrow.Author.Needs.{needs}
-use Rattle.memory_queues.specs.Moves.{clearedQueue}
+use Rattle.memory_queues.specs.Moves.{emptied as emptiedAt}
 use Rattle.kernel_fresh.specs.Laying.{inTurn}
 use Rattle.kernel_fresh.proofs.Steps.{turn-none, turn-step}
 use Rattle.kernel_fresh.proofs.empty_queues.Statement.{statement}
 use Rattle.kernel_fresh.proofs.empty_queues.Tie as tie
 
 abbrev Inv-loop : tie.InvT-loop
-Inv-loop words₀ first n a₀ left₀ words a left = (inTurn clearedQueue left a words ≡ inTurn clearedQueue n first words₀) × (a + left ≡ n + first)
+Inv-loop words₀ rings first n a₀ left₀ words a left = (inTurn (emptiedAt rings) left a words ≡ inTurn (emptiedAt rings) n first words₀) × (a + left ≡ n + first)
 
 abbrev μ-loop : tie.MeasureT-loop
-μ-loop words₀ first n a₀ left₀ words a left = left
+μ-loop words₀ rings first n a₀ left₀ words a left = left
 
 loop-holds : tie.Need-loop-holds Inv-loop μ-loop
 loop-holds c = (refl, omega arith)

@@ -18,12 +18,6 @@ word-at-requires c κs = search needs
 set-size-requires : tie.Need-set-size-requires
 set-size-requires c κs = search needs
 
-all-free-requires : tie.Need-all-free-requires
-all-free-requires c κs = search needs
-
-set-free-requires : tie.Need-set-free-requires
-set-free-requires c κs = search needs
-
 returns : tie.Need-returns
 unfolding laidPool
 returns c = cc
@@ -37,6 +31,4 @@ lay-pool-spec =
     mul-word-at
     word-at-requires
     set-size-requires
-    all-free-requires
-    set-free-requires
     returns)

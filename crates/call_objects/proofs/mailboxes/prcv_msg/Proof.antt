@@ -8,8 +8,8 @@ use Rattle.call_objects.proofs.mailboxes.prcv_msg.Tie as tie
 mail-anchor-requires : tie.Need-mail-anchor-requires
 mail-anchor-requires c κs = search needs
 
-mail-first-requires : tie.Need-mail-first-requires
-mail-first-requires c κs = search needs
+first-requires : tie.Need-first-requires
+first-requires c κs = search needs
 
 refuse-requires : tie.Need-refuse-requires
 refuse-requires c κs = search needs
@@ -17,10 +17,10 @@ refuse-requires c κs = search needs
 returns : tie.Need-returns
 unfolding number
 returns c =
-    let first = c .before in
-    let at-mail-first = first .before in
-    let at-mail-anchor = at-mail-first .before in
-    prcv-none _ (at-mail-anchor .mail-anchor .ensures) (at-mail-first .mail-first .ensures) (first .if1 .taken) (c .refuse .ensures)
+    let empty = c .before in
+    let at-first-message = empty .before in
+    let at-mail-anchor = at-first-message .before in
+    prcv-none _ (at-mail-anchor .mail-anchor .ensures) (at-first-message .first .ensures) (empty .if1 .taken) (c .refuse .ensures)
 
 receive-requires : tie.Need-receive-requires
 receive-requires c κs = search needs
@@ -31,10 +31,10 @@ gives-requires c κs = search needs
 returns-2 : tie.Need-returns-2
 returns-2 c =
     let at-receive = c .before in
-    let first = at-receive .before .before .before in
-    let at-mail-first = first .before in
-    let at-mail-anchor = at-mail-first .before in
-    takes _ (at-mail-anchor .mail-anchor .ensures) (at-mail-first .mail-first .ensures) _ (first .if1 .left) (at-receive .receive .ensures) (c .gives .ensures)
+    let empty = at-receive .before .before .before in
+    let at-first-message = empty .before in
+    let at-mail-anchor = at-first-message .before in
+    takes _ (at-mail-anchor .mail-anchor .ensures) (at-first-message .first .ensures) _ (empty .if1 .left) (at-receive .receive .ensures) (c .gives .ensures)
 
 pub prcv-msg-spec : {M : Type 1} → statement M
-prcv-msg-spec = tie.close (tie.spec mail-anchor-requires mail-first-requires refuse-requires returns receive-requires gives-requires returns-2)
+prcv-msg-spec = tie.close (tie.spec mail-anchor-requires first-requires refuse-requires returns receive-requires gives-requires returns-2)

@@ -7,8 +7,8 @@ use Rattle.call_objects.proofs.mailboxes.rcv_msg.Tie as tie
 mail-anchor-requires : tie.Need-mail-anchor-requires
 mail-anchor-requires c κs = search needs
 
-mail-first-requires : tie.Need-mail-first-requires
-mail-first-requires c κs = search needs
+first-requires : tie.Need-first-requires
+first-requires c κs = search needs
 
 wait-requires : tie.Need-wait-requires
 wait-requires c κs = search needs
@@ -19,10 +19,10 @@ waits-requires c κs = search needs
 returns : tie.Need-returns
 returns c =
     let at-wait = c .before in
-    let first = at-wait .before .before in
-    let at-mail-first = first .before in
-    let at-mail-anchor = at-mail-first .before in
-    rcv-waits _ (at-mail-anchor .mail-anchor .ensures) (at-mail-first .mail-first .ensures) _ (first .if1 .taken) (at-wait .wait .ensures) (c .waits .ensures)
+    let empty = at-wait .before .before in
+    let at-first-message = empty .before in
+    let at-mail-anchor = at-first-message .before in
+    rcv-waits _ (at-mail-anchor .mail-anchor .ensures) (at-first-message .first .ensures) _ (empty .if1 .taken) (at-wait .wait .ensures) (c .waits .ensures)
 
 receive-requires : tie.Need-receive-requires
 receive-requires c κs = search needs
@@ -33,10 +33,10 @@ gives-requires c κs = search needs
 returns-2 : tie.Need-returns-2
 returns-2 c =
     let at-receive = c .before in
-    let first = at-receive .before .before .before in
-    let at-mail-first = first .before in
-    let at-mail-anchor = at-mail-first .before in
-    takes _ (at-mail-anchor .mail-anchor .ensures) (at-mail-first .mail-first .ensures) _ (first .if1 .left) (at-receive .receive .ensures) (c .gives .ensures)
+    let empty = at-receive .before .before .before in
+    let at-first-message = empty .before in
+    let at-mail-anchor = at-first-message .before in
+    takes _ (at-mail-anchor .mail-anchor .ensures) (at-first-message .first .ensures) _ (empty .if1 .left) (at-receive .receive .ensures) (c .gives .ensures)
 
 pub rcv-msg-spec : {M : Type 1} → statement M
-rcv-msg-spec = tie.close (tie.spec mail-anchor-requires mail-first-requires wait-requires waits-requires returns receive-requires gives-requires returns-2)
+rcv-msg-spec = tie.close (tie.spec mail-anchor-requires first-requires wait-requires waits-requires returns receive-requires gives-requires returns-2)

@@ -4,11 +4,8 @@ use borrow.Author.Needs.{needs}
 use Rattle.call_objects.proofs.pools.get_blk.Statement.{statement}
 use Rattle.call_objects.proofs.pools.get_blk.Tie as tie
 
-free-requires : tie.Need-free-requires
-free-requires c κs = search needs
-
-lowest-block-requires : tie.Need-lowest-block-requires
-lowest-block-requires c κs = search needs
+first-block-requires : tie.Need-first-block-requires
+first-block-requires c κs = search needs
 
 wait-requires : tie.Need-wait-requires
 wait-requires c κs = search needs
@@ -20,9 +17,8 @@ returns : tie.Need-returns
 returns c =
     let at-wait = c .before in
     let first = at-wait .before .before in
-    let at-lowest-block = first .before in
-    let at-free = at-lowest-block .before in
-    get-waits _ (at-free .free .ensures) (at-lowest-block .lowest-block .ensures) _ (first .if1 .taken) (at-wait .wait .ensures) (c .waits .ensures)
+    let at-first-block = first .before in
+    get-waits _ (at-first-block .first-block .ensures) _ (first .if1 .taken) (at-wait .wait .ensures) (c .waits .ensures)
 
 mark-block-requires : tie.Need-mark-block-requires
 mark-block-requires c κs = search needs
@@ -34,9 +30,8 @@ returns-2 : tie.Need-returns-2
 returns-2 c =
     let at-mark-block = c .before in
     let first = at-mark-block .before .before in
-    let at-lowest-block = first .before in
-    let at-free = at-lowest-block .before in
-    takes _ (at-free .free .ensures) (at-lowest-block .lowest-block .ensures) _ (first .if1 .left) (at-mark-block .mark-block .ensures) (c .gives .ensures)
+    let at-first-block = first .before in
+    takes _ (at-first-block .first-block .ensures) _ (first .if1 .left) (at-mark-block .mark-block .ensures) (c .gives .ensures)
 
 pub get-blk-spec : {M : Type 1} → statement M
-get-blk-spec = tie.close (tie.spec free-requires lowest-block-requires wait-requires waits-requires returns mark-block-requires gives-requires returns-2)
+get-blk-spec = tie.close (tie.spec first-block-requires wait-requires waits-requires returns mark-block-requires gives-requires returns-2)

@@ -5,11 +5,8 @@ use borrow.Author.Needs.{needs}
 use Rattle.call_objects.proofs.pools.pget_blk.Statement.{statement}
 use Rattle.call_objects.proofs.pools.pget_blk.Tie as tie
 
-free-requires : tie.Need-free-requires
-free-requires c κs = search needs
-
-lowest-block-requires : tie.Need-lowest-block-requires
-lowest-block-requires c κs = search needs
+first-block-requires : tie.Need-first-block-requires
+first-block-requires c κs = search needs
 
 refuse-requires : tie.Need-refuse-requires
 refuse-requires c κs = search needs
@@ -18,9 +15,8 @@ returns : tie.Need-returns
 unfolding number
 returns c =
     let first = c .before in
-    let at-lowest-block = first .before in
-    let at-free = at-lowest-block .before in
-    pget-none _ (at-free .free .ensures) (at-lowest-block .lowest-block .ensures) (first .if1 .taken) (c .refuse .ensures)
+    let at-first-block = first .before in
+    pget-none _ (at-first-block .first-block .ensures) (first .if1 .taken) (c .refuse .ensures)
 
 mark-block-requires : tie.Need-mark-block-requires
 mark-block-requires c κs = search needs
@@ -32,9 +28,8 @@ returns-2 : tie.Need-returns-2
 returns-2 c =
     let at-mark-block = c .before in
     let first = at-mark-block .before .before in
-    let at-lowest-block = first .before in
-    let at-free = at-lowest-block .before in
-    takes _ (at-free .free .ensures) (at-lowest-block .lowest-block .ensures) _ (first .if1 .left) (at-mark-block .mark-block .ensures) (c .gives .ensures)
+    let at-first-block = first .before in
+    takes _ (at-first-block .first-block .ensures) _ (first .if1 .left) (at-mark-block .mark-block .ensures) (c .gives .ensures)
 
 pub pget-blk-spec : {M : Type 1} → statement M
-pget-blk-spec = tie.close (tie.spec free-requires lowest-block-requires refuse-requires returns mark-block-requires gives-requires returns-2)
+pget-blk-spec = tie.close (tie.spec first-block-requires refuse-requires returns mark-block-requires gives-requires returns-2)

@@ -10,7 +10,7 @@ use Rattle.check_damage.proofs.lines.all_known.Statement.{statement}
 use Rattle.check_damage.proofs.lines.all_known.Tie as tie
 
 abbrev Inv-loop : tie.InvT-loop
-Inv-loop links n before count o₀ o = Passing (λ o. known n (lineOf n (nexts links) (before + o))) count o
+Inv-loop links n before count o₀ o = Passing (λ o. known 0 n (lineOf n (nexts links) (before + o))) count o
 
 abbrev μ-loop : tie.MeasureT-loop
 μ-loop links n before count o₀ o = count - o

@@ -21,12 +21,16 @@ with-bit-requires c κs = search needs
 set-free-requires : tie.Need-set-free-requires
 set-free-requires c κs = search needs
 
+list-block-requires : tie.Need-list-block-requires
+list-block-requires c κs = search needs
+
 returns-3 : tie.Need-returns-3
 returns-3 c =
-    let w = c .before in
+    let s = c .before .before in
+    let w = s .before in
     let f = w .before .before in
     let i = f .before .before in
-    block-in _ _ _ _ (i .before .if1 .left) (i .if2 .left) (f .free .ensures) (w .with-bit .ensures) (c .set-free .ensures)
+    block-in _ _ _ _ (i .before .if1 .left) (i .if2 .left) (f .free .ensures) (w .with-bit .ensures) (s .set-free .ensures) (c .list-block .ensures)
 
 pub mark-block-spec : {M : Type 1} → statement M
 mark-block-spec =
@@ -38,4 +42,5 @@ mark-block-spec =
     sub-with-bit
     with-bit-requires
     set-free-requires
+    list-block-requires
     returns-3)

@@ -8,11 +8,11 @@ set-mark-requires c κs = search needs
 mail-anchor-requires : tie.Need-mail-anchor-requires
 mail-anchor-requires c κs = search needs
 
-mail-push-requires : tie.Need-mail-push-requires
-mail-push-requires c κs = search needs
+link-requires : tie.Need-link-requires
+link-requires c κs = search needs
 
 returns : tie.Need-returns
 returns c = ((cc), c .before .before .before .set-mark .ensures)
 
 pub post-spec : {M : Type 1} → statement M
-post-spec = tie.close (tie.spec set-mark-requires mail-anchor-requires mail-push-requires returns)
+post-spec = tie.close (tie.spec set-mark-requires mail-anchor-requires link-requires returns)
