@@ -19,10 +19,10 @@ extern "C" {
 
 /* ---- the state */
 
-#define OKROZUMBA_STATE_WORDS 1183
+#define OKROZUMBA_STATE_WORDS 1713
 #define OKROZUMBA_MESSAGES 256
 
-/* The kernel's memory, 5752 bytes. Only the functions below give its words a meaning. A copy of it is a second kernel in the same state. */
+/* The kernel's memory, 7876 bytes. Only the functions below give its words a meaning. A copy of it is a second kernel in the same state. */
 typedef struct okrozumba_state {
     uint32_t words[OKROZUMBA_STATE_WORDS];
     uint32_t messages[OKROZUMBA_MESSAGES];
@@ -63,8 +63,8 @@ enum {
     OKROZUMBA_SND_MSG = 20,  /* mailbox, message */
     OKROZUMBA_RCV_MSG = 21,  /* T, mailbox; w1 the message */
     OKROZUMBA_PRCV_MSG = 22, /* mailbox; w1 the message */
-    OKROZUMBA_GET_BLK = 23,  /* T, pool; w1 the block */
-    OKROZUMBA_PGET_BLK = 24, /* pool; w1 the block */
+    OKROZUMBA_GET_BLK = 23,  /* T, pool; w1 the block, the one that is free the longest */
+    OKROZUMBA_PGET_BLK = 24, /* pool; w1 the same */
     OKROZUMBA_REL_BLK = 25,  /* pool, block */
     OKROZUMBA_GET_TID = 26,  /* w1 the running task */
     OKROZUMBA_TSK_STS = 27,  /* task; w1 its state, w2 its priority */
@@ -109,10 +109,11 @@ enum {
     OKROZUMBA_H_NEST = -7,        /* an entry while 15 handlers are open */
     OKROZUMBA_H_ILBLK = -10,      /* block number outside the pool, or free */
     /* The state is damaged; the first of these that applies. */
-    OKROZUMBA_H_NUMBER = -20,     /* a number out of range anywhere, or any breach but the next three; w1 0 */
+    OKROZUMBA_H_NUMBER = -20,     /* a number out of range anywhere, or any breach but the next four; w1 0 */
     OKROZUMBA_H_QUEUE = -21,      /* a task missing from, doubled in or foreign to a queue; w1 the smallest such task */
     OKROZUMBA_H_SERVED = -22,     /* a waiter on an object, first in line or not, beside what would serve it; w1 the smallest such waiter */
     OKROZUMBA_H_TWICE = -23,      /* a message held twice; w1 the smallest such message */
+    OKROZUMBA_H_FREE = -24,       /* a free block missing from, doubled in or foreign to its pool's queue; w1 the smallest such pool */
     OKROZUMBA_E_TPRI = -1830,     /* priority outside 1..P (rot_rdq: 0..P) */
     OKROZUMBA_E_ILTIME = -1831,   /* wai_tsk time below -1 */
     OKROZUMBA_E_SELF = -2097,     /* ter_tsk, sus_tsk or wup_tsk on oneself, task context */
@@ -185,7 +186,7 @@ okrozumba_outcome okrozumba_start(const uint8_t *setup, size_t setup_bytes, uint
                                   uint32_t messages[OKROZUMBA_MESSAGES]);
 
 /* A call from a context (OKROZUMBA_TASK, OKROZUMBA_HANDLER) by its number; words that the call does not take are ignored. On a damaged
-   state: H_NUMBER to H_TWICE with its w1, all else 0, and the state as it was. It looks for damage itself. */
+   state: H_NUMBER to H_FREE with its w1, all else 0, and the state as it was. It looks for damage itself. */
 okrozumba_answer okrozumba_call(uint32_t words[OKROZUMBA_STATE_WORDS], uint32_t messages[OKROZUMBA_MESSAGES], int32_t context,
                                 int32_t number, int32_t a, int32_t b, int32_t c);
 
@@ -199,7 +200,7 @@ okrozumba_answer okrozumba_enter(uint32_t words[OKROZUMBA_STATE_WORDS], const ui
 /* A handler returns; behind the outermost the best ready task runs. On a damaged state: as okrozumba_call. It looks for damage itself. */
 okrozumba_answer okrozumba_leave(uint32_t words[OKROZUMBA_STATE_WORDS], const uint32_t messages[OKROZUMBA_MESSAGES]);
 
-/* Reads the answer cell of a task. On a damaged state H_NUMBER to H_TWICE, then for a bad id E_NOEXS, each with word 0. It looks for damage
+/* Reads the answer cell of a task. On a damaged state H_NUMBER to H_FREE, then for a bad id E_NOEXS, each with word 0. It looks for damage
    itself. */
 okrozumba_reading okrozumba_cell(const uint32_t words[OKROZUMBA_STATE_WORDS], const uint32_t messages[OKROZUMBA_MESSAGES], int32_t task);
 

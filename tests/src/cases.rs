@@ -1,4 +1,4 @@
-//! The bench sheet of the paper, its further cases and those of requests K2 and K5, as data: what a kernel must answer, word by word.
+//! The bench sheet of the paper, its further cases and those of requests K2, K5 and K7, as data: what a kernel must answer, word by word.
 use crate::plain::{Answer, Event};
 use crate::setup::{self, Setup};
 
@@ -55,7 +55,7 @@ const fn waits(wish: i32, mode: i32) -> Step {
 const START_3: Step = X(1, [3, 0, 0], runs(0, 3));
 
 /// On the sheet's setup.
-const CASES: [(&str, &[Step]); 38] = [
+const CASES: [(&str, &[Step]); 41] = [
     ("B1", &[Running(1)]),
     ("B2", &[X(1, [3, 0, 0], runs(0, 3))]),
     (
@@ -385,6 +385,42 @@ const CASES: [(&str, &[Step]); 38] = [
             Leave(only(0, 2)),
             X(9, [0, 0, 0], runs(1, 0)),
             X(16, [1, 1, 0], only(-2629, 0)),
+        ],
+    ),
+    (
+        "a grant takes the block longest free",
+        &[
+            X(24, [1, 0, 0], words(1, 0)),
+            X(24, [1, 0, 0], words(2, 0)),
+            X(25, [1, 2, 0], code(0)),
+            X(25, [1, 1, 0], code(0)),
+            X(31, [1, 0, 0], words(0, 2)),
+            X(24, [1, 0, 0], words(2, 0)),
+            X(24, [1, 0, 0], words(1, 0)),
+        ],
+    ),
+    (
+        "one that was never out is free longer than a returned one",
+        &[
+            X(23, [1, 0, 0], words(1, 0)),
+            X(25, [1, 1, 0], code(0)),
+            X(25, [1, 1, 0], code(-10)),
+            X(23, [1, 0, 0], words(2, 0)),
+            H(24, [1, 0, 0], words(1, 0)),
+        ],
+    ),
+    (
+        "a block returned to a waiter is not free between",
+        &[
+            START_3,
+            X(23, [1, 0, 0], words(1, 0)),
+            X(23, [1, 0, 0], words(2, 0)),
+            X(23, [1, 0, 0], runs(1, 1)),
+            X(25, [1, 2, 0], releases(3, 1)),
+            Cell(3, 0, 2),
+            X(25, [1, 1, 0], code(0)),
+            X(25, [1, 2, 0], code(0)),
+            X(24, [1, 0, 0], words(1, 0)),
         ],
     ),
 ];

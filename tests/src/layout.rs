@@ -45,6 +45,10 @@ pub const MAIL_LINKS: Links = Links {
     next: Column(625),
     prev: Column(898),
 };
+pub const BLOCK_LINKS: Links = Links {
+    next: Column(1183),
+    prev: Column(1448),
+};
 
 /// Anchors: the node before the first of each kind of queue.
 const READY_ANCHORS: u32 = 32;
@@ -53,10 +57,19 @@ const FLAG_ANCHORS: u32 = 64;
 const MAILBOX_ANCHORS: u32 = 80;
 const POOL_ANCHORS: u32 = 96;
 const MAIL_ANCHORS: u32 = 256;
+const FREE_ANCHORS: u32 = 256;
+
+/// Nodes of each pool, whatever its number of blocks.
+const POOL_NODES: u32 = 32;
 
 /// The node from which a mailbox's list begins.
 pub const fn mail_anchor(mailbox: u32) -> u32 {
     MAIL_ANCHORS + mailbox
+}
+
+/// The node before a pool's first block: block k of the pool is the k-th behind it.
+const fn nodes_before(pool: u32) -> u32 {
+    POOL_NODES * (pool - 1)
 }
 
 /// Entries of the system's column, and the greatest number of each thing.
@@ -182,6 +195,13 @@ impl Reader<'_> {
             .collect()
     }
 
+    /// The free blocks of a pool. The nodes of all pools are ids; one of an earlier pool is shown as 0, one of a later pool is too great.
+    fn free(&self, pool: u32, pools: u32) -> Vec<u32> {
+        let nodes = self.queue(BLOCK_LINKS, FREE_ANCHORS + pool, POOL_NODES * pools);
+        let block = |node: u32| node.saturating_sub(nodes_before(pool));
+        nodes.into_iter().map(block).collect()
+    }
+
     /// With no handler open the word is no part of the state.
     fn interrupted(&self) -> Option<u32> {
         let task = self.at(HANDLING, INTERRUPTED);
@@ -218,6 +238,7 @@ impl Reader<'_> {
             mailbox_waiters: of_tasks(MAILBOX_ANCHORS, mailboxes),
             pool_waiters: of_tasks(POOL_ANCHORS, pools),
             mail: self.queues(MAIL_LINKS, MAIL_ANCHORS, mailboxes, messages),
+            free: (1..=pools).map(|pool| self.free(pool, pools)).collect(),
         })
     }
 }
@@ -240,7 +261,7 @@ impl Reader<'_> {
             .all(|(anchor, queue)| self.goes_back(links, anchor, queue))
     }
 
-    /// An id that stands in no queue leads nowhere; its backward link is no part of the state.
+    /// A node that stands in no queue leads nowhere; its backward link is no part of the state.
     fn rest_unlinked(&self, links: Links, count: u32, queues: &[&Queues]) -> bool {
         (1..=count).all(|id| {
             let stands = queues
@@ -252,6 +273,7 @@ impl Reader<'_> {
 
     /// Of a picture that is sound: what of the memory says once more what its queues say.
     fn agrees(&self, p: &Picture) -> Result<(), Breach> {
+        let free = free_nodes(p);
         let kinds = [
             (TASK_LINKS, READY_ANCHORS, &p.ready),
             (TASK_LINKS, SEMAPHORE_ANCHORS, &p.semaphore_waiters),
@@ -259,13 +281,15 @@ impl Reader<'_> {
             (TASK_LINKS, MAILBOX_ANCHORS, &p.mailbox_waiters),
             (TASK_LINKS, POOL_ANCHORS, &p.pool_waiters),
             (MAIL_LINKS, MAIL_ANCHORS, &p.mail),
+            (BLOCK_LINKS, FREE_ANCHORS, &free),
         ];
         let back = kinds
             .iter()
             .all(|(links, anchors, queues)| self.go_back(*links, *anchors, queues));
         let (tasks, messages) = (p.tasks.len() as u32, p.messages.len() as u32);
         let rest = self.rest_unlinked(TASK_LINKS, tasks, &p.task_queues())
-            && self.rest_unlinked(MAIL_LINKS, messages, &[&p.mail]);
+            && self.rest_unlinked(MAIL_LINKS, messages, &[&p.mail])
+            && self.rest_unlinked(BLOCK_LINKS, block_nodes(p), &[&free]);
         let marked = self.at(NONEMPTY, 0) == nonempty(&p.ready);
         match (back, rest, marked) {
             (false, _, _) => Err(Breach::number(BACKWARD_RULE)),
@@ -274,6 +298,20 @@ impl Reader<'_> {
             _ => Ok(()),
         }
     }
+}
+
+/// The nodes of all pools.
+fn block_nodes(p: &Picture) -> u32 {
+    POOL_NODES * p.pools.len() as u32
+}
+
+/// The queues of free blocks as the memory has them.
+pub fn free_nodes(p: &Picture) -> Queues {
+    let nodes = |(pool, queue): (u32, &Vec<u32>)| {
+        let node = |block: &u32| nodes_before(pool) + block;
+        queue.iter().map(node).collect()
+    };
+    (1..).zip(&p.free).map(nodes).collect()
 }
 
 fn reader(state: &State) -> Reader<'_> {
@@ -289,7 +327,7 @@ pub fn seen(state: &State) -> Result<Picture, Breach> {
 }
 
 /// The sound state that a kernel's memory shows; else the first rule broken, at the smallest id: numbers, tasks in queues, waiters,
-/// messages, and then what the layout says twice.
+/// messages, free blocks, and then what the layout says twice.
 pub fn shown(state: &State) -> Result<Picture, Breach> {
     let picture = seen(state)?;
     picture.sound()?;
@@ -402,6 +440,9 @@ impl Writer {
         for id in 1..=p.messages.len() as u32 {
             self.put(MAIL_LINKS.next, id, 0);
         }
+        for node in 1..=block_nodes(p) {
+            self.put(BLOCK_LINKS.next, node, 0);
+        }
         self.put(NONEMPTY, 0, nonempty(&p.ready));
         self.queues(TASK_LINKS, READY_ANCHORS, &p.ready);
         self.queues(TASK_LINKS, SEMAPHORE_ANCHORS, &p.semaphore_waiters);
@@ -409,6 +450,7 @@ impl Writer {
         self.queues(TASK_LINKS, MAILBOX_ANCHORS, &p.mailbox_waiters);
         self.queues(TASK_LINKS, POOL_ANCHORS, &p.pool_waiters);
         self.queues(MAIL_LINKS, MAIL_ANCHORS, &p.mail);
+        self.queues(BLOCK_LINKS, FREE_ANCHORS, &free_nodes(p));
     }
 }
 

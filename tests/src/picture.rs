@@ -1,5 +1,5 @@
 //! A state as the paper's picture: what is kept of each task and object, and the queues as lists. Whether a picture is a sound state is
-//! decided here by "A sound state" of the paper alone, and what is told of one that is not by request K6 alone.
+//! decided here by "A sound state" of the paper alone, and what is told of one that is not by requests K6 and K7 alone.
 use std::fmt;
 
 /// What a task can wait on, by id.
@@ -71,7 +71,7 @@ pub struct Picture {
     pub mailboxes: u32,
     /// The mailbox of each message, or 0.
     pub messages: Vec<u32>,
-    /// Which blocks of each pool are free.
+    /// Which blocks of each pool are free, by their marks.
     pub pools: Vec<Vec<bool>>,
     pub clock: u64,
     /// Handlers that are open.
@@ -86,6 +86,8 @@ pub struct Picture {
     pub pool_waiters: Queues,
     /// The messages of each mailbox.
     pub mail: Queues,
+    /// The free blocks of each pool.
+    pub free: Queues,
 }
 
 /// A rule in words.
@@ -98,7 +100,7 @@ pub const BACKWARD_RULE: Rule = "backward link";
 pub const UNLINKED_RULE: Rule = "link of who stands nowhere";
 pub const NONEMPTY_RULE: Rule = "word of nonempty ready queues";
 
-/// A number out of range anywhere, or any breach but those of the other three; its id is 0.
+/// A number out of range anywhere, or any breach but those of the other four; its id is 0.
 pub const H_NUMBER: i32 = -20;
 /// A task missing from, doubled in or foreign to a queue.
 pub const H_QUEUE: i32 = -21;
@@ -106,7 +108,9 @@ pub const H_QUEUE: i32 = -21;
 pub const H_SERVED: i32 = -22;
 /// A message held twice.
 pub const H_TWICE: i32 = -23;
-pub const DAMAGE_CODES: [i32; 4] = [H_NUMBER, H_QUEUE, H_SERVED, H_TWICE];
+/// A pool's free block missing, doubled or foreign.
+pub const H_FREE: i32 = -24;
+pub const DAMAGE_CODES: [i32; 5] = [H_NUMBER, H_QUEUE, H_SERVED, H_TWICE, H_FREE];
 
 /// What is told of a state that is not sound: the first rule broken, by its code, and the smallest id that breaks it.
 #[derive(Clone, Copy, PartialEq, Eq, Debug)]
@@ -141,7 +145,7 @@ struct IdRule {
 }
 
 /// In the order in which they are tried, where every number is in its range.
-const ID_RULES: [IdRule; 3] = [
+const ID_RULES: [IdRule; 4] = [
     IdRule {
         code: H_QUEUE,
         rule: "who stands in a queue",
@@ -159,6 +163,12 @@ const ID_RULES: [IdRule; 3] = [
         rule: "message held twice",
         ids: |p| p.messages.len(),
         broken: Picture::held_twice,
+    },
+    IdRule {
+        code: H_FREE,
+        rule: "free blocks in their queue",
+        ids: |p| p.pools.len(),
+        broken: Picture::lists_wrong,
     },
 ];
 
@@ -196,7 +206,7 @@ enum Place {
     On(Object),
 }
 
-/// Whether a task belongs anywhere, how often it stands there, and how often elsewhere.
+/// Whether a task or a block belongs anywhere, how often it stands there, and how often elsewhere.
 pub struct Stands {
     belongs: bool,
     at_home: usize,
@@ -214,6 +224,11 @@ impl Stands {
 
     pub fn foreign(&self) -> bool {
         self.elsewhere > 0
+    }
+
+    /// Right is once where it belongs and nowhere else.
+    fn wrong(&self) -> bool {
+        self.missing() || self.doubled() || self.foreign()
     }
 }
 
@@ -357,7 +372,12 @@ impl Picture {
         for queues in self.task_queues() {
             keep(ids(queues, self.tasks.len()), "id in a queue")?;
         }
-        keep(ids(&self.mail, self.messages.len()), "id in a mailbox")
+        keep(ids(&self.mail, self.messages.len()), "id in a mailbox")?;
+        let mut blocks = self.free.iter().zip(&self.pools);
+        let own = |(queue, pool): (&Vec<u32>, &Vec<bool>)| {
+            queue.iter().all(|block| numbered(*block, pool.len()))
+        };
+        keep(blocks.all(own), "block in a free queue")
     }
 }
 
@@ -416,10 +436,8 @@ impl Picture {
         stands
     }
 
-    /// A task stands once where it belongs and nowhere else.
     fn stands_wrong(&self, id: u32) -> bool {
-        let stands = self.stands(id);
-        stands.missing() || stands.doubled() || stands.foreign()
+        self.stands(id).wrong()
     }
 
     /// Whether a task waits for an object and is the first in line.
@@ -452,6 +470,25 @@ impl Picture {
     /// All mailboxes taken together.
     fn held_twice(&self, message: u32) -> bool {
         self.held(message).sum::<usize>() > 1
+    }
+
+    /// How each block of a pool stands in its queue: one that is free belongs there, any other is foreign.
+    pub fn blocks(&self, pool: u32) -> impl Iterator<Item = Stands> + '_ {
+        let queue = at(&self.free, pool);
+        let stands = move |(block, free): (u32, &bool)| {
+            let listed = times(queue, block);
+            Stands {
+                belongs: *free,
+                at_home: if *free { listed } else { 0 },
+                elsewhere: if *free { 0 } else { listed },
+            }
+        };
+        (1..).zip(at(&self.pools, pool)).map(stands)
+    }
+
+    /// The marks decide what is free.
+    fn lists_wrong(&self, pool: u32) -> bool {
+        self.blocks(pool).any(|block| block.wrong())
     }
 }
 

@@ -67,6 +67,12 @@ struct Message {
 }
 
 #[derive(Clone, Debug)]
+struct Block {
+    free: bool,
+    arrival: u64,
+}
+
+#[derive(Clone, Debug)]
 pub struct Plain {
     priorities: u32,
     tasks: Vec<Kept>,
@@ -74,7 +80,7 @@ pub struct Plain {
     flags: Vec<u32>,
     mailboxes: u32,
     messages: Vec<Message>,
-    pools: Vec<Vec<bool>>,
+    pools: Vec<Vec<Block>>,
     clock: u64,
     /// Handlers that are open.
     depth: u32,
@@ -133,6 +139,15 @@ fn listed(mut numbered: Vec<(u64, u32)>) -> Vec<u32> {
     numbered.into_iter().map(|(_, id)| id).collect()
 }
 
+/// Blocks with such marks, and no number yet.
+fn blocks_of(free: &[bool]) -> Vec<Block> {
+    let block = |free: &bool| Block {
+        free: *free,
+        arrival: 0,
+    };
+    free.iter().map(block).collect()
+}
+
 // ---- a fresh kernel
 
 impl Plain {
@@ -167,7 +182,7 @@ impl Plain {
             pools: setup
                 .pools
                 .iter()
-                .map(|blocks| vec![true; *blocks as usize])
+                .map(|blocks| blocks_of(&vec![true; *blocks as usize]))
                 .collect(),
             clock: 0,
             depth: 0,
@@ -178,6 +193,9 @@ impl Plain {
             if task.1 {
                 plain.make_ready(id);
             }
+        }
+        for (pool, blocks) in (1..).zip(&setup.pools) {
+            (1..=*blocks).for_each(|block| plain.free(pool, block));
         }
         plain
     }
@@ -205,7 +223,7 @@ impl Plain {
                     arrival: 0,
                 })
                 .collect(),
-            pools: p.pools.clone(),
+            pools: p.pools.iter().map(|free| blocks_of(free)).collect(),
             clock: p.clock,
             depth: p.depth,
             interrupted: p.interrupted,
@@ -216,6 +234,9 @@ impl Plain {
         }
         for id in p.mail.iter().flatten() {
             plain.messages[at(*id)].arrival = plain.number();
+        }
+        for (pool, queue) in (1..).zip(&p.free) {
+            queue.iter().for_each(|block| plain.free(pool, *block));
         }
         plain
     }
@@ -248,7 +269,8 @@ impl Plain {
     /// Whether there is such a block and it isn't free.
     pub fn is_out(&self, pool: i32, block: u32) -> bool {
         let there = self.pools.get((pool as usize).wrapping_sub(1));
-        there.and_then(|blocks| blocks.get(at(block))) == Some(&false)
+        let found = there.and_then(|blocks| blocks.get(at(block)));
+        found.is_some_and(|block| !block.free)
     }
 
     fn queue(&self, member: impl Fn(&Task) -> bool) -> Vec<u32> {
@@ -322,9 +344,12 @@ impl Plain {
         }
     }
 
-    fn free_block(&self, pool: u32) -> Option<u32> {
-        let free = self.pools[at(pool)].iter().position(|free| *free);
-        free.map(|block| block as u32 + 1)
+    /// A pool's free blocks, the longest free one first.
+    pub fn free_blocks(&self, pool: u32) -> Vec<u32> {
+        let free = (1..)
+            .zip(&self.pools[at(pool)])
+            .filter(|(_, block)| block.free);
+        listed(free.map(|(id, block)| (block.arrival, id)).collect())
     }
 
     /// What it shows: its queues listed by number, and all else but the numbers.
@@ -341,7 +366,11 @@ impl Plain {
             flags: self.flags.clone(),
             mailboxes: self.mailboxes,
             messages: self.messages.iter().map(|m| m.mailbox).collect(),
-            pools: self.pools.clone(),
+            pools: self
+                .pools
+                .iter()
+                .map(|blocks| blocks.iter().map(|block| block.free).collect())
+                .collect(),
             clock: self.clock,
             depth: self.depth,
             interrupted: self.interrupted,
@@ -354,6 +383,9 @@ impl Plain {
             pool_waiters: of(self.pools.len(), Object::Pool),
             mail: (1..=self.mailboxes)
                 .map(|mailbox| self.mail(mailbox))
+                .collect(),
+            free: (1..=self.counts().pools)
+                .map(|pool| self.free_blocks(pool))
                 .collect(),
         }
     }
@@ -435,10 +467,10 @@ impl Plain {
             19 => refuse_if(!meets(self.flags[at(id)], b as u32, c as u32), H_POLL),
             20 => refuse_if(self.messages[at(b as u32)].mailbox != 0, H_MSG),
             22 => refuse_if(self.mail(id).is_empty(), H_POLL),
-            24 => refuse_if(self.free_block(id).is_none(), H_POLL),
+            24 => refuse_if(self.free_blocks(id).is_empty(), H_POLL),
             25 => {
                 inside(b, self.pools[at(id)].len(), H_ILBLK)?;
-                refuse_if(self.pools[at(id)][at(b as u32)], H_ILBLK)
+                refuse_if(self.pools[at(id)][at(b as u32)].free, H_ILBLK)
             }
             _ => Ok(()),
         }
@@ -464,6 +496,14 @@ impl Plain {
     /// Last in its queue.
     fn goes_last(&mut self, id: u32) {
         self.kept(id).arrival = self.number();
+    }
+
+    /// Last of its pool's free ones.
+    fn free(&mut self, pool: u32, block: u32) {
+        self.pools[at(pool)][at(block)] = Block {
+            free: true,
+            arrival: self.number(),
+        };
     }
 
     fn make_ready(&mut self, id: u32) {
@@ -808,10 +848,10 @@ impl Plain {
     }
 
     fn take_block(&mut self, me: u32, pool: u32) -> Said {
-        match self.free_block(pool) {
-            Some(block) => {
-                self.pools[at(pool)][at(block)] = false;
-                (0, block, 0)
+        match self.free_blocks(pool).first() {
+            Some(first) => {
+                self.pools[at(pool)][at(*first)].free = false;
+                (0, *first, 0)
             }
             None => self.put_into(me, Wait::On(Object::Pool(pool), 0, 0)),
         }
@@ -820,7 +860,7 @@ impl Plain {
     fn rel_blk(&mut self, pool: u32, block: u32) -> Said {
         match self.first_waiter(Object::Pool(pool)) {
             Some(first) => self.release(first, 0, block),
-            None => self.pools[at(pool)][at(block)] = true,
+            None => self.free(pool, block),
         }
         DONE
     }
@@ -831,7 +871,7 @@ impl Plain {
     }
 
     fn mpl_sts(&self, pool: u32) -> Said {
-        let free = self.pools[at(pool)].iter().filter(|free| **free).count();
-        (0, self.first_or_0(Object::Pool(pool)), free as u32)
+        let free = self.free_blocks(pool).len() as u32;
+        (0, self.first_or_0(Object::Pool(pool)), free)
     }
 }

@@ -1,6 +1,7 @@
-//! The kernel of paper 01 and requests K2, K5 and K6 once more, unproved and written for speed: what `bench` measures the proved one against.
+//! The kernel of paper 01 and requests K2 and K5 to K7 once more, unproved and written for speed: what `bench` measures the proved one against.
 //!
-//! Queues are doubly linked rings in arrays: nodes 1 to 32 are tasks (1 to 256 messages), the nodes behind them anchors, one for each queue.
+//! Queues are doubly linked rings in arrays: nodes 1 to 32 are tasks (1 to 256 messages, or free blocks, 32 for each pool), the nodes behind
+//! them anchors, one for each queue.
 //! Bit masks say which ready queues are nonempty and which tasks wait for a time. Nothing is allocated. Numbers that a sound state keeps in
 //! their ranges are trusted; `Kernel::is_sound` looks at all of them, and `Kernel::checked_event` does so before the event.
 
@@ -13,6 +14,7 @@ use okrozumba::Answer;
 
 const TASKS: usize = 32;
 const MESSAGES: usize = 256;
+const BLOCKS: usize = 256;
 
 /// What a task waits for. Those that wait for an object stand in its ring; that of kind k and object o has the anchor 16 + 16 k + o.
 const SLEEP: u32 = 0;
@@ -158,6 +160,7 @@ pub struct Kernel {
     queue: Rings<105>,
     mail: Rings<{ MESSAGES + 17 }>,
     mailbox: [u32; MESSAGES + 1],
+    blocks: Rings<{ BLOCKS + 9 }>,
 }
 
 const fn ready_anchor(priority: u32) -> u32 {
@@ -170,6 +173,14 @@ const fn wait_anchor(kind: u32, object: u32) -> u32 {
 
 const fn mail_anchor(mailbox: u32) -> u32 {
     256 + mailbox
+}
+
+const fn free_anchor(pool: u32) -> u32 {
+    256 + pool
+}
+
+const fn block_node(pool: u32, block: u32) -> u32 {
+    32 * (pool - 1) + block
 }
 
 /// A number of 1 to n, or the code.
@@ -263,12 +274,13 @@ impl Kernel {
             queue: Rings::new(),
             mail: Rings::new(),
             mailbox: [0; MESSAGES + 1],
+            blocks: Rings::new(),
         };
         k.count[1..=setup.semaphores.len()].copy_from_slice(&setup.semaphores);
         k.pattern[1..=setup.flags.len()].copy_from_slice(&setup.flags);
         k.size[1..=setup.pools.len()].copy_from_slice(&setup.pools);
-        for (p, &blocks) in setup.pools.iter().enumerate() {
-            k.free[p + 1] = all_free(blocks);
+        for (p, &blocks) in (1..).zip(&setup.pools) {
+            (1..=blocks).for_each(|b| k.free_block(p, b));
         }
         for (t, &(priority, started)) in (1..).zip(&setup.tasks) {
             k.at_mut(t).start = priority;
@@ -792,14 +804,21 @@ impl Kernel {
         within(a, self.pools, E_NOEXS)
     }
 
-    /// The lowest free block, taken; 0 if there is none.
+    /// Free, behind all others of its pool.
+    fn free_block(&mut self, p: u32, k: u32) {
+        self.free[p as usize] |= 1 << (k - 1);
+        self.blocks.push(free_anchor(p), block_node(p, k));
+    }
+
+    /// The block that is free the longest, taken; 0 if there is none.
     fn take_block(&mut self, p: u32) -> u32 {
-        let free = &mut self.free[p as usize];
-        if *free == 0 {
+        let node = self.blocks.first(free_anchor(p));
+        if node == 0 {
             return 0;
         }
-        let k = free.trailing_zeros() + 1;
-        *free &= *free - 1;
+        let k = node - block_node(p, 0);
+        self.blocks.leave(node);
+        self.free[p as usize] &= !(1 << (k - 1));
         k
     }
 
@@ -827,8 +846,7 @@ impl Kernel {
         let p = self.pool_id(a)?;
         by.any()?;
         let k = within(b, self.size[p as usize], H_ILBLK)?;
-        let free = &mut self.free[p as usize];
-        if *free >> (k - 1) & 1 != 0 {
+        if self.free[p as usize] >> (k - 1) & 1 != 0 {
             return Err(H_ILBLK);
         }
         let t = self.queue.first(wait_anchor(POOL, p));
@@ -836,7 +854,7 @@ impl Kernel {
             self.release(t, 0, k);
             return released(1);
         }
-        *free |= 1 << (k - 1);
+        self.free_block(p, k);
         DONE
     }
 
@@ -986,6 +1004,7 @@ impl Kernel {
             && self.tasks_are_sound()
             && self.queues_are_sound()
             && self.mail_is_sound()
+            && self.blocks_are_sound()
             && self.is_run()
     }
 
@@ -1106,6 +1125,22 @@ impl Kernel {
             .walk(self.messages, mail_anchor(1), self.mailboxes, &mut marks)
             && (1..=self.messages).all(|j| {
                 marks[j as usize] == home(j) && (marks[j as usize] != 0 || self.mail.next(j) == j)
+            })
+    }
+
+    fn blocks_are_sound(&self) -> bool {
+        let mut marks = [0u32; BLOCKS + 1];
+        let nodes = 32 * self.pools;
+        let home = |node: u32| {
+            let (p, bit) = (node.div_ceil(32), (node - 1) % 32);
+            let free = self.free[p as usize] >> bit & 1;
+            free * free_anchor(p)
+        };
+        self.blocks
+            .walk(nodes, free_anchor(1), self.pools, &mut marks)
+            && (1..=nodes).all(|node| {
+                marks[node as usize] == home(node)
+                    && (marks[node as usize] != 0 || self.blocks.next(node) == node)
             })
     }
 

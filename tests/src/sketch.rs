@@ -168,6 +168,13 @@ fn blocks(random: &mut Random, many: u32, waiters: &[u32]) -> Vec<bool> {
         .collect()
 }
 
+/// The free blocks of a pool in any order.
+fn free(random: &mut Random, pool: &[bool]) -> Vec<u32> {
+    let blocks = (1..).zip(pool).filter(|(_, free)| **free);
+    let blocks = blocks.map(|(block, _)| block).collect();
+    shuffled(random, blocks)
+}
+
 /// As often none open as some; then any task that may be interrupted, or none.
 fn handlers(random: &mut Random, tasks: &[Task]) -> (u32, Option<u32>) {
     if random.percent(50) {
@@ -192,6 +199,9 @@ pub fn picture(random: &mut Random, setup: &Setup) -> Picture {
     let pool_waiters = waiters(random, &tasks, setup.pools.len(), Object::Pool);
     let messages = mailboxes(random, setup, &mailbox_waiters);
     let pools = setup.pools.iter().zip(&pool_waiters);
+    let pools: Vec<Vec<bool>> = pools
+        .map(|(many, queue)| blocks(random, *many, queue))
+        .collect();
     let (depth, interrupted) = handlers(random, &tasks);
     Picture {
         priorities: setup.priorities,
@@ -204,13 +214,12 @@ pub fn picture(random: &mut Random, setup: &Setup) -> Picture {
             .map(|queue| pattern(random, &tasks, queue))
             .collect(),
         mailboxes: setup.mailboxes,
-        pools: pools
-            .map(|(many, queue)| blocks(random, *many, queue))
-            .collect(),
         clock: clock(random),
         depth,
         interrupted,
         mail: mail(random, setup, &messages),
+        free: pools.iter().map(|pool| free(random, pool)).collect(),
+        pools,
         tasks,
         messages,
         ready,

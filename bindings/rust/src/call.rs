@@ -44,9 +44,9 @@ pub const SND_MSG: i32 = 20;
 pub const RCV_MSG: i32 = 21;
 /// Mailbox; w1 the message.
 pub const PRCV_MSG: i32 = 22;
-/// T, pool; w1 the block.
+/// T, pool; w1 the block, the one that is free the longest.
 pub const GET_BLK: i32 = 23;
-/// Pool; w1 the block.
+/// Pool; w1 the block, the same.
 pub const PGET_BLK: i32 = 24;
 /// Pool, block.
 pub const REL_BLK: i32 = 25;

@@ -1,5 +1,5 @@
 //! The codes of answers and cells. An event with a negative code changed nothing. On a damaged state every event and every cell gets one of
-//! [`H_NUMBER`], [`H_QUEUE`], [`H_SERVED`] and [`H_TWICE`], the first that applies.
+//! [`H_NUMBER`], [`H_QUEUE`], [`H_SERVED`], [`H_TWICE`] and [`H_FREE`], the first that applies.
 
 /// Done.
 pub const E_OK: i32 = 0;
@@ -21,7 +21,7 @@ pub const H_MSG: i32 = -6;
 pub const H_NEST: i32 = -7;
 /// Block number outside the pool, or free.
 pub const H_ILBLK: i32 = -10;
-/// Damage: a number out of range anywhere, or any breach but those of the next three; w1 is 0.
+/// Damage: a number out of range anywhere, or any breach but those of the next four; w1 is 0.
 pub const H_NUMBER: i32 = -20;
 /// Damage: a task missing from, doubled in or foreign to a queue; w1 is the smallest such task.
 pub const H_QUEUE: i32 = -21;
@@ -29,6 +29,8 @@ pub const H_QUEUE: i32 = -21;
 pub const H_SERVED: i32 = -22;
 /// Damage: a message held twice; w1 is the smallest such message.
 pub const H_TWICE: i32 = -23;
+/// Damage: a free block missing from, doubled in or foreign to its pool's queue; w1 is the smallest such pool.
+pub const H_FREE: i32 = -24;
 /// Priority outside 1..P (rot_rdq: 0..P).
 pub const E_TPRI: i32 = -1830;
 /// wai_tsk time below -1.

@@ -42,7 +42,7 @@ pub mod code;
 pub mod playback;
 
 /// Words of a state, without the marks of the messages.
-pub const STATE_WORDS: usize = 1183;
+pub const STATE_WORDS: usize = 1713;
 /// Messages that a state has room for.
 pub const MESSAGES: usize = 256;
 /// Words of an event in [`State::events`]: kind, number, a, b, c.
@@ -97,7 +97,8 @@ pub mod task_state {
 pub struct Answer {
     /// One of [`code`].
     pub code: i32,
-    /// The call's first word; of [`code::H_QUEUE`], [`code::H_SERVED`] and [`code::H_TWICE`] the task, waiter or message.
+    /// The call's first word; of [`code::H_QUEUE`], [`code::H_SERVED`], [`code::H_TWICE`] and [`code::H_FREE`] the task, waiter, message or
+    /// pool.
     pub w1: u32,
     /// The call's second word.
     pub w2: u32,
@@ -215,7 +216,7 @@ impl State {
     }
 
     /// A kernel from its words, as [`State::words`] and [`State::messages`] gave them or any others. If they are no sound state, every
-    /// event is refused with what is damaged, [`code::H_NUMBER`] to [`code::H_TWICE`].
+    /// event is refused with what is damaged, [`code::H_NUMBER`] to [`code::H_FREE`].
     pub fn of(words: [u32; STATE_WORDS], messages: [u32; MESSAGES]) -> State {
         State { words, messages }
     }

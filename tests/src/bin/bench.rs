@@ -142,6 +142,13 @@ fn pair_of_calls() -> Vec<i32> {
     repeated(&[[0, 13, 1, 0, 0], [0, 15, 1, 0, 0]], MIXED)
 }
 
+/// A block granted and returned: it goes through its pool's queue.
+fn pair_of_blocks() -> Vec<i32> {
+    let returned = |k| [[0, 24, 1, 0, 0], [0, 25, 1, k, 0]];
+    let round: Vec<Five> = (1..=32).flat_map(returned).collect();
+    repeated(&round, MIXED)
+}
+
 /// A message in each of its places.
 fn all_messages_sent() -> Vec<i32> {
     (1..=256).flat_map(|j| [0, 20, 1 + j % 16, j, 0]).collect()
@@ -278,6 +285,24 @@ fn against_rings(name: &str, s: &Setup) {
     row_alike(&what, Calls(proved(s)), Checked(rings(s)), events);
 }
 
+/// A grant and a return, in `events` and by single calls.
+fn blocks() {
+    let s = &large();
+    let events = &pair_of_blocks();
+    row_alike(
+        "`events`, pget_blk and rel_blk, large / rings",
+        Events(proved(s)),
+        Unchecked(rings(s)),
+        events,
+    );
+    row_alike(
+        "`call`, pget_blk and rel_blk, large / checked rings",
+        Calls(proved(s)),
+        Checked(rings(s)),
+        events,
+    );
+}
+
 /// From few to many of what the kernel holds, in `events` and by single calls.
 fn growth(what: &str, many: &State, few: &State) {
     let events = &pair_of_calls();
@@ -380,6 +405,7 @@ fn main() {
     against_rings("small", &small());
     against_rings("middle", &middle());
     against_rings("large", &large());
+    blocks();
     let (one, many) = (proved(&with_tasks(1)), proved(&with_tasks(32)));
     growth("32 tasks / 1 task", &many, &one);
     let lying = after(Events(many.clone()), &all_messages_sent()).0;

@@ -9,8 +9,8 @@ use crate::Verdict;
 use okrozumba::{Answer, State, MESSAGES, STATE_WORDS};
 use second::layout;
 use second::picture::{
-    Breach, Picture, Rule, BACKWARD_RULE, DAMAGE_CODES, DEPTH_RULE, H_NUMBER, H_QUEUE, H_SERVED,
-    H_TWICE, INTERRUPTED_RULE, MARK_RULE, NONEMPTY_RULE, UNLINKED_RULE,
+    Breach, Picture, Rule, BACKWARD_RULE, DAMAGE_CODES, DEPTH_RULE, H_FREE, H_NUMBER, H_QUEUE,
+    H_SERVED, H_TWICE, INTERRUPTED_RULE, MARK_RULE, NONEMPTY_RULE, UNLINKED_RULE,
 };
 use second::plain::{Event, Plain};
 use second::random::Random;
@@ -118,7 +118,7 @@ const NAMED_RULES: [Rule; 6] = [
 /// What of naming must come up; each asks of a memory with an id told.
 type Corner = (&'static str, fn(&Picture, Breach) -> bool);
 
-const CORNERS: [Corner; 9] = [
+const CORNERS: [Corner; 13] = [
     ("a task missing", |p, told| {
         told.code == H_QUEUE && p.stands(told.id).missing()
     }),
@@ -140,11 +140,24 @@ const CORNERS: [Corner; 9] = [
     ("the smallest of several ids", |p, told| {
         p.breaches().filter(|other| other.code == told.code).count() > 1
     }),
-    ("waiters or messages behind a task's queue", |p, told| {
-        told.code == H_QUEUE && p.breaches().any(|other| other.code != told.code)
-    }),
-    ("messages behind a waiter", |p, told| {
+    (
+        "waiters, messages or pools behind a task's queue",
+        |p, told| told.code == H_QUEUE && p.breaches().any(|other| other.code != told.code),
+    ),
+    ("messages or pools behind a waiter", |p, told| {
         told.code == H_SERVED && p.breaches().any(|other| other.code != told.code)
+    }),
+    ("a pool behind a message", |p, told| {
+        told.code == H_TWICE && p.breaches().any(|other| other.code != told.code)
+    }),
+    ("a pool with a free block missing", |p, told| {
+        told.code == H_FREE && p.blocks(told.id).any(|block| block.missing())
+    }),
+    ("a pool with a free block doubled", |p, told| {
+        told.code == H_FREE && p.blocks(told.id).any(|block| block.doubled())
+    }),
+    ("a pool that lists a block that is out", |p, told| {
+        told.code == H_FREE && p.blocks(told.id).any(|block| block.foreign())
     }),
 ];
 

@@ -26,17 +26,20 @@ struct Tally {
     looks: Looks,
 }
 
-/// What an open handler can meet.
-const CORNERS: [&str; 5] = [
+/// What runs must meet, most of it with a handler open.
+const CORNERS: [&str; 7] = [
     "the interrupted task suspended",
     "the interrupted task behind another",
     "nothing interrupted, but somebody ready",
     "a return to another task",
     "a tick at the greatest depth",
+    "a block granted while a lower one was free",
+    "a block returned behind another",
 ];
 
 /// Which of them an event met, by the states before and after it.
 fn corners(before: &Plain, event: Event, after: &Plain) -> [bool; CORNERS.len()] {
+    let [granted, returned] = blocks(before, event, after);
     let open = after.depth() > 0;
     let (running, best) = (after.running(), after.best());
     let stands = |standing| running.is_some_and(|id| after.task(id).standing == standing);
@@ -47,6 +50,27 @@ fn corners(before: &Plain, event: Event, after: &Plain) -> [bool; CORNERS.len()]
         open && running.is_none() && best.is_some(),
         back && running != before.running(),
         before.depth() == DEPTH_MOST && event == Event::Tick,
+        granted,
+        returned,
+    ]
+}
+
+/// Of a call on a pool: whether a block left the free ones and a lower one stays, and whether one came behind others.
+fn blocks(before: &Plain, event: Event, after: &Plain) -> [bool; 2] {
+    let Event::Call {
+        number: 23..=25, a, ..
+    } = event
+    else {
+        return [false; 2];
+    };
+    if !(1..=before.counts().pools as i32).contains(&a) {
+        return [false; 2];
+    }
+    let (old, new) = (before.free_blocks(a as u32), after.free_blocks(a as u32));
+    let lowest = |queue: &[u32]| queue.iter().min().copied();
+    [
+        new.len() < old.len() && lowest(&new) < old.first().copied(),
+        new.len() > old.len() && !old.is_empty(),
     ]
 }
 
@@ -83,7 +107,7 @@ impl Tally {
         let answer = pair.event(event)?;
         self.events += 1;
         self.reached.answer(event, before.depth() > 0, answer.code);
-        self.handlers(&before, event, &pair.plain);
+        self.corners(&before, event, &pair.plain);
         self.looks.event(&before, event, &pair.plain, &answer);
         self.released_most = self.released_most.max(answer.released);
         pair.same_running()?;
@@ -93,14 +117,14 @@ impl Tally {
         Ok(())
     }
 
-    fn handlers(&mut self, before: &Plain, event: Event, after: &Plain) {
+    fn corners(&mut self, before: &Plain, event: Event, after: &Plain) {
         self.deepest = self.deepest.max(after.depth());
         for (times, met) in self.corners.iter_mut().zip(corners(before, event, after)) {
             *times += u64::from(met);
         }
     }
 
-    /// Queues that no run made long, and corners that no handler met, would have been tested too little.
+    /// Queues that no run made long, and corners that none met, would have been tested too little.
     fn deep_enough(&self) -> Result<(), String> {
         let longest = (self.longest_ready, self.longest_wait, self.longest_mail);
         if longest != (32, 32, 256) || self.deepest != DEPTH_MOST {
@@ -112,7 +136,7 @@ impl Tally {
         let mut corners = CORNERS.iter().zip(self.corners);
         match corners.find(|(_, times)| *times == 0) {
             None => Ok(()),
-            Some((missed, _)) => Err(format!("no handler met {missed}")),
+            Some((missed, _)) => Err(format!("no run met {missed}")),
         }
     }
 

@@ -1,4 +1,4 @@
-//! The paper's bench sheet, its further cases and those of requests K2 and K5, on both kernels.
+//! The paper's bench sheet, its further cases and those of later requests, on both kernels.
 use crate::pair::Pair;
 use crate::Verdict;
 use second::cases::{self, Bench};

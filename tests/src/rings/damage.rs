@@ -15,7 +15,9 @@ impl Kernel {
         if !self.numbers_are_sound() {
             return (H_NUMBER, 0);
         }
-        let (Some(misplaced), Some(held)) = (self.misplaced(), self.held()) else {
+        let (Some(misplaced), Some(held), Some(mislisted)) =
+            (self.misplaced(), self.held(), self.mislisted())
+        else {
             return (H_NUMBER, 0);
         };
         let twice = || (1..=self.messages).find(|j| held[*j as usize] > 1);
@@ -25,6 +27,8 @@ impl Kernel {
             (H_SERVED, t)
         } else if let Some(j) = twice() {
             (H_TWICE, j)
+        } else if let Some(p) = lowest(mislisted) {
+            (H_FREE, p)
         } else {
             (H_NUMBER, 0)
         }
@@ -113,6 +117,27 @@ impl Kernel {
         (1..=self.mailboxes)
             .all(|m| self.mail.count(mail_anchor(m), self.messages, &mut times))
             .then_some(times)
+    }
+
+    /// The pools, by bit, whose queue does not list each free block once and no other. None if one lists what is no block of its pool.
+    fn mislisted(&self) -> Option<u32> {
+        let mut wrong = 0;
+        for p in 1..=self.pools {
+            let mut times = [0; BLOCKS + 1];
+            let listed = self
+                .blocks
+                .count(free_anchor(p), 32 * self.pools, &mut times);
+            let own = block_node(p, 1)..=block_node(p, self.size[p as usize]);
+            let foreign = |node: u32| times[node as usize] > 0 && !own.contains(&node);
+            if !listed || (1..=32 * self.pools).any(foreign) {
+                return None;
+            }
+            let free = self.free[p as usize];
+            let mut blocks = (0..).zip(own.clone());
+            let right = blocks.all(|(bit, node)| times[node as usize] == free >> bit & 1);
+            wrong |= u32::from(!right) << (p - 1);
+        }
+        Some(wrong)
     }
 }
 

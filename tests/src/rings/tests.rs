@@ -144,6 +144,11 @@ fn shown(k: &Kernel) -> Picture {
             .map(|block| k.free[p] >> block & 1 == 1)
             .collect()
     };
+    let blocks = |p: u32| {
+        let nodes = &listed(&k.blocks, free_anchor(p), 1, 32 * k.pools)[0];
+        let block = |node: &u32| node.saturating_sub(block_node(p, 0));
+        nodes.iter().map(block).collect()
+    };
     Picture {
         priorities: k.priorities,
         tasks: (1..=k.tasks).map(|t| task_of(k.at(t))).collect(),
@@ -161,6 +166,7 @@ fn shown(k: &Kernel) -> Picture {
         mailbox_waiters: of_tasks(wait_anchor(MAILBOX, 1), k.mailboxes),
         pool_waiters: of_tasks(wait_anchor(POOL, 1), k.pools),
         mail: listed(&k.mail, mail_anchor(1), k.mailboxes, k.messages),
+        free: (1..=k.pools).map(blocks).collect(),
     }
 }
 
@@ -230,9 +236,9 @@ fn standing(p: &Picture) -> Kernel {
             k.mailbox[*j as usize] = m;
         }
     }
-    for (p, free) in (1..).zip(&p.pools) {
-        let marks = free.iter().rev();
-        k.free[p] = marks.fold(0, |marks, free| marks << 1 | u32::from(*free));
+    for (p, free) in (1..).zip(&p.free) {
+        while k.take_block(p) != 0 {}
+        free.iter().for_each(|block| k.free_block(p, *block));
     }
     k.clock = p.clock;
     k.depth = p.depth;
@@ -368,7 +374,7 @@ fn damage_is_found() {
     assert!(sound.is_sound());
     let t = sound.running;
     type Damage = fn(&mut Kernel, u32);
-    let damages: [(Damage, i32, u32); 18] = [
+    let damages: [(Damage, i32, u32); 22] = [
         (|k, _| k.priorities = 17, H_NUMBER, 0),
         (|k, _| k.ready ^= 1 << 3, H_NUMBER, 0),
         (|k, _| k.timed ^= 1, H_NUMBER, 0),
@@ -379,6 +385,10 @@ fn damage_is_found() {
         (|k, _| k.mailbox[200] = u32::MAX - 255, H_NUMBER, 0),
         (|k, _| k.mail.link[1].prev = 2, H_NUMBER, 0),
         (|k, _| k.mail.link[1].next = 1, H_TWICE, 1),
+        (|k, _| k.blocks.link[33].next = 33, H_FREE, 2),
+        (|k, _| k.free[8] &= !1, H_FREE, 8),
+        (|k, _| k.blocks.link[257].next = 33, H_NUMBER, 0),
+        (|k, _| k.blocks.link[1].prev = 1, H_NUMBER, 0),
         (|k, t| k.queue.link[t as usize].next = t, H_QUEUE, t),
         (|k, t| k.at_mut(t).wakeups = 16, H_NUMBER, 0),
         (|k, t| k.at_mut(t).status = SUSPEND, H_QUEUE, t),
@@ -409,7 +419,9 @@ fn hurt(random: &mut Random, k: &mut Kernel) {
         0 => random.word(),
         _ => random.within(1, most),
     };
-    match random.below(12) {
+    let block = random.below(265) as usize;
+    let p = random.below(k.pools + 1) as usize;
+    match random.below(15) {
         0 => k.queue.link[random.below(105) as usize].next = node(random, k.tasks),
         1 => k.queue.link[random.below(105) as usize].prev = node(random, k.tasks),
         2 => k.mail.link[random.below(273) as usize].next = node(random, k.messages.max(1)),
@@ -421,6 +433,9 @@ fn hurt(random: &mut Random, k: &mut Kernel) {
         8 => k.count[random.below(17) as usize] = random.pick(&[0, 1, 65535, 65536]),
         9 => k.pattern[random.below(17) as usize] = random.word(),
         10 => k.mailbox[j] = node(random, k.mailboxes + 1),
+        11 => k.blocks.link[block].next = node(random, 264),
+        12 => k.blocks.link[block].prev = node(random, 264),
+        13 => k.free[p] ^= 1 << random.below(k.size[p].max(1)),
         _ => k.depth = random.below(17),
     }
 }

@@ -1,7 +1,7 @@
 //! Rules broken on purpose: a sound picture is changed and drawn, or links of the drawn one are led elsewhere, and often several at once.
 use super::{sketched, Tally};
 use okrozumba::State;
-use second::layout::{self, Links, MAIL_LINKS, TASK_LINKS};
+use second::layout::{self, Links, BLOCK_LINKS, MAIL_LINKS, TASK_LINKS};
 use second::picture::{Object, Picture, Queues, Wait, H_NUMBER};
 use second::random::Random;
 
@@ -9,7 +9,7 @@ const AIMED: u64 = 60_000;
 
 // ---- pictures
 
-/// A queue of a random kind that has one.
+/// A queue of tasks or messages, of a random kind that has one.
 fn any_queue<'a>(random: &mut Random, p: &'a mut Picture) -> Option<&'a mut Vec<u32>> {
     let kind = match random.below(6) {
         0 => &mut p.ready,
@@ -97,6 +97,26 @@ fn serve_waiter(random: &mut Random, p: &mut Picture) {
     }
 }
 
+/// A block comes into a pool's free queue, once more or wrongly, or leaves it, or its mark is changed.
+fn misplace_block(random: &mut Random, p: &mut Picture) {
+    let pools = p.pools.len() as u32;
+    if pools == 0 {
+        return;
+    }
+    let pool = random.below(pools) as usize;
+    let (marks, queue) = (&mut p.pools[pool], &mut p.free[pool]);
+    let (block, listed) = (random.below(marks.len() as u32), queue.len() as u32);
+    match random.below(8) {
+        0..=2 => queue.insert(random.below(listed + 1) as usize, block + 1),
+        // one that the pool may not have
+        3 => queue.push(random.within(1, 32)),
+        4 | 5 if listed > 0 => {
+            queue.remove(random.below(listed) as usize);
+        }
+        _ => marks[block as usize] ^= true,
+    }
+}
+
 /// Any task interrupted, also one that there isn't, at a depth that may be too great, with everything else as it should be.
 fn interrupt_any(random: &mut Random, p: &mut Picture) {
     p.depth = random.pick(&[1, 1, 1, 2, 14, 15, 15, 16, 17, 1 << 31, u32::MAX]);
@@ -142,7 +162,7 @@ fn join_mail(random: &mut Random, state: &State, mail: &Queues) -> State {
 
 /// By turns nothing, one thing or two.
 fn changed(random: &mut Random, p: &mut Picture) {
-    match random.below(8) {
+    match random.below(11) {
         0 => interrupt_any(random, p),
         1..=3 => misplace(random, p),
         4 | 5 => serve_waiter(random, p),
@@ -150,12 +170,17 @@ fn changed(random: &mut Random, p: &mut Picture) {
             serve_waiter(random, p);
             misplace(random, p);
         }
+        7 | 8 => misplace_block(random, p),
+        9 => {
+            misplace(random, p);
+            misplace_block(random, p);
+        }
         _ => {}
     }
 }
 
 fn led_elsewhere(random: &mut Random, state: &State, p: &Picture) -> State {
-    match random.below(6) {
+    match random.below(7) {
         0 | 1 => loop_back(random, state, MAIL_LINKS, &[&p.mail]),
         2 => {
             let looped = loop_back(random, state, MAIL_LINKS, &[&p.mail]);
@@ -163,6 +188,7 @@ fn led_elsewhere(random: &mut Random, state: &State, p: &Picture) -> State {
         }
         3 => join_mail(random, state, &p.mail),
         4 => loop_back(random, state, TASK_LINKS, &p.task_queues()),
+        5 => loop_back(random, state, BLOCK_LINKS, &[&layout::free_nodes(p)]),
         _ => state.clone(),
     }
 }

@@ -1,9 +1,9 @@
-//! Damage worked by hand from the documented layout: which words are overwritten, and what request K6 tells of them.
+//! Damage worked by hand from the documented layout: which words are overwritten, and what requests K6 and K7 tell of them.
 use super::{with_word, Tally};
 use crate::pair::Pair;
 use okrozumba::STATE_WORDS;
 use second::layout;
-use second::picture::{H_NUMBER, H_QUEUE, H_SERVED, H_TWICE};
+use second::picture::{H_FREE, H_NUMBER, H_QUEUE, H_SERVED, H_TWICE};
 use second::plain::Event;
 use second::setup;
 
@@ -29,6 +29,14 @@ const fn mail_next(node: usize) -> usize {
     625 + node
 }
 
+const fn block_next(node: usize) -> usize {
+    1183 + node
+}
+
+const fn block_prev(node: usize) -> usize {
+    1448 + node
+}
+
 const fn mark(message: usize) -> usize {
     STATE_WORDS + message - 1
 }
@@ -42,12 +50,14 @@ const HANDLERS: usize = 1180;
 const INTERRUPTED: usize = 1181;
 const NONEMPTY: usize = 1182;
 
-/// Anchors: of the ready queues of priorities 1 and 2, of the semaphore's waiters, of the mailboxes' lists.
+/// Anchors: of the ready queues of priorities 1 and 2, of the semaphore's waiters, of the mailboxes' lists, of the pools' free blocks.
 const READY_1: u32 = 33;
 const READY_2: u32 = 34;
 const WAITERS: u32 = 49;
 const MAIL_1: u32 = 257;
 const MAIL_2: u32 = 258;
+const FREE_1: u32 = 257;
+const FREE_2: u32 = 258;
 
 // ---- calls
 
@@ -62,7 +72,8 @@ const ALL_AT_2: [[i32; 4]; 3] = [START_3, [4, 3, 2, 0], [5, 2, 0, 0]];
 
 // ---- memories
 
-/// Four priorities, and one of each object. When fresh the ready queue of priority 2 has the tasks 1 and 2, and 3 is dormant at priority 1.
+/// Four priorities, and one of each object. When fresh the ready queue of priority 2 has the tasks 1 and 2, and 3 is dormant at priority 1;
+/// the pool has two blocks.
 const SHEET: [u32; 16] = [4, 3, 2, 1, 2, 1, 1, 0, 1, 0, 1, 0, 1, 2, 1, 2];
 
 const ON_SHEET: [Worked; 33] = [
@@ -262,6 +273,136 @@ const ON_TWO_MAILBOXES: [Worked; 3] = [
     ),
 ];
 
+/// On the sheet too.
+const ON_ITS_POOL: [Worked; 18] = [
+    (
+        "1 is passed over",
+        &[],
+        &[(block_next(257), 2)],
+        (H_FREE, 1),
+    ),
+    (
+        "2 is passed over",
+        &[],
+        &[(block_next(1), FREE_1)],
+        (H_FREE, 1),
+    ),
+    ("2 leads to 1", &[], &[(block_next(2), 1)], (H_FREE, 1)),
+    // 1 and then 2, up to the 33rd entry
+    ("2 leads to itself", &[], &[(block_next(2), 2)], (H_FREE, 1)),
+    ("2 is listed and not marked", &[], &[(FREE, 1)], (H_FREE, 1)),
+    (
+        "1 is out and marked",
+        &[GET_BLOCK],
+        &[(FREE, 3)],
+        (H_FREE, 1),
+    ),
+    (
+        "1 is out and listed",
+        &[GET_BLOCK],
+        &[(block_next(257), 1), (block_next(1), 2)],
+        (H_FREE, 1),
+    ),
+    // the marks decide what would serve it
+    (
+        "1 is out and listed beside a waiter",
+        &[GET_BLOCK, GET_BLOCK, GET_BLOCK],
+        &[(block_next(257), 1), (block_next(1), FREE_1)],
+        (H_FREE, 1),
+    ),
+    ("1 leads nowhere", &[], &[(block_next(1), 0)], (H_NUMBER, 0)),
+    (
+        "a third block is listed",
+        &[],
+        &[(block_next(2), 3), (block_next(3), FREE_1)],
+        (H_NUMBER, 0),
+    ),
+    (
+        "2 leads to a pool that there is not",
+        &[],
+        &[(block_next(2), 33)],
+        (H_NUMBER, 0),
+    ),
+    (
+        "1 is out and leads on",
+        &[GET_BLOCK],
+        &[(block_next(1), FREE_1)],
+        (H_NUMBER, 0),
+    ),
+    (
+        "a third block leads on",
+        &[],
+        &[(block_next(3), FREE_1)],
+        (H_NUMBER, 0),
+    ),
+    (
+        "a link back alone",
+        &[],
+        &[(block_prev(2), FREE_1)],
+        (H_NUMBER, 0),
+    ),
+    (
+        "a block missing and a message held twice",
+        &[SEND_1],
+        &[(block_next(257), 2), (mail_next(1), 1)],
+        (H_TWICE, 1),
+    ),
+    (
+        "a block missing and a link back",
+        &[],
+        &[(block_next(257), 2), (prev(2), 34)],
+        (H_FREE, 1),
+    ),
+    (
+        "a block missing and a message not marked",
+        &[SEND_1],
+        &[(block_next(257), 2), (mark(1), 0)],
+        (H_FREE, 1),
+    ),
+    (
+        "a block missing and the clock past its end",
+        &[],
+        &[(block_next(257), 2), (CLOCK_HIGH, 65536)],
+        (H_NUMBER, 0),
+    ),
+];
+
+/// One task, two pools of two blocks.
+const TWO_POOLS: [u32; 11] = [1, 1, 1, 1, 0, 0, 0, 0, 2, 2, 2];
+
+const ON_TWO_POOLS: [Worked; 5] = [
+    (
+        "the second pool's first is passed over",
+        &[],
+        &[(block_next(258), 34)],
+        (H_FREE, 2),
+    ),
+    (
+        "both pools are empty by their links",
+        &[],
+        &[(block_next(258), FREE_2), (block_next(257), FREE_1)],
+        (H_FREE, 1),
+    ),
+    (
+        "the first pool leads into the second",
+        &[],
+        &[(block_next(2), 33)],
+        (H_NUMBER, 0),
+    ),
+    (
+        "the second pool leads into the first",
+        &[],
+        &[(block_next(258), 1)],
+        (H_NUMBER, 0),
+    ),
+    (
+        "the second pool ends at the first one's anchor",
+        &[],
+        &[(block_next(34), FREE_1)],
+        (H_NUMBER, 0),
+    ),
+];
+
 fn judge(tally: &mut Tally, words: &[u32], worked: &Worked) -> Result<(), String> {
     let (what, calls, overwritten, told) = worked;
     let setup = setup::read(&setup::bytes_of(words.iter().copied()));
@@ -288,11 +429,15 @@ fn judge(tally: &mut Tally, words: &[u32], worked: &Worked) -> Result<(), String
 
 /// Gives how many there are.
 pub fn check(tally: &mut Tally) -> Result<usize, String> {
-    for worked in &ON_SHEET {
-        judge(tally, &SHEET, worked)?;
+    let memories: [(&[u32], &[Worked]); 4] = [
+        (&SHEET, &ON_SHEET),
+        (&SHEET, &ON_ITS_POOL),
+        (&TWO_MAILBOXES, &ON_TWO_MAILBOXES),
+        (&TWO_POOLS, &ON_TWO_POOLS),
+    ];
+    for (words, all) in memories {
+        all.iter()
+            .try_for_each(|worked| judge(tally, words, worked))?;
     }
-    for worked in &ON_TWO_MAILBOXES {
-        judge(tally, &TWO_MAILBOXES, worked)?;
-    }
-    Ok(ON_SHEET.len() + ON_TWO_MAILBOXES.len())
+    Ok(memories.iter().map(|(_, all)| all.len()).sum())
 }
