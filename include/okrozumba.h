@@ -244,6 +244,84 @@ typedef struct okrozumba_told {
    stack: it is for the bench, not for the board. */
 okrozumba_told okrozumba_play(const uint8_t *file, size_t file_bytes, uint8_t *text, size_t text_bytes);
 
+/* ---- brightness */
+
+#define OKROZUMBA_CURVE_POINTS 16
+#define OKROZUMBA_SLOTS 256
+
+/* A brightness curve: the first `count` points, 1 to 16. Lux is 0..65535 and strictly rises, level is 0..255 and never falls. Between two
+   points the level is on the straight line, rounded down; outside the ends it is the end level. */
+typedef struct okrozumba_curve {
+    uint32_t count;
+    uint32_t lux[OKROZUMBA_CURVE_POINTS];
+    uint32_t level[OKROZUMBA_CURVE_POINTS];
+} okrozumba_curve;
+
+/* The number of a judgement, and of a level. */
+enum {
+    OKROZUMBA_GOOD_CURVE = 0,
+    OKROZUMBA_BAD_CURVE = 1
+};
+
+/* The point is the first bad one, counted from 1; 0 for a bad count, and of a good curve. */
+typedef struct okrozumba_judgement {
+    uint32_t number;
+    uint32_t point;
+} okrozumba_judgement;
+
+/* The value is the level; of a bad curve the first bad point. */
+typedef struct okrozumba_level {
+    uint32_t number;
+    uint32_t value;
+} okrozumba_level;
+
+/* What a display shows, and the task that waits for a reading, 0 if none does. A light belongs to one task. */
+typedef struct okrozumba_light {
+    uint32_t level;
+    uint32_t waits;
+} okrozumba_light;
+
+/* What became of an arrival. */
+enum {
+    OKROZUMBA_LIGHT_SET = 0,      /* a reading was taken: the level is the curve's there */
+    OKROZUMBA_LIGHT_WAITS = 1,    /* no reading has arrived: the task waits for one */
+    OKROZUMBA_LIGHT_STAYS = 2,    /* the code was not 0: the level stays as it was */
+    OKROZUMBA_LIGHT_NO_SLOT = 3,  /* the message number is 0 or beyond the slots: the level stays as it was */
+    OKROZUMBA_LIGHT_BAD_CURVE = 4 /* the curve is bad: nothing was done, and the light is as it was */
+};
+
+/* The point is that of OKROZUMBA_LIGHT_BAD_CURVE, else 0. */
+typedef struct okrozumba_display {
+    okrozumba_light light;
+    uint32_t news;
+    uint32_t point;
+} okrozumba_display;
+
+/* Judges a curve: the count first, then each point whole before the next. */
+okrozumba_judgement okrozumba_curve_judge(okrozumba_curve curve);
+
+/* The level at a lux, however large. It judges the curve itself. More lux never gives a lower level. */
+okrozumba_level okrozumba_curve_level(okrozumba_curve curve, uint32_t lux);
+
+/* The light that a display starts with: the first point's level, OKROZUMBA_LIGHT_SET. Of a bad curve a dark one. */
+okrozumba_display okrozumba_light_first(okrozumba_curve curve);
+
+/* What the code and the word of an arrival make of a light: with code 0 the word is a message number, which names a slot with its lux, counted
+   from 1; the level becomes the curve's there. Only the first OKROZUMBA_SLOTS slots count. It judges the curve itself. */
+okrozumba_display okrozumba_light_take(okrozumba_curve curve, const uint32_t *slots, size_t slot_count, okrozumba_light light,
+                                       int32_t code, uint32_t word);
+
+/* The running task asks a mailbox for a reading: rcv_msg in task context. A message that lies there is taken at once; else the task waits,
+   OKROZUMBA_LIGHT_WAITS, and the light says for whom. A bad curve is refused before the call, and the state is as it was. */
+okrozumba_display okrozumba_light_receive(uint32_t words[OKROZUMBA_STATE_WORDS], uint32_t messages[OKROZUMBA_MESSAGES],
+                                          okrozumba_curve curve, const uint32_t *slots, size_t slot_count, okrozumba_light light,
+                                          int32_t mailbox);
+
+/* To be called when the task that waits for a reading runs again: what its cell holds is taken, and nobody waits any more. A wait that was
+   broken off leaves the level as it was. While another task runs: OKROZUMBA_LIGHT_WAITS, and the light as it was. */
+okrozumba_display okrozumba_light_resumed(const uint32_t words[OKROZUMBA_STATE_WORDS], const uint32_t messages[OKROZUMBA_MESSAGES],
+                                          okrozumba_curve curve, const uint32_t *slots, size_t slot_count, okrozumba_light light);
+
 #ifdef __cplusplus
 }
 #endif

@@ -1,6 +1,7 @@
 //! A second kernel, from the paper alone, and what it takes to hold the first one to it. Nothing here looks at the first kernel's rules;
 //! of its memory only `layout` knows, and that from the documents.
 pub mod cases;
+pub mod curve;
 pub mod layout;
 pub mod looks;
 pub mod picture;

@@ -1,4 +1,5 @@
 //! The functions of the archive, as `include/okrozumba.h` declares them. A reference to an array is passed as C passes a pointer.
+use crate::brightness::{Curve, Light};
 use crate::{Answer, Cell, MESSAGES, STATE_WORDS};
 
 type Words = [u32; STATE_WORDS];
@@ -14,6 +15,25 @@ pub struct Outcome {
 pub struct Told {
     pub number: u32,
     pub length: usize,
+}
+
+#[repr(C)]
+pub struct Judgement {
+    pub number: u32,
+    pub point: u32,
+}
+
+#[repr(C)]
+pub struct Level {
+    pub number: u32,
+    pub value: u32,
+}
+
+#[repr(C)]
+pub struct Display {
+    pub light: Light,
+    pub news: u32,
+    pub point: u32,
 }
 
 extern "C" {
@@ -74,4 +94,38 @@ extern "C" {
         text: *mut u8,
         text_bytes: usize,
     ) -> Told;
+
+    pub fn okrozumba_curve_judge(curve: Curve) -> Judgement;
+
+    pub fn okrozumba_curve_level(curve: Curve, lux: u32) -> Level;
+
+    pub fn okrozumba_light_first(curve: Curve) -> Display;
+
+    pub fn okrozumba_light_take(
+        curve: Curve,
+        slots: *const u32,
+        slot_count: usize,
+        light: Light,
+        code: i32,
+        word: u32,
+    ) -> Display;
+
+    pub fn okrozumba_light_receive(
+        words: &mut Words,
+        messages: &mut Messages,
+        curve: Curve,
+        slots: *const u32,
+        slot_count: usize,
+        light: Light,
+        mailbox: i32,
+    ) -> Display;
+
+    pub fn okrozumba_light_resumed(
+        words: &Words,
+        messages: &Messages,
+        curve: Curve,
+        slots: *const u32,
+        slot_count: usize,
+        light: Light,
+    ) -> Display;
 }

@@ -1,2 +1,3 @@
 -- The exported functions: what they promise.
 pub mod Exports
+pub mod Brightness

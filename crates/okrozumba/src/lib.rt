@@ -1,5 +1,11 @@
 // The public functions under plain names, for programs in C and Rust: include/okrozumba.h declares them. Each promises what the
 // function that it wraps promises; an answer that is an enum there is told by its number and place here (specs/Exports.antt).
+use brightness_curve::Curve;
+use brightness_curve::Judged;
+use brightness_curve::Leveled;
+use brightness_light::Light;
+use brightness_light::News;
+use brightness_light::Shown;
 use kernel_batches::Batch;
 use kernel_batches::Ran;
 use kernel_cells::Reading;
@@ -14,6 +20,10 @@ ghost use Rattle.kernel_events.specs.Steps.{reply, Step};
 ghost use Rattle.kernel_cells.specs.Promises.{Reads, Runs};
 ghost use Rattle.kernel_batches.specs.Batches.{batchNumber, lent};
 ghost use Rattle.run_playback.specs.Text.{textOf};
+ghost use Rattle.brightness_curve.specs.Curves.{judgedOf, levelOf};
+ghost use Rattle.brightness_light.specs.Lights.{firstShown, takenOf};
+ghost use Rattle.brightness.specs.Readings.{Receives, Resumes};
+ghost use Rattle.okrozumba.specs.Brightness.{judgedNumber, judgedPoint, leveledNumber, leveledValue, DisplayTold, Displayed};
 ghost use Rattle.okrozumba.specs.Exports.{startNumber, startPlace, ranNumber, ranPlace, playedNumber, playedLength, StartsTold, BatchedTold, RunsTold, ShownTold};
 
 // An enum's number; and the place of a setup's fault, else 0.
@@ -203,4 +213,150 @@ pub extern "C" fn okrozumba_play(file: &[u8], text: &mut [u8]) -> Told
     ensures { λ r. ⌜ ShownTold (textOf (now (file .entry))) (r .number) (r .length) (now (text .entry)) (now (text .exit)) ⌝ }
 {
     played_told(run_playback::play(file, text))
+}
+
+// ---- brightness
+
+// Whether a curve is good, 0, or bad, 1; and the first bad point.
+#[repr(C)]
+pub struct Judgement {
+    pub number: u32,
+    pub point: u32,
+}
+
+fn judged_told(judged: Judged) -> Judgement
+    ensures { λ r. ⌜ (r .number ≡ judgedNumber judged) × (r .point ≡ judgedPoint judged) ⌝ }
+{
+    match judged {
+        Judged::Good => Judgement {
+            number: 0,
+            point: 0,
+        },
+        Judged::BadPoint(point) => Judgement { number: 1, point },
+    }
+}
+
+// Judges a curve.
+#[no_mangle]
+pub extern "C" fn okrozumba_curve_judge(curve: Curve) -> Judgement
+    ensures { λ r. ⌜ (r .number ≡ judgedNumber (judgedOf curve)) × (r .point ≡ judgedPoint (judgedOf curve)) ⌝ }
+{
+    judged_told(brightness_curve::judge(curve))
+}
+
+// 0 and a level; or 1 and the curve's first bad point.
+#[repr(C)]
+pub struct Level {
+    pub number: u32,
+    pub value: u32,
+}
+
+fn leveled_told(leveled: Leveled) -> Level
+    ensures { λ r. ⌜ (r .number ≡ leveledNumber leveled) × (r .value ≡ leveledValue leveled) ⌝ }
+{
+    match leveled {
+        Leveled::Level(value) => Level { number: 0, value },
+        Leveled::BadPoint(value) => Level { number: 1, value },
+    }
+}
+
+// The level of a curve at a lux.
+#[no_mangle]
+pub extern "C" fn okrozumba_curve_level(curve: Curve, lux: u32) -> Level
+    ensures { λ r. ⌜ (r .number ≡ leveledNumber (levelOf curve lux)) × (r .value ≡ leveledValue (levelOf curve lux)) ⌝ }
+{
+    leveled_told(brightness_curve::level_of(curve, lux))
+}
+
+// A light, the number of what became of an arrival, and the curve's first bad point.
+#[repr(C)]
+pub struct Display {
+    pub light: Light,
+    pub news: u32,
+    pub point: u32,
+}
+
+fn shown_told(shown: Shown) -> Display
+    ensures { λ r. ⌜ DisplayTold shown (r .light) (r .news) (r .point) ⌝ }
+{
+    let light = shown.light;
+    let news = shown.news;
+    match news {
+        News::Set => Display {
+            light,
+            news: 0,
+            point: 0,
+        },
+        News::Waits => Display {
+            light,
+            news: 1,
+            point: 0,
+        },
+        News::Stays => Display {
+            light,
+            news: 2,
+            point: 0,
+        },
+        News::NoSlot => Display {
+            light,
+            news: 3,
+            point: 0,
+        },
+        News::BadCurve(point) => Display {
+            light,
+            news: 4,
+            point,
+        },
+    }
+}
+
+// The light that a display starts with.
+#[no_mangle]
+pub extern "C" fn okrozumba_light_first(curve: Curve) -> Display
+    ensures { λ r. ⌜ DisplayTold (firstShown curve) (r .light) (r .news) (r .point) ⌝ }
+{
+    shown_told(brightness_light::first_light(curve))
+}
+
+// What the code and the word of an arrival make of a light.
+#[no_mangle]
+pub extern "C" fn okrozumba_light_take(
+    curve: Curve,
+    slots: &[u32],
+    light: Light,
+    code: i32,
+    word: u32,
+) -> Display
+    ensures { λ r. ⌜ DisplayTold (takenOf curve (now (slots .entry)) light code word) (r .light) (r .news) (r .point) ⌝ }
+{
+    shown_told(brightness_light::take(curve, slots, light, code, word))
+}
+
+// The running task asks a mailbox for a reading.
+#[no_mangle]
+pub extern "C" fn okrozumba_light_receive(
+    words: &mut [u32; STATE_WORDS],
+    messages: &mut [u32; 256],
+    curve: Curve,
+    slots: &[u32],
+    light: Light,
+    mailbox: i32,
+) -> Display
+    ensures { λ r. ⌜ Displayed (λ s. Receives curve (now (slots .entry)) light mailbox (now (words .entry)) (now (messages .entry)) s (now (words .exit)) (now (messages .exit))) (r .light) (r .news) (r .point) ⌝ }
+{
+    shown_told(brightness::receive(words, messages, curve, slots, light, mailbox))
+}
+
+// Once the task that waits for a reading runs again, it is taken from the task's cell.
+#[no_mangle]
+pub extern "C" fn okrozumba_light_resumed(
+    words: &[u32; STATE_WORDS],
+    messages: &[u32; 256],
+    curve: Curve,
+    slots: &[u32],
+    light: Light,
+) -> Display
+    ensures { λ r. ⌜ Displayed (λ s. Resumes curve (now (slots .entry)) light (now (words .entry)) (now (messages .entry)) s) (r .light) (r .news) (r .point) ⌝ }
+{
+    shown_told(brightness::resumed(words, messages, curve, slots, light))
 }

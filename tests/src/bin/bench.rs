@@ -3,6 +3,7 @@
 //! Each row sets two sides beside each other in one run: they take turns, round after round, each from the same state over the same events,
 //! and the quickest round of each counts. Two kernels must have answered alike. With two words, a side (events, calls, rings,
 //! checked) and a setup (small, middle, large), that side alone plays the mixed events once, for a profiler.
+use okrozumba::brightness::Curve;
 use okrozumba::{Answer, State};
 use second::random::Random;
 use second::rings::Kernel;
@@ -375,6 +376,56 @@ fn long_run() {
     );
 }
 
+// ---- levels
+
+/// Judged and looked up as the archive does it, by hand and not proved.
+#[inline(never)]
+fn level_by_hand(curve: &Curve, lux: u32) -> Option<u32> {
+    let count = curve.count as usize;
+    let (luxes, levels) = (curve.lux.get(..count)?, curve.level.get(..count)?);
+    let in_range = |i: usize| luxes[i] <= 65535 && levels[i] <= 255;
+    let rises = |i: usize| luxes[i - 1] < luxes[i] && levels[i - 1] <= levels[i];
+    if count == 0 || !(0..count).all(in_range) || !(1..count).all(rises) {
+        return None;
+    }
+    let above = luxes.iter().position(|&u| lux < u).unwrap_or(count);
+    if above == 0 || above == count {
+        return Some(levels[above.saturating_sub(1)]);
+    }
+    let (x, y) = (luxes[above - 1], levels[above - 1]);
+    Some(y + (lux - x) * (levels[above] - y) / (luxes[above] - x))
+}
+
+/// ns for each of all lux, and the sum of the levels.
+fn all_lux(level: impl Fn(u32) -> Option<u32>) -> (f64, u64) {
+    let begun = Instant::now();
+    let sum = (0..=65535)
+        .map(|lux| u64::from(level(lux).expect("a good curve")))
+        .sum();
+    (begun.elapsed().as_nanos() as f64 / 65536.0, sum)
+}
+
+/// A curve with as many points as there can be, at every lux.
+fn levels() {
+    let points: Vec<(u32, u32)> = (0..16).map(|i| (i * i * 280, i * 17)).collect();
+    let curve = &Curve::of(&points);
+    let (mut ours, mut by_hand) = ((f64::MAX, 0), (f64::MAX, 0));
+    for _ in 0..ROUNDS {
+        let (a, b) = (
+            all_lux(|lux| curve.level(lux).ok()),
+            all_lux(|lux| level_by_hand(curve, lux)),
+        );
+        assert!(a.1 == b.1, "the levels differ");
+        ours = if a.0 < ours.0 { a } else { ours };
+        by_hand = if b.0 < by_hand.0 { b } else { by_hand };
+    }
+    let ratio = ours.0 / by_hand.0;
+    println!(
+        "| a level, 16 points / by hand | {:.1} | {:.1} | {ratio:.2} |",
+        ours.0, by_hand.0
+    );
+}
+
 fn profiled(side: &str, name: &str) {
     let s = &match name {
         "small" => small(),
@@ -411,5 +462,6 @@ fn main() {
     let lying = after(Events(many.clone()), &all_messages_sent()).0;
     growth("256 messages lie / none", &lying, &many);
     ticks();
+    levels();
     long_run();
 }

@@ -2,6 +2,7 @@
 //! second decision of what a sound state is. Seeds are fixed, so that every run of it is the same. Ends with 1 at the first difference. With
 //! a word, only the parts that have it in their name.
 mod batch;
+mod brightness;
 mod damage;
 mod drawn;
 mod handlers;
@@ -22,7 +23,7 @@ pub type Verdict = Result<String, String>;
 
 type Part = (&'static str, fn() -> Verdict);
 
-const PARTS: [Part; 8] = [
+const PARTS: [Part; 9] = [
     ("bench sheet", sheet::check),
     ("random runs", runs::check),
     ("handlers", handlers::check),
@@ -31,6 +32,7 @@ const PARTS: [Part; 8] = [
     ("refused setups", refused::check),
     ("many events at once", batch::check),
     ("recorded runs", playback::check),
+    ("brightness", brightness::check),
 ];
 
 fn timed(check: fn() -> Verdict) -> (Verdict, f64) {

@@ -1,0 +1,111 @@
+-- What a task's cell reads along a chain: of a task that an event neither releases nor starts it reads as before. Assumes nothing.
+use mathlib.Core.Bool.{Bool, true, false, cond, false≢true}
+use mathlib.Core.List.{List, [], _∷_}
+use mathlib.Core.Logic.{inl, inr}
+use mathlib.Core.Path.{_≡_, refl, sym, ap, _∙_}
+use Prim.Native.Nat.{ℕ}
+use native.Mathlib.Decide.{ℕ-discrete}
+use lib.IntN.{ℤ, pos, negsuc, ℤ-discrete}
+use Rattle.rules.specs.Codes.{E-NOEXS, number, negative, inDamage, tellsDamage}
+use Rattle.rules.specs.State.{Cell, task}
+use Rattle.rules.specs.Events.{Event, outside}
+use Rattle.rules.specs.View.{View}
+use Rattle.rules.specs.Answers.{readCell}
+use Rattle.rules.specs.Breach.{breach}
+use Rattle.rules.specs.Kernel.{next}
+use Rattle.rules.specs.Broken.{isFresh, Unless}
+use Rattle.rules.proofs.Breach.{breach-tells}
+use Rattle.rules.proofs.Broken.{cell-kept, tasks-next}
+use Rattle.rules.proofs.Cells.{Kept}
+use Rattle.rules.proofs.Events.{event-next}
+use Rattle.memory_picture.specs.Picture.{viewShown, Accepted}
+use Rattle.kernel_events.specs.Steps.{Reply, Link, Step, Chain}
+use Rattle.kernel_cells.specs.Promises.{Reads}
+use Rattle.brightness.specs.DarkRoom.{stateIn, UntilFreed}
+
+-- ---- one event
+
+-- the cell of task t in a state
+abbrev pub cellOf : View → ℕ → Cell
+cellOf v t = readCell (v .body) (pos t)
+
+cell-stays : (v : View) (e : Event) (t : ℕ) → isFresh (task (v .body) t .state) (task (next v e .body) t .state) ≡ false → cellOf (next v e) t ≡ cellOf v t
+unfolding readCell
+cell-stays v e t h = λ z. cond (outside (pos t) (tasks-next v e z)) (record { code = E-NOEXS; word = 0 }) (same (cell-kept v e t) z)
+  where
+    same : Kept (task (v .body) t) (task (next v e .body) t) → task (next v e .body) t .cell ≡ task (v .body) t .cell
+    same (inl k) = k
+    same (inr k) = absurd (false≢true (sym h ∙ k))
+
+-- the memory is sound, and the cell of task t is this one
+pub record Holds (t : ℕ) (x : Cell) (b m : List ℕ) : Type 0 where
+  pub accepted : Accepted b m
+  pub cell : cellOf (viewShown b m) t ≡ x
+
+holds-on : {t : ℕ} {x : Cell} {b m : List ℕ} (k : Link) → Holds t x b m → Step (k .event) b m (k .reply) (k .words) (k .marks)
+    → isFresh (stateIn b m t) (stateIn (k .words) (k .marks) t) ≡ false → Holds t x (k .words) (k .marks)
+holds-on {t} {b = b} {m} k H S f =
+    let A = H .accepted in
+    let e : viewShown (k .words) (k .marks) ≡ next (viewShown b m) (k .event) = S .shows A ∙ event-next (viewShown b m) (k .event) (A .sound) in
+    let g = ap (λ (v : View). isFresh (stateIn b m t) (task (v .body) t .state)) (sym e) ∙ f in
+    record { accepted = S .accepted A; cell = ap (λ (v : View). cellOf v t) e ∙ cell-stays (viewShown b m) (k .event) t g ∙ H .cell }
+
+-- ---- a chain
+
+-- whatever `cell` reads of task t is this
+abbrev pub CellIs : ℕ → Cell → List ℕ → List ℕ → Type 0
+CellIs t x b m = (code : ℤ) (word : ℕ) → Reads b m (pos t) code word → (code ≡ number (x .code)) × (word ≡ x .word)
+
+cell-is : {t : ℕ} {x : Cell} {b m : List ℕ} → Holds t x b m → CellIs t x b m
+cell-is H code word R =
+    let r = R .sound (H .accepted) in
+    (r .0 ∙ ap (λ (y : Cell). number (y .code)) (H .cell), r .1 ∙ ap (λ (y : Cell). y .word) (H .cell))
+
+pub cell-until : {t : ℕ} {x : Cell} {b m : List ℕ} (l : List Link) → Holds t x b m → Chain b m l → UntilFreed t (CellIs t x) b m l
+cell-until [] H C = cell-is H
+cell-until {t} {x} {b} {m} (k ∷ l) H C = (cell-is H, go (isFresh (stateIn b m t) (stateIn (k .words) (k .marks) t)) refl (λ f. cell-until l (holds-on k H (C .0) f) (C .1)))
+  where
+    go : (u : Bool) {A : Type 0} → isFresh (stateIn b m t) (stateIn (k .words) (k .marks) t) ≡ u → (isFresh (stateIn b m t) (stateIn (k .words) (k .marks) t) ≡ false → A) → Unless u A
+    go true f h = tt
+    go false f h = h f
+
+-- what follows from P holds as long
+unless : (u : Bool) {A B : Type 0} → (A → B) → Unless u A → Unless u B
+unless true f h = tt
+unless false f h = f h
+
+pub until-map : (t : ℕ) {P Q : List ℕ → List ℕ → Type 0} → ((b m : List ℕ) → P b m → Q b m) → (b m : List ℕ) (l : List Link) → UntilFreed t P b m l → UntilFreed t Q b m l
+until-map t f b m [] U = f b m U
+until-map t f b m (k ∷ l) U = (f b m (U .0), unless (isFresh (stateIn b m t) (stateIn (k .words) (k .marks) t)) (until-map t f (k .words) (k .marks) l) (U .1))
+
+-- ---- an event that is not refused
+
+-- A cell's reading is decided, so what follows from a fact that cannot fail holds.
+module _ {A : Type 0} (n : (A → ⊥) → ⊥) where
+  pub sureℤ : (x y : ℤ) → (A → x ≡ y) → x ≡ y
+  sureℤ x y f = elim (ℤ-discrete x y) [ yes e ↦ e | no h ↦ absurd (n (λ a. h (f a))) ]
+
+  sureℕ : (x y : ℕ) → (A → x ≡ y) → x ≡ y
+  sureℕ x y f = elim (ℕ-discrete x y) [ yes e ↦ e | no h ↦ absurd (n (λ a. h (f a))) ]
+
+  sure-unless : (u : Bool) {B : Type 0} → ((A → B) → B) → (A → Unless u B) → Unless u B
+  sure-unless true s f = tt
+  sure-unless false s f = s f
+
+  pub sure-words : {x y : ℤ} {p q : ℕ} → (A → (x ≡ y) × (p ≡ q)) → (x ≡ y) × (p ≡ q)
+  sure-words f = (sureℤ _ _ (λ a. f a .0), sureℕ _ _ (λ a. f a .1))
+
+  pub sure-until : (t : ℕ) (x : Cell) (b m : List ℕ) (l : List Link) → (A → UntilFreed t (CellIs t x) b m l) → UntilFreed t (CellIs t x) b m l
+  sure-until t x b m [] f = λ code word R. sure-words (λ a. f a code word R)
+  sure-until t x b m (k ∷ l) f =
+      ((λ code word R. sure-words (λ a. f a .0 code word R)), sure-unless (isFresh (stateIn b m t) (stateIn (k .words) (k .marks) t)) (sure-until t x (k .words) (k .marks) l) (λ a. f a .1))
+
+damage-negative : (z : ℤ) → inDamage z ≡ true → negative z ≡ true
+damage-negative (pos k) e = absurd (false≢true e)
+damage-negative (negsuc k) e = refl
+
+-- its memory is sound
+pub not-refused : {e : Event} {b m : List ℕ} {r : Reply} {b′ m′ : List ℕ} → Step e b m r b′ m′ → negative (r .code) ≡ false → (Accepted b m → ⊥) → ⊥
+unfolding tellsDamage
+not-refused {b = b} {m} S p n =
+    false≢true (sym p ∙ ap (λ (q : Reply). negative (q .code)) (S .refuses n) ∙ damage-negative (number (breach (viewShown b m) .code)) (breach-tells (viewShown b m)))

@@ -1,0 +1,58 @@
+-- `brightness::receive`: by what was judged. Assumes nothing.
+use mir.Facts.{toZ-ofZ}
+use Rattle.kernel_events.specs.Steps.{reply}
+use Rattle.brightness.proofs.Promised.{refused, asked}
+use borrow.Author.Needs.{needs}
+use Rattle.brightness.proofs.receive.Statement.{statement}
+use Rattle.brightness.proofs.receive.Tie as tie
+
+judge-requires : tie.Need-judge-requires
+judge-requires c κs = search needs
+
+enum-known-point : tie.Need-enum-known-point
+enum-known-point c = search needs
+
+enum-told : tie.Need-enum-told
+enum-told c = search needs
+
+running-requires : tie.Need-running-requires
+running-requires c κs = search needs
+
+call-requires : tie.Need-call-requires
+call-requires c κs = search needs
+
+heard-requires : tie.Need-heard-requires
+heard-requires c κs = search needs
+
+returns : tie.Need-returns
+returns c = let at-point = c .before in refused _ _ _ (at-point .before .before .judge .ensures) (at-point .point .given .1) _ _ _
+
+returns-2 : tie.Need-returns-2
+returns-2 c =
+    let told = c .before in
+    let at-call = told .before in
+    let at-running = at-call .before .before .before in
+    let good = at-running .before .before .before in
+    let start = good .before .before .before .before in
+    let answer = at-call .call .result in
+    asked _ _ _ (good .before .before .judge .ensures) (good .enum-told .given .1)
+    (record {
+      caller = at-running .running .result;
+      runs = at-running .running .ensures;
+      reply = reply (answer .code) (answer .w1) (answer .w2) (answer .running) (answer .released);
+      step = rw (toZ-ofZ (start .fits .mailbox)) at (at-call .call .ensures);
+      shows = rw (toZ-ofZ (record { sfits = told .struct-told .given .0 .1 })) at (c .heard .ensures);
+    })
+
+pub receive-spec : {M : Type 1} → statement M
+receive-spec =
+    tie.close
+    (tie.spec
+    judge-requires
+    enum-known-point
+    enum-told
+    running-requires
+    call-requires
+    heard-requires
+    returns
+    returns-2)

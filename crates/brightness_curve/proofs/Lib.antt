@@ -1,0 +1,4 @@
+-- Laws of brightness curves.
+pub mod Good
+pub mod Levels
+pub mod Examples
