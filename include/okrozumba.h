@@ -221,28 +221,52 @@ okrozumba_outcome okrozumba_run(const uint8_t *setup, size_t setup_bytes, uint32
                                 uint32_t messages[OKROZUMBA_MESSAGES], const int32_t *events, size_t event_words, int32_t *codes,
                                 size_t code_places, uint32_t *answers, size_t answer_words);
 
-/* ---- recorded runs */
+/* ---- recorded runs, as they come */
 
-/* No text is longer. */
-#define OKROZUMBA_TEXT 183017
+/* A recorded run is a setup, the number of events (0 to 1,000,000), and five words for each, kind, call, a, b, c. Its text has "start" and the running task, once setup and number are
+   accepted; then a line for each event: number, code, w1, w2, running task, released. Where the bytes have a fault, a last line follows those that stand: "refused", digit of the fault (1 to 4
+   for S1 to S4), place from the input's start. The input may come in parts of any size: the text, the last state and the refusal are the same. */
 
-/* The number of what was played. */
+/* A recorder: its numbers, and the bytes of the setup and the count, or of an event, that are not whole yet. Any content is a value. Its kernel is an okrozumba_state beside it, which needs no
+   preparation; once the start line is written it can be read by the functions above. */
+#define OKROZUMBA_NUMBERS 5
+#define OKROZUMBA_HELD 448
+
+typedef struct okrozumba_recorder {
+    uint32_t numbers[OKROZUMBA_NUMBERS];
+    uint8_t held[OKROZUMBA_HELD];
+} okrozumba_recorder;
+
+/* No line is longer: an output of so many bytes always takes a byte of a part. */
+#define OKROZUMBA_LINE 67
+
+/* What a part or an end says. */
+typedef struct okrozumba_parted {
+    uint32_t number;
+    size_t place;   /* of the run's refusal, from the input's start; else 0 */
+    size_t taken;   /* how many bytes of the part were taken; of an end 0 */
+    size_t written; /* how many bytes of text stand at the front of the output; what lies behind is left */
+} okrozumba_parted;
+
+/* Its number; OKROZUMBA_S1 to _S4 are the run's refusal, whose line is the last one written. */
 enum {
-    OKROZUMBA_WRITTEN = 0, /* the text stands in the first bytes of the output, and what lies behind is left */
-    OKROZUMBA_SHORT = 1    /* the output is too short, and nothing was written */
+    OKROZUMBA_TAKEN = 0,  /* all of the part was taken; or it is the end */
+    OKROZUMBA_CLOSED = 5, /* S5: a nonempty part after the end or after a refusal, any end but the first; nothing was done or written */
+    OKROZUMBA_FULL = 6    /* no room for the next line: what was not taken is the next part */
 };
 
-/* In both cases the length is the text's. */
-typedef struct okrozumba_told {
-    uint32_t number;
-    size_t length;
-} okrozumba_told;
+/* Makes a recorder that has taken nothing. The bytes held need no preparation. */
+void okrozumba_begin(uint32_t numbers[OKROZUMBA_NUMBERS]);
 
-/* Plays a recorded run: a setup, the number of events (0 to 3,000), and five words for each, kind, call, a, b, c. The text has "start" and the
-   running task, then a line for each event: number, code, w1, w2, running task, released. Of a file with a fault it is the one line "refused",
-   digit of the fault (1 to 4 for S1 to S4), place from the file's start, and nothing ran. It judges the file itself. It takes 126 kB of the
-   stack: it is for the bench, not for the board. */
-okrozumba_told okrozumba_play(const uint8_t *file, size_t file_bytes, uint8_t *text, size_t text_bytes);
+/* Takes the next bytes of the input, runs the events that become whole, and writes their lines to the front of the output. It ends before a byte where fewer than OKROZUMBA_LINE bytes of the
+   output are left (OKROZUMBA_FULL); with a shorter output nothing is taken and nothing changes. At a refusal it ends behind the byte that is refused. An empty part changes nothing. On a damaged
+   state events are answered as by okrozumba_events. It looks for damage itself, once. */
+okrozumba_parted okrozumba_part(uint32_t numbers[OKROZUMBA_NUMBERS], uint8_t held[OKROZUMBA_HELD], uint32_t words[OKROZUMBA_STATE_WORDS],
+                                uint32_t messages[OKROZUMBA_MESSAGES], const uint8_t *bytes, size_t byte_count, uint8_t *text,
+                                size_t text_bytes);
+
+/* The end of the input: where more was to come, S1 and its line. If the line has no room, OKROZUMBA_FULL, and it is no end yet. */
+okrozumba_parted okrozumba_end(uint32_t numbers[OKROZUMBA_NUMBERS], const uint8_t held[OKROZUMBA_HELD], uint8_t *text, size_t text_bytes);
 
 /* ---- brightness */
 

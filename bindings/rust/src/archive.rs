@@ -1,5 +1,6 @@
 //! The functions of the archive, as `include/okrozumba.h` declares them. A reference to an array is passed as C passes a pointer.
 use crate::brightness::{Curve, Light};
+use crate::recorder::{HELD, NUMBERS};
 use crate::{Answer, Cell, MESSAGES, STATE_WORDS};
 
 type Words = [u32; STATE_WORDS];
@@ -12,9 +13,11 @@ pub struct Outcome {
 }
 
 #[repr(C)]
-pub struct Told {
+pub struct Parted {
     pub number: u32,
-    pub length: usize,
+    pub place: usize,
+    pub taken: usize,
+    pub written: usize,
 }
 
 #[repr(C)]
@@ -88,12 +91,25 @@ extern "C" {
         answer_words: usize,
     ) -> Outcome;
 
-    pub fn okrozumba_play(
-        file: *const u8,
-        file_bytes: usize,
+    pub fn okrozumba_begin(numbers: &mut [u32; NUMBERS]);
+
+    pub fn okrozumba_part(
+        numbers: &mut [u32; NUMBERS],
+        held: &mut [u8; HELD],
+        words: &mut Words,
+        messages: &mut Messages,
+        bytes: *const u8,
+        byte_count: usize,
         text: *mut u8,
         text_bytes: usize,
-    ) -> Told;
+    ) -> Parted;
+
+    pub fn okrozumba_end(
+        numbers: &mut [u32; NUMBERS],
+        held: &[u8; HELD],
+        text: *mut u8,
+        text_bytes: usize,
+    ) -> Parted;
 
     pub fn okrozumba_curve_judge(curve: Curve) -> Judgement;
 

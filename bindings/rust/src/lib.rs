@@ -42,6 +42,7 @@ pub mod brightness;
 pub mod call;
 pub mod code;
 pub mod playback;
+pub mod recorder;
 
 /// Words of a state, without the marks of the messages.
 pub const STATE_WORDS: usize = 1713;

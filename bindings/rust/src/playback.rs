@@ -1,8 +1,7 @@
-//! The text of recorded runs: a file with a setup, the number of events (0 to 3,000) and five words for each event, as
-//! [`State::events`](crate::State::events) takes them; every number is four bytes, least significant first.
+//! The text of a whole recorded run, which [`Recorder`](crate::recorder::Recorder) takes as it comes.
 //!
 //! ```
-//! use okrozumba::playback::{play, TEXT};
+//! use okrozumba::playback::{play, Short};
 //!
 //! // One priority; one task, of priority 1 and started; nothing else; then four events, slp_tsk and a handler: entry, wup_tsk(1), return.
 //! let words: [u32; 30] = [
@@ -10,18 +9,19 @@
 //! ];
 //! let file: Vec<u8> = words.iter().flat_map(|word| word.to_le_bytes()).collect();
 //!
-//! let mut text = [0; TEXT];
+//! // How long is the text?
+//! let Err(Short { needed }) = play(&file, &mut []) else { panic!() };
+//! let mut text = vec![0; needed];
 //! let long = play(&file, &mut text).unwrap();
 //! assert_eq!(&text[..long], b"start 1\n1 1 0 0 0 0\n2 0 0 0 0 0\n3 0 0 0 0 1\n4 0 0 0 1 0\n");
 //!
-//! // Bytes that end too early are refused, with the offset of the word that isn't whole.
-//! let long = play(&file[..38], &mut text).unwrap();
-//! assert_eq!(&text[..long], b"refused 1 36\n");
+//! // Bytes that end too early are refused, with the offset of the word that isn't whole, behind the lines that stand.
+//! let long = play(&file[..62], &mut text).unwrap();
+//! assert_eq!(&text[..long], b"start 1\n1 1 0 0 0 0\nrefused 1 60\n");
 //! ```
-use crate::archive;
+use std::io;
 
-/// No text is longer.
-pub const TEXT: usize = 183_017;
+use crate::recorder::Recorder;
 
 /// There is no place for the text, which takes so many bytes.
 #[derive(Clone, Copy, PartialEq, Eq, Debug)]
@@ -31,17 +31,37 @@ pub struct Short {
 }
 
 /// Writes the text of a recorded run to the first bytes of an output and gives its length; what lies behind is left. A file with a fault has a
-/// text, too: the line of its refusal. If there is no place for the text, nothing was written. It takes 126 kB of the stack.
+/// text, too. If there is no place for the text, nothing was written. The file is played twice: the text's length is counted first.
 pub fn play(file: &[u8], text: &mut [u8]) -> Result<usize, Short> {
-    // SAFETY: each pointer goes with its slice's length, and the borrows keep both apart.
-    let told = unsafe {
-        archive::okrozumba_play(file.as_ptr(), file.len(), text.as_mut_ptr(), text.len())
-    };
-    match told.number {
-        0 => Ok(told.length),
-        1 => Err(Short {
-            needed: told.length,
-        }),
-        _ => panic!("the archive said what its header doesn't have"),
+    let mut count = Count(0);
+    write(file, &mut count);
+    let Count(needed) = count;
+    if text.len() < needed {
+        return Err(Short { needed });
+    }
+    write(file, &mut &mut text[..needed]);
+    Ok(needed)
+}
+
+/// The whole text, to an output that has place for it.
+fn write(file: &[u8], out: &mut impl io::Write) {
+    let mut recorder = Recorder::new();
+    recorder
+        .take(file, out)
+        .and_then(|_| recorder.finish(out))
+        .expect("there is place for the text");
+}
+
+/// An output that only counts.
+struct Count(usize);
+
+impl io::Write for Count {
+    fn write(&mut self, bytes: &[u8]) -> io::Result<usize> {
+        self.0 += bytes.len();
+        Ok(bytes.len())
+    }
+
+    fn flush(&mut self) -> io::Result<()> {
+        Ok(())
     }
 }

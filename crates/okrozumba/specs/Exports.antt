@@ -1,18 +1,14 @@
--- The answers of `start`, `events`, `run` and `play` in numbers, as the exported functions give them.
+-- The answers of `start`, `events` and `run` in numbers, as the exported functions give them.
 use mathlib.Core.List.{List}
 use mathlib.Core.Path.{_≡_}
 use Prim.Native.Nat.{ℕ, _+_}
 use lib.IntN.{ℤ}
-use lib.ListN as ListN
 use Rattle.kernel_start.specs.Starting.{Starts}
 use Rattle.kernel_start.specs.declared.Started.{Started}
 use Rattle.kernel_start.specs.declared.Started.the-variants as Started
 use Rattle.kernel_batches.specs.declared.Ran.{Ran}
 use Rattle.kernel_batches.specs.declared.Ran.the-variants as Ran
 use Rattle.kernel_batches.specs.Batches.{batchNumber, Lent, Batched, RunsFrom}
-use Rattle.run_text.specs.declared.Played.{Played}
-use Rattle.run_text.specs.declared.Played.the-variants as Played
-use Rattle.run_text.specs.Output.{playedOf, outputOf}
 
 -- ---- numbers and places
 
@@ -36,15 +32,6 @@ ranPlace Ran.Done = 0
 ranPlace (Ran.Unfit b) = 0
 ranPlace (Ran.Refused digit place) = place
 
--- 0 written, 1 short
-abbrev pub playedNumber : Played → ℕ
-playedNumber (Played.Written n) = 0
-playedNumber (Played.Short n) = 1
-
-abbrev pub playedLength : Played → ℕ
-playedLength (Played.Written n) = n
-playedLength (Played.Short n) = n
-
 -- ---- the contracts
 
 -- the number is that of an answer of which P holds
@@ -61,9 +48,3 @@ BatchedTold events n old new = Numbered batchNumber (λ r. Batched events r old 
 
 abbrev pub RunsTold : List ℕ → List ℤ → ℕ → ℕ → Lent → Lent → Type 0
 RunsTold s events n place old new = Numbered ranNumber (λ r. RunsFrom s events r old new × (place ≡ ranPlace r)) n
-
--- the text's length, whether it was written, and what the output holds then
-pub record ShownTold (text : List ℕ) (number length : ℕ) (old new : List ℕ) : Type 0 where
-  pub says : number ≡ playedNumber (playedOf text old)
-  pub long : length ≡ ListN.length text
-  pub holds : new ≡ outputOf text old

@@ -12,19 +12,24 @@ use kernel_cells::Reading;
 use kernel_events::Answer;
 use kernel_start::Started;
 use memory_columns::STATE_WORDS;
-use run_text::Played;
+use run_reading::HEAD;
+use run_recorder::Parted;
+use run_stream::NUMBERS;
 ghost use mathlib.Core.Path.{_≡_};
 ghost use Prim.Native.Nat.{_≤_};
 ghost use Rattle.rules.specs.Events as Events;
 ghost use Rattle.kernel_events.specs.Steps.{reply, Step};
 ghost use Rattle.kernel_cells.specs.Promises.{Reads, Runs};
 ghost use Rattle.kernel_batches.specs.Batches.{batchNumber, lent};
-ghost use Rattle.run_playback.specs.Text.{textOf};
 ghost use Rattle.brightness_curve.specs.Curves.{judgedOf, levelOf};
 ghost use Rattle.brightness_light.specs.Lights.{firstShown, takenOf};
 ghost use Rattle.brightness.specs.Readings.{Receives, Resumes};
 ghost use Rattle.okrozumba.specs.Brightness.{judgedNumber, judgedPoint, leveledNumber, leveledValue, DisplayTold, Displayed};
-ghost use Rattle.okrozumba.specs.Exports.{startNumber, startPlace, ranNumber, ranPlace, playedNumber, playedLength, StartsTold, BatchedTold, RunsTold, ShownTold};
+ghost use Rattle.run_reading.specs.Recorder.{begun};
+ghost use Rattle.run_stream.specs.Lent.{Is};
+ghost use Rattle.run_recorder.specs.Recording as Recording;
+ghost use Rattle.run_recorder.specs.Recording.{Parts, Ends};
+ghost use Rattle.okrozumba.specs.Exports.{startNumber, startPlace, ranNumber, ranPlace, StartsTold, BatchedTold, RunsTold};
 
 // An enum's number; and the place of a setup's fault, else 0.
 #[repr(C)]
@@ -189,30 +194,41 @@ pub extern "C" fn okrozumba_run(
     run_outcome(kernel_batches::run(setup, words, messages, events, codes, answers))
 }
 
-// ---- recorded runs
+// ---- recorded runs, as they come
 
-// The number of a `Played`, and the text's length.
-#[repr(C)]
-pub struct Told {
-    pub number: u32,
-    pub length: usize,
-}
-
-fn played_told(played: Played) -> Told
-    ensures { λ r. ⌜ (r .number ≡ playedNumber played) × (r .length ≡ playedLength played) ⌝ }
-{
-    match played {
-        Played::Written(length) => Told { number: 0, length },
-        Played::Short(length) => Told { number: 1, length },
-    }
-}
-
-// The text of a file: 0 and its length; or 1 and its length if the output is too short, and the output as it was.
+// A recorder that has taken nothing.
 #[no_mangle]
-pub extern "C" fn okrozumba_play(file: &[u8], text: &mut [u8]) -> Told
-    ensures { λ r. ⌜ ShownTold (textOf (now (file .entry))) (r .number) (r .length) (now (text .entry)) (now (text .exit)) ⌝ }
+pub extern "C" fn okrozumba_begin(numbers: &mut [u32; NUMBERS])
+    ensures { λ _. ⌜ Is (now (numbers .exit)) begun ⌝ }
 {
-    played_told(run_playback::play(file, text))
+    run_stream::begin(numbers)
+}
+
+// The next part of the input.
+#[no_mangle]
+pub extern "C" fn okrozumba_part(
+    numbers: &mut [u32; NUMBERS],
+    held: &mut [u8; HEAD],
+    words: &mut [u32; STATE_WORDS],
+    messages: &mut [u32; 256],
+    bytes: &[u8],
+    text: &mut [u8],
+) -> Parted
+    ensures { λ r. ⌜ Parts (now (bytes .entry)) (Recording.lent (now (numbers .entry)) (now (held .entry)) (now (words .entry)) (now (messages .entry))) (Recording.lent (now (numbers .exit)) (now (held .exit)) (now (words .exit)) (now (messages .exit))) (now (text .entry)) (now (text .exit)) r ⌝ }
+{
+    run_recorder::part(numbers, held, words, messages, bytes, text)
+}
+
+// The end of the input.
+#[no_mangle]
+pub extern "C" fn okrozumba_end(
+    numbers: &mut [u32; NUMBERS],
+    held: &[u8; HEAD],
+    text: &mut [u8],
+) -> Parted
+    ensures { λ r. ⌜ Ends (now (numbers .entry)) (now (held .entry)) (now (numbers .exit)) (now (text .entry)) (now (text .exit)) r ⌝ }
+{
+    run_recorder::end(numbers, held, text)
 }
 
 // ---- brightness

@@ -1,5 +1,3 @@
--- Laws of recorded runs.
-pub mod Rows
-pub mod Verdict
+-- The text of an input: by both kernels, and worked examples.
 pub mod PlainText
 pub mod Examples

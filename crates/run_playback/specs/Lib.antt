@@ -1,4 +1,2 @@
--- The text of a recorded run, and what the code hands on from the run to the text.
-pub mod Text
-pub mod Playing
+-- Worked examples of inputs and their texts.
 pub mod Examples

@@ -1,4 +1,5 @@
--- Laws of reading a recorded run.
+-- Laws of recorded runs as bytes.
 pub mod Words
 pub mod Reach
-pub mod Events
+pub mod Heads
+pub mod Division

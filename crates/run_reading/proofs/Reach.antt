@@ -1,18 +1,18 @@
--- How far a read reaches: what it gives depends on the bytes up to there alone, and it reaches no further than its section's size. So a setup reads
--- alike from its own bytes and from a longer file, and a file reads alike whatever follows its longest form. Assumes nothing.
+-- How far a read reaches: what it gives depends on the bytes up to there alone, and it reaches no further than its section's size. So setup and count
+-- read alike whatever follows, once they are read or refused for anything but their end. Assumes nothing.
 use mathlib.Core.Bool.{Bool, true, false, cond, _&&_}
-use mathlib.Core.List.{List, [], _∷_, map}
-use mathlib.Core.Path.{_≡_, refl, ap, _∙_, subst}
+use mathlib.Core.List.{List, [], _∷_, _++_}
+use mathlib.Core.Path.{_≡_, refl, sym, ap, _∙_, subst}
 use Prim.Native.Nat.{ℕ, zero, suc, _+_, _*_, _≤_, _<_}
 use native.Mathlib.Nat.{mul-le-mul-right}
 use native.Mathlib.Omega.{arith}
 use lib.Dec.{leb}
-use lib.ListN.{length, take, getD, length-take}
+use lib.ListN.{length, take, getD, length-take, length-append}
 use borrow.Author.Tests.{le-leb, lt-leb, leb-true, leb-false}
-use Rattle.rules.specs.Setup.{Fault, S1, S2, S3, Read, got, refused, and-then, wordAt, Range, within, readWord, Section, priorities, sections, readEntry, readEntries, readSection, readSections, Setup, setupOf, readSetup, at-end, setup}
-use Rattle.rules.proofs.Accepted.{Reads, from-read}
-use Rattle.rules.specs.Writing.{joined}
-use Rattle.run_reading.specs.Recorded.{Run, events, signedWord, readEvents, recorded}
+use Rattle.rules.specs.Setup.{Fault, S1, S2, S3, S4, Read, got, refused, and-then, wordAt, Range, to, within, readWord, Section, priorities, sections, readEntry, readEntries, readSection, readSections, Setup, setupOf, readSetup, at-end, setup}
+use Rattle.rules.proofs.Accepted.{Reads, from-read, reads-then}
+use Rattle.setup.proofs.Reading.{WordAt, word-lies}
+use Rattle.run_reading.specs.Recorded.{mostEvents, headBytes, Head, readHead}
 
 -- the offset behind the last byte that decided
 abbrev reach : {A : Type 0} → Read A → ℕ
@@ -118,17 +118,13 @@ module _ (s t : List ℕ) (n : ℕ) (hs : n ≤ length s) (ht : n ≤ length t) 
       steady-then (readSection s priorities i) (readSection t priorities i) (section-steady priorities i)
       (λ p j q. steady-then (readSections s (sections (length p)) j) (readSections t (sections (length p)) j) (sections-steady (sections (length p)) j) (λ l k r. steady-got (setupOf (length p) l) k))
 
-  events-steady : (i : ℕ) → Steady i 60004 (readEvents s i) (readEvents t i)
-  unfolding readEvents
-  events-steady i = steady-then (readSection s events i) (readSection t events i) (section-steady events i) (λ l j q. steady-got (map signedWord (joined l)) j)
+  head-steady : Steady 0 headBytes (readHead s) (readHead t)
+  unfolding readHead
+  head-steady =
+      steady-then (readSetup s 0) (readSetup t 0) (setup-steady 0)
+      (λ u i q. steady-then (readWord s (to 0 mostEvents) S2 i) (readWord t (to 0 mostEvents) S2 i) (word-steady (to 0 mostEvents) S2 i) (λ m j p. steady-got (record { setup = u; events = m }) j))
 
 -- ---- a setup in front of other bytes
-
-take-all : (s : List ℕ) (n : ℕ) → length s < n → take n s ≡ s
-take-all [] zero h = refl
-take-all [] (suc n) h = refl
-take-all (x ∷ s) zero h = absurd (omega (arith, h))
-take-all (x ∷ s) (suc n) h = ap (λ (l : List ℕ). x ∷ l) (take-all s n (omega (arith, h)))
 
 getD-take : (s : List ℕ) (n k : ℕ) → k < n → getD (take n s) k 0 ≡ getD s k 0
 getD-take [] zero k h = refl
@@ -144,34 +140,146 @@ setup-prefix s u k e h =
     let r : readSetup (take k s) 0 ≡ readSetup s 0 = setup-steady s (take k s) k h (omega (arith, l)) (λ j q. getD-take s k j q) 0 .same (rw e (omega arith)) in
     rw (r, e) (rw (le-leb (length (take k s)) k (omega (arith, l))) refl)
 
--- ---- what follows the longest file
+-- ---- a read's word is whole, but for S1
 
--- the whole file, but for the end
-unfoldable readRun : List ℕ → Read Run
-readRun s = and-then (readSetup s 0) (λ u i. and-then (readEvents s i) (λ w j. got (record { setup = u; words = w }) j))
+-- what was read ends within the bytes; a word that is refused for its number is whole; one refused by S1 is not
+abbrev Ends : {A : Type 0} → List ℕ → Read A → Type 0
+Ends s (got a k) = k ≤ length s
+Ends s (refused S1 p) = length s < p + 4
+Ends s (refused S2 p) = p + 4 ≤ length s
+Ends s (refused S3 p) = p + 4 ≤ length s
+Ends s (refused S4 p) = p + 4 ≤ length s
 
-run-steady : (s t : List ℕ) (n : ℕ) (hs : n ≤ length s) (ht : n ≤ length t) (agree : (k : ℕ) → k < n → getD t k 0 ≡ getD s k 0) → Steady s t n hs ht agree 0 60448 (readRun s) (readRun t)
-unfolding readRun
-run-steady s t n hs ht agree =
-    steady-then s t n hs ht agree (readSetup s 0) (readSetup t 0) (setup-steady s t n hs ht agree 0)
-    (λ u i q. steady-then s t n hs ht agree (readEvents s i) (readEvents t i) (events-steady s t n hs ht agree i) (λ w j p. steady-got s t n hs ht agree (record { setup = u; words = w }) j))
+-- the fault of a word outside its range
+abbrev pub Proper : Fault → Type 0
+Proper S1 = ⊥
+Proper S2 = Unit {0}
+Proper S3 = Unit {0}
+Proper S4 = Unit {0}
 
--- where both are longer than what was read, both end alike
-end-alike : {A : Type 0} (s t : List ℕ) (r : Read A) → reach r < length s → reach r < length t → at-end t r ≡ at-end s r
-unfolding at-end
-end-alike s t (got a i) h k = rw (lt-leb (length s) i h, lt-leb (length t) i k)
-end-alike s t (refused d i) h k = refl
+module _ (s : List ℕ) where
+  ends-then : {A B : Type 0} (r : Read A) (f : A → ℕ → Read B) → Ends s r → ((a : A) (k : ℕ) → k ≤ length s → Ends s (f a k)) → Ends s (and-then r f)
+  unfolding and-then
+  ends-then (got a k) f h g = g a k h
+  ends-then (refused S1 p) f h g = h
+  ends-then (refused S2 p) f h g = h
+  ends-then (refused S3 p) f h g = h
+  ends-then (refused S4 p) f h g = h
 
--- The first 60,449 bytes decide: nothing that is read depends on a later byte.
-pub later-bytes : (s : List ℕ) → recorded (take 60449 s) ≡ recorded s
-unfolding recorded readRun
-later-bytes s = go (leb 60449 (length s)) refl
+  word-ends : (r : Range) (f : Fault) → Proper f → (i : ℕ) → Ends s (readWord s r f i)
+  unfolding readWord
+  word-ends r f proper i = go f proper (leb (i + 4) (length s)) (within r (wordAt s i)) refl
+    where
+      go : (f : Fault) → Proper f → (e m : Bool) → leb (i + 4) (length s) ≡ e → Ends s (cond {A = Read ℕ} e (cond m (got (wordAt s i) (i + 4)) (refused f i)) (refused S1 i))
+      go f h true true q = leb-true _ _ q
+      go S1 h true false q = absurd h
+      go S2 h true false q = leb-true _ _ q
+      go S3 h true false q = leb-true _ _ q
+      go S4 h true false q = leb-true _ _ q
+      go f h false m q = leb-false _ _ q
+
+  entry-ends : (e : List Range) (i : ℕ) → i ≤ length s → Ends s (readEntry s e i)
+  unfolding readEntry
+  entry-ends [] i h = h
+  entry-ends (r ∷ e) i h = ends-then (readWord s r S3 i) _ (word-ends r S3 tt i) (λ w j k. ends-then (readEntry s e j) _ (entry-ends e j k) (λ ws l m. m))
+
+  entries-ends : (e : List Range) (n i : ℕ) → i ≤ length s → Ends s (readEntries s e n i)
+  unfolding readEntries
+  entries-ends e zero i h = h
+  entries-ends e (suc n) i h = ends-then (readEntry s e i) _ (entry-ends e i h) (λ x j k. ends-then (readEntries s e n j) _ (entries-ends e n j k) (λ xs l m. m))
+
+  section-ends : (x : Section) (i : ℕ) → Ends s (readSection s x i)
+  unfolding readSection
+  section-ends x i = ends-then (readWord s (x .count) S2 i) _ (word-ends (x .count) S2 tt i) (λ n j k. entries-ends (x .entry) n j k)
+
+  sections-ends : (l : List Section) (i : ℕ) → i ≤ length s → Ends s (readSections s l i)
+  unfolding readSections
+  sections-ends [] i h = h
+  sections-ends (x ∷ l) i h = ends-then (readSection s x i) _ (section-ends x i) (λ y j k. ends-then (readSections s l j) _ (sections-ends l j k) (λ ys k m. m))
+
+  pub head-ends : Ends s (readHead s)
+  unfolding readHead readSetup
+  head-ends =
+      ends-then (readSetup s 0) _
+      (ends-then (readSection s priorities 0) _ (section-ends priorities 0) (λ p j k. ends-then (readSections s (sections (length p)) j) _ (sections-ends (sections (length p)) j k) (λ l i m. m)))
+      (λ u i k. ends-then (readWord s (to 0 mostEvents) S2 i) _ (word-ends (to 0 mostEvents) S2 tt i) (λ n j m. m))
+
+-- ---- more bytes behind
+
+getD-front : (a b : List ℕ) (k : ℕ) → k < length a → getD (a ++ b) k 0 ≡ getD a k 0
+getD-front [] b k h = absurd (omega (arith, h))
+getD-front (x ∷ a) b zero h = refl
+getD-front (x ∷ a) b (suc k) h = getD-front a b k (omega (arith, h))
+
+-- what was read, or refused for a number, stays whatever follows
+pub head-stays : (s t : List ℕ) → reach (readHead s) ≤ length s → readHead (s ++ t) ≡ readHead s
+head-stays s t h = head-steady s (s ++ t) (length s) (omega arith) (omega (arith, length-append s t)) (λ k l. getD-front s t k l) .same h
+
+pub got-stays : (s t : List ℕ) (h : Head) (i : ℕ) → readHead s ≡ got h i → readHead (s ++ t) ≡ got h i
+got-stays s t h i e = head-stays s t (rw e (rw e at (head-ends s))) ∙ e
+
+pub refused-stays : (s t : List ℕ) (f : Fault) → Proper f → (p : ℕ) → readHead s ≡ refused f p → readHead (s ++ t) ≡ refused f p
+refused-stays s t S1 g p e = absurd g
+refused-stays s t S2 g p e = head-stays s t (rw e (rw e at (head-ends s))) ∙ e
+refused-stays s t S3 g p e = head-stays s t (rw e (rw e at (head-ends s))) ∙ e
+refused-stays s t S4 g p e = head-stays s t (rw e (rw e at (head-ends s))) ∙ e
+
+abbrev Said : Read Head → Type 0
+Said (got h i) = Unit {0}
+Said (refused f p) = ⊥
+
+got-refused : {h : Head} {i p : ℕ} → _≡_ {A = Read Head} (got h i) (refused S1 p) → ⊥
+got-refused w = subst (λ (r : Read Head). Said r) w tt
+
+-- a head that the last byte completed ends with it
+pub head-exact : (l : List ℕ) (b p : ℕ) → readHead l ≡ refused S1 p → (h : Head) (i : ℕ) → readHead (l ++ (b ∷ [])) ≡ got h i → i ≡ length (l ++ (b ∷ []))
+head-exact l b p e h i g = go (leb i (length l)) refl
   where
-    go : (t : Bool) → leb 60449 (length s) ≡ t → recorded (take 60449 s) ≡ recorded s
-    go true e =
-        let h = leb-true 60449 (length s) e in
-        let l : length (take 60449 s) ≡ 60449 = length-take 60449 s ∙ omega (arith, h) in
-        let S = run-steady s (take 60449 s) 60449 h (omega (arith, l)) (λ j q. getD-take s 60449 j q) in
-        let m = S .most in
-        ap (at-end (take 60449 s)) (S .same (omega (arith, m))) ∙ end-alike s (take 60449 s) (readRun s) (omega (arith, m, h)) (omega (arith, m, l))
-    go false e = ap recorded (take-all s 60449 (leb-false 60449 (length s) e))
+    n : length (l ++ (b ∷ [])) ≡ length l + 1
+    n = length-append l (b ∷ [])
+
+    most : i ≤ length (l ++ (b ∷ []))
+    most = rw g at (head-ends (l ++ (b ∷ [])))
+
+    go : (t : Bool) → leb i (length l) ≡ t → i ≡ length (l ++ (b ∷ []))
+    go true q =
+        let a : i ≤ length l = leb-true _ _ q in
+        let r : reach (readHead (l ++ (b ∷ []))) ≡ i = ap reach g in
+        let z : readHead l ≡ readHead (l ++ (b ∷ [])) = head-steady (l ++ (b ∷ [])) l (length l) (omega (arith, n)) (omega arith) (λ k m. sym (getD-front l (b ∷ []) k m)) .same (omega (arith, r, a)) in
+        absurd (let w : _≡_ {A = Read Head} (got h i) (refused S1 p) = sym g ∙ sym z ∙ e in got-refused w)
+    go false q = let a : length l < i = leb-false i (length l) q in omega (arith, a, most, n)
+
+-- more is needed only where fewer bytes than the most are there
+pub needs-more : (s : List ℕ) (p : ℕ) → readHead s ≡ refused S1 p → length s < headBytes
+needs-more s p e =
+    let S = head-steady s s (length s) (omega arith) (omega arith) (λ k h. refl) in
+    let m : p + 4 ≤ 0 + headBytes = rw e at (S .most) in
+    let n : length s < p + 4 = rw e at (head-ends s) in
+    omega (arith, m, n)
+
+-- ---- the parts of a head
+
+reads-both : {A : Type 0} (P Q : A → ℕ → Type 0) (r : Read A) → Reads P r → Reads Q r → Reads (λ a j. P a j × Q a j) r
+reads-both P Q (got a j) p q = (p, q)
+reads-both P Q (refused d j) p q = tt
+
+itself : {A : Type 0} (r : Read A) → Reads (λ a i. r ≡ got a i) r
+itself (got a i) = refl
+itself (refused d i) = tt
+
+-- the setup, then the count behind it
+pub record Parts (s : List ℕ) (h : Head) (i : ℕ) : Type 0 where
+  pub end : ℕ
+  pub setup : readSetup s 0 ≡ got (h .setup) end
+  pub whole : i ≡ end + 4
+  pub within : i ≤ length s
+  pub events : h .events ≡ wordAt s end
+  pub few : h .events ≤ mostEvents
+
+pub head-parts : (s : List ℕ) → Reads (Parts s) (readHead s)
+unfolding readHead
+head-parts s =
+    reads-then (λ u i. readSetup s 0 ≡ got u i) _ (readSetup s 0) _ (itself (readSetup s 0))
+    (λ u i e. reads-then (λ n j. WordAt s i n j × ((i + 4 ≤ length s) × (n ≤ mostEvents))) _ (readWord s (to 0 mostEvents) S2 i) _
+    (reads-both _ _ (readWord s (to 0 mostEvents) S2 i) (word-lies s (to 0 mostEvents) S2 i) (word-within s (to 0 mostEvents) S2 i))
+    (λ n j h. record { end = i; setup = e; whole = h .0 .1; within = rw (h .0 .1) (h .1 .0); events = h .0 .0; few = h .1 .1 }))

@@ -1,36 +1,66 @@
--- A recorded run as bytes: the setup, then one more section, the events, then nothing. It is read as a setup is: the first fault decides, and its
--- place is counted from the file's start.
+-- A recorded run as bytes: the setup, then the count of events, then five words for each event, then nothing. What the bytes hold is a list of items in
+-- their order. The first fault decides; its place is counted from the start of the input.
 use mathlib.Core.Bool.{cond}
-use mathlib.Core.List.{List, [], _∷_, _++_, map}
-use Prim.Native.Nat.{ℕ, zero, suc, _+_, _-_, _^_}
-use lib.Dec.{ltb}
+use mathlib.Core.List.{List, [], _∷_}
+use Prim.Native.Nat.{ℕ, zero, suc, _+_, _-_, _*_, _/_, _^_}
+use lib.Dec.{leb, ltb}
 use lib.IntN.{ℤ, pos, negsuc}
-use Rattle.rules.specs.Setup.{Read, got, and-then, wordAt, Range, to, Section, section, readSection, Setup, readSetup, at-end}
-use Rattle.rules.specs.Writing.{joined}
+use lib.ListN.{length, take, drop}
+use Rattle.rules.specs.Setup.{Fault, S1, S2, S4, Read, got, refused, and-then, wordAt, to, readWord, Setup, readSetup}
+use Rattle.rules.specs.Events.{Event, eventOf}
 
-pub record Run : Type 0 where
+-- ---- the setup and the count
+
+abbrev pub mostEvents : ℕ
+mostEvents = 1000000
+
+pub record Head : Type 0 where
   pub setup : Setup
-  -- of the events, five for each: kind, call, a, b, c
-  pub words : List ℤ
+  -- how many events follow
+  pub events : ℕ
 
-abbrev pub anyWord : Range
-anyWord = to 0 (2 ^ 32 - 1)
+unfoldable pub readHead : List ℕ → Read Head
+readHead s = and-then (readSetup s 0) (λ u i. and-then (readWord s (to 0 mostEvents) S2 i) (λ n j. got (record { setup = u; events = n }) j))
 
-abbrev pub events : Section
-events = section (to 0 3000) (anyWord ∷ anyWord ∷ anyWord ∷ anyWord ∷ anyWord ∷ [])
+-- the most bytes of both: 111 words of a setup, and one
+abbrev pub headBytes : ℕ
+headBytes = 448
+
+-- ---- events
 
 -- the signed word with the same bits
 abbrev pub signedWord : ℕ → ℤ
 signedWord w = cond (ltb w (2 ^ 31)) (pos w) (negsuc (2 ^ 32 - 1 - w))
 
--- n words from an offset on
-unfoldable pub wordsFrom : List ℕ → ℕ → ℕ → List ℕ
-wordsFrom s zero i = []
-wordsFrom s (suc n) i = wordAt s i ∷ wordsFrom s n (i + 4)
+-- five words: kind, call, a, b, c
+abbrev pub eventBytes : ℕ
+eventBytes = 20
 
--- the section of events, as signed words
-unfoldable pub readEvents : List ℕ → ℕ → Read (List ℤ)
-readEvents s i = and-then (readSection s events i) (λ l j. got (map signedWord (joined l)) j)
+abbrev pub eventIn : List ℕ → Event
+eventIn w = eventOf (signedWord (wordAt w 0)) (signedWord (wordAt w 4)) (signedWord (wordAt w 8)) (signedWord (wordAt w 12)) (signedWord (wordAt w 16))
 
-unfoldable pub recorded : List ℕ → Read Run
-recorded s = at-end s (and-then (readSetup s 0) (λ u i. and-then (readEvents s i) (λ w j. got (record { setup = u; words = w }) j)))
+-- ---- items
+
+-- setup and count are whole and accepted; an event is whole, by its number; the run is refused
+pub data Item : Type 0 where
+  begins : Head → Item
+  occurs : ℕ → Event → Item
+  refuses : Fault → ℕ → Item
+
+-- So many events are to come, the next one by its number and its place: whole ones stand. Then S1 at the first word that is not whole, or S4 at the
+-- first byte left over.
+unfoldable pub eventItems : ℕ → ℕ → ℕ → List ℕ → List Item
+eventItems zero number place [] = []
+eventItems zero number place (b ∷ s) = refuses S4 place ∷ []
+eventItems (suc n) number place s =
+    cond (leb eventBytes (length s))
+    (occurs number (eventIn (take eventBytes s)) ∷ eventItems n (suc number) (place + eventBytes) (drop eventBytes s))
+    (refuses S1 (place + 4 * (length s / 4)) ∷ [])
+
+unfoldable pub itemsBehind : List ℕ → Read Head → List Item
+itemsBehind s (refused f place) = refuses f place ∷ []
+itemsBehind s (got h i) = begins h ∷ eventItems (h .events) 1 i (drop i s)
+
+-- of a whole input
+unfoldable pub itemsOf : List ℕ → List Item
+itemsOf s = itemsBehind s (readHead s)

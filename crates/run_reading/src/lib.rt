@@ -1,31 +1,23 @@
-// The reader of a recorded run: a setup, then the section of its events. That section is judged as the sections of a setup are, and its words are
-// signed ones. The contracts cite `readEvents` and `signedWord`.
+// The bytes of a recorded run: the setup and the count of events are judged as they stand, and an event's words are signed ones. The contracts cite
+// `readHead` and `signedWord`. That the bytes may come in parts is said and proved here without code (`Recorder`, `any-division`).
 use setup::Judged;
 use setup::Span;
 use setup::judge_word;
-use setup::word;
 ghost use mathlib.Core.Path.{_≡_};
-ghost use lib.ListN.{replicate};
-ghost use Rattle.rules.specs.Setup.{readEntry, at-end};
 ghost use Rattle.setup.specs.Judging.{judgedOf};
-ghost use Rattle.run_reading.specs.Recorded.{anyWord, signedWord, readEvents};
+ghost use Rattle.run_reading.specs.Recorded.{signedWord, readHead};
 
-// The most events, and their words: kind, call and three arguments for each.
-pub const EVENTS: usize = 3000;
+// The most events of a run.
+pub const EVENTS: u32 = 1000000;
 
-pub const WORDS_OF_EVENT: usize = 5;
+// The most bytes of a setup and the count of events behind it: 111 words, and one.
+pub const HEAD: usize = 448;
 
-pub const EVENT_WORDS: usize = WORDS_OF_EVENT * EVENTS;
+// The bytes of an event: kind, call and three arguments.
+pub const EVENT: usize = 20;
 
-// One byte more than the longest file has: whatever follows it, what is read is the same (`later-bytes`).
-pub const FILE: usize = 60449;
-
-// The faults of a setup, by the papers' names.
+// The fault of a count outside its range, by the papers' name.
 const S2: u32 = 2;
-
-const S3: u32 = 3;
-
-const S4: u32 = 4;
 
 const MOST_WORD: u32 = 4294967295;
 
@@ -43,56 +35,18 @@ pub fn signed(w: u32) -> i32
     -1 - below as i32
 }
 
-// `n` words of any value.
-fn judge_words(bytes: &[u8], n: usize, from: usize) -> Judged
-    ensures { λ r. ⌜ r ≡ judgedOf (readEntry (now (bytes .entry)) (replicate n anyWord) from) ⌝ }
+// The setup and the count of events that stand at the front of the bytes.
+pub fn judge_head(bytes: &[u8]) -> Judged
+    ensures { λ r. ⌜ r ≡ judgedOf (readHead (now (bytes .entry))) ⌝ }
 {
-    let any = Span {
-        least: 0,
-        most: MOST_WORD,
-    };
-    let mut at = from;
-    let mut left = n;
-    while 0 < left {
-        match judge_word(bytes, any, S3, at) {
-            Judged::Bad(d, i) => {
-                return Judged::Bad(d, i);
-            }
-            Judged::Good(next) => {
-                at = next;
-            }
-        }
-        left -= 1;
-    }
-    Judged::Good(at)
-}
-
-// The count of events at an offset, and five words for each.
-fn judge_section(bytes: &[u8], at: usize) -> Judged
-    ensures { λ r. ⌜ r ≡ judgedOf (readEvents (now (bytes .entry)) at) ⌝ }
-{
-    let count = Span {
-        least: 0,
-        most: EVENTS as u32,
-    };
-    match judge_word(bytes, count, S2, at) {
+    match setup::judge(bytes, 0) {
         Judged::Bad(d, i) => Judged::Bad(d, i),
-        Judged::Good(next) => judge_words(bytes, WORDS_OF_EVENT * word(bytes, at) as usize, next),
-    }
-}
-
-// The same, and nothing may follow.
-pub fn judge_events(bytes: &[u8], at: usize) -> Judged
-    ensures { λ r. ⌜ r ≡ judgedOf (at-end (now (bytes .entry)) (readEvents (now (bytes .entry)) at)) ⌝ }
-{
-    match judge_section(bytes, at) {
-        Judged::Bad(d, i) => Judged::Bad(d, i),
-        Judged::Good(end) => {
-            if end < bytes.len() {
-                Judged::Bad(S4, end)
-            } else {
-                Judged::Good(end)
-            }
+        Judged::Good(at) => {
+            let count = Span {
+                least: 0,
+                most: EVENTS,
+            };
+            judge_word(bytes, count, S2, at)
         }
     }
 }

@@ -1,23 +1,18 @@
 -- Entries laid into an output from a place on: one text behind the other, and from the front where there is place. Assumes nothing.
-use mathlib.Core.Bool.{Bool, true, false, cond}
 use mathlib.Core.List.{List, [], _∷_, _++_}
 use mathlib.Core.Path.{_≡_, refl, sym, ap, _∙_, subst}
-use Prim.Native.Nat.{ℕ, zero, suc, _+_, _-_, _*_, _/_, _%_, _^_, _≤_, _<_}
+use Prim.Native.Nat.{ℕ, zero, suc, _+_, _-_, _/_, _%_, _^_, _≤_, _<_, min}
 use native.Mathlib.Decide.{decLe}
 use native.Mathlib.Omega.{arith}
-use lib.Dec.{leb}
 use lib.IntN.{ℤ, pos, negsuc}
 use lib.Signed.{mag}
 use lib.ListN.{length, drop, getD, set, length-set, length-append, drop-of-length-le}
 use mir.Syntax.{w32}
 use mir.Val.{toZ, ofZ}
 use mir.Facts.{toZ-ofZ}
-use borrow.Author.Tests.{le-leb, lt-leb, leb-true}
 use Rattle.rules.specs.Events.{bits}
-use Rattle.run_text.specs.declared.Played.{Played}
-use Rattle.run_text.specs.declared.Played.the-variants.{Written, Short}
-use Rattle.run_text.specs.Lines.{decimal, signed, fields, lines, rowAt, rows, lentCount}
-use Rattle.run_text.specs.Output.{outputOf, playedOf, laid, Wrote, Shown}
+use Rattle.run_text.specs.Lines.{decimal, signed}
+use Rattle.run_text.specs.Output.{laid, Wrote}
 use Rattle.run_text.proofs.Decimal.{decimal-one, decimal-more, decimal-length}
 
 module _ {A : Type 0} where
@@ -48,19 +43,32 @@ module _ {A : Type 0} where
   drop-entry d zero (x ∷ l) h = refl
   drop-entry d (suc i) (x ∷ l) h = let e : suc (i + 1) ≡ suc i + 1 = omega arith in drop-entry d i l (omega (arith, h)) ∙ ap (λ (n : ℕ). getD l i d ∷ drop n (x ∷ l)) e
 
-  -- the entry at i is laid, then those behind it
-  pub laid-next : (d : A) (l : List A) (i : ℕ) (t : List A) → i < length l → laid (drop (i + 1) l) (i + 1) (set t i (getD l i d)) ≡ laid (drop i l) i t
-  unfolding laid
-  laid-next d l i t h = let e : i + 1 ≡ suc i = omega arith in rw (drop-entry d i l h, e)
+  pub laid-first : (l : List A) (j : ℕ) (t : List A) → laid l (j + 0) t ≡ laid l j t
+  laid-first l j t = ap (λ (k : ℕ). laid l k t) (omega arith)
 
-  pub laid-none : (l : List A) (i : ℕ) (t : List A) → length l ≤ i → laid (drop i l) i t ≡ t
+  -- entry i is laid, then those behind it
+  pub laid-next : (d : A) (l : List A) (i j : ℕ) (t : List A) → i < length l → laid (drop (i + 1) l) (j + (i + 1)) (set t (j + i) (getD l i d)) ≡ laid (drop i l) (j + i) t
   unfolding laid
-  laid-none l i t h = rw (drop-of-length-le l h)
+  laid-next d l i j t h = let e : j + (i + 1) ≡ suc (j + i) = omega arith in rw (drop-entry d i l h, e)
 
   pub set-behind : (l : List A) (i : ℕ) (x : A) → length l ≤ i → set l i x ≡ l
   set-behind [] i x h = refl
   set-behind (y ∷ l) zero x h = absurd (omega (arith, h))
   set-behind (y ∷ l) (suc i) x h = ap (λ (k : List A). y ∷ k) (set-behind l i x (omega (arith, h)))
+
+  -- behind the end nothing is laid
+  pub laid-past : (l : List A) (i : ℕ) (t : List A) → length t ≤ i → laid l i t ≡ t
+  unfolding laid
+  laid-past [] i t h = refl
+  laid-past (x ∷ l) i t h = rw (set-behind t i x h) (laid-past l (suc i) t (omega (arith, h)))
+
+  pub laid-none : (l : List A) (i j : ℕ) (t : List A) → length l ≤ i → laid (drop i l) j t ≡ t
+  unfolding laid
+  laid-none l i j t h = rw (drop-of-length-le l h)
+
+  -- so many entries as there are, or as there is room for
+  pub laid-all : (l : List A) (i j : ℕ) (t : List A) → min (length l) (length t - j) ≤ i → laid (drop i l) (j + i) t ≡ t
+  laid-all l i j t h = elim (decLe (length l) i) [ yes a ↦ laid-none l i (j + i) t a | no a ↦ laid-past (drop i l) (j + i) t (omega (arith, h, a)) ]
 
 -- ---- what was written
 
@@ -117,102 +125,3 @@ module _ (z : ℤ) (h : mag z < 2 ^ 31) {n : ℕ} (e : n ≡ bits (toZ w32 (ofZ 
       go : (x : ℤ) → mag x < 2 ^ 31 → 2147483648 ≤ bits x → 45 ∷ decimal (4294967295 - bits x + 1) ≡ signed x
       go (pos k) q l = absurd (omega (arith, q, l))
       go (negsuc k) q l = let e : 4294967295 - (2 ^ 32 - suc k) + 1 ≡ suc k = omega (arith, q) in ap (λ (k : ℕ). 45 ∷ decimal k) e
-
--- ---- in turn
-
--- the whole text from a place on is what is left of it from here on
-pub record Left (whole : List ℕ) (i₀ : ℕ) (t₀ rest : List ℕ) (i : ℕ) (t : List ℕ) : Type 0 where
-  pub holds : laid rest i t ≡ laid whole i₀ t₀
-  pub count : i + length rest ≡ i₀ + length whole
-
-pub left-next : {w a b t₀ t t′ : List ℕ} {i₀ i j : ℕ} → Left w i₀ t₀ (a ++ b) i t → Wrote a i t t′ j → Left w i₀ t₀ b j t′
-left-next {w} {a} {b} {t₀} {t} {t′} {i₀} {i} l v = record {
-  holds = rw (v .holds, v .next) (sym (laid-append a b i t) ∙ l .holds);
-  count = omega (arith, v .next, l .count, length-append a b);
-}
-
-pub left-none : {w t₀ t : List ℕ} {i₀ i : ℕ} → Left w i₀ t₀ [] i t → Wrote w i₀ t₀ t i
-unfolding laid
-left-none l = record { holds = l .holds; next = omega (arith, l .count) }
-
--- the answers, line by line
-pub lines-next : (c : List ℤ) (w : List ℕ) (n i : ℕ) → i < n
-    → lines (suc i) (rows c w (n - i) i) ≡ (decimal (i + 1) ++ fields (rowAt c w i)) ++ lines (suc (i + 1)) (rows c w (n - (i + 1)) (i + 1))
-unfolding lines rows
-lines-next c w n i h =
-    let e : n - i ≡ suc (n - (i + 1)) = omega (arith, h) in
-    let f : suc i ≡ i + 1 = omega arith in
-    rw (e, f)
-
-pub lines-all : (c : List ℤ) (w : List ℕ) (n i₀ : ℕ) (t₀ : List ℕ) → Left (lines 1 (rows c w n 0)) i₀ t₀ (lines 1 (rows c w (n - 0) 0)) i₀ t₀
-lines-all c w n i₀ t₀ = let e : n - 0 ≡ n = omega arith in rw e (record { holds = refl; count = refl })
-
-pub lines-none : (c : List ℤ) (w : List ℕ) (n i : ℕ) → n ≤ i → lines (suc i) (rows c w (n - i) i) ≡ []
-unfolding lines rows
-lines-none c w n i h = let e : n - i ≡ 0 = omega (arith, h) in rw e
-
--- ---- the whole
-
--- its length was counted first
-module _ {text t₀ t₁ : List ℕ} {n : ℕ} (counted : Wrote text 0 t₀ t₁ n) (h : n ≤ 183017) (old : List ℕ) where
-  pub shown-short : length old < n → Shown text (Short n) old old
-  unfolding playedOf outputOf
-  shown-short l =
-      let e : n ≡ length text = counted .next ∙ omega arith in
-      let s = lt-leb (length text) (length old) (omega (arith, l, e)) in
-      record { says = rw s (ap Short e); holds = rw s; fits = omega (arith, h, e) }
-
-  pub shown-written : n ≤ length old → {new : List ℕ} {m : ℕ} → Wrote text 0 old new m → Shown text (Written n) old new
-  unfolding playedOf outputOf
-  shown-written l w =
-      let e : n ≡ length text = counted .next ∙ omega arith in
-      let s = le-leb (length text) (length old) (omega (arith, l, e)) in
-      record { says = rw s (ap Written e); holds = rw s (w .holds ∙ laid-over text old (omega (arith, l, e))); fits = omega (arith, h, e) }
-
--- what is written lies within the output, and there is place for it in one that is long enough
-module _ {text : List ℕ} {r : Played} {old new : List ℕ} (S : Shown text r old new) where
-  pub written-within : (k : ℕ) → r ≡ Written k → k ≤ length old
-  unfolding playedOf
-  written-within k e = go (leb (length text) (length old)) refl (sym e ∙ S .says)
-    where
-      go : (t : Bool) → leb (length text) (length old) ≡ t → Written k ≡ cond t (Written (length text)) (Short (length text)) → k ≤ length old
-      go true q z = let y : k ≡ length text = cc in omega (arith, y, leb-true (length text) (length old) q)
-      go false q z = absurd (let y : _≡_ {A = ℕ} 0 1 = cc in omega arith)
-
-  pub never-short : (k : ℕ) → 183017 ≤ length old → r ≡ Short k → ⊥
-  unfolding playedOf
-  never-short k h e =
-      let q = le-leb (length text) (length old) (omega (arith, S .fits)) in
-      let z : Short k ≡ Written (length text) = sym e ∙ (rw q at (S .says)) in
-      let y : _≡_ {A = ℕ} 0 1 = cc in
-      omega arith
-
--- ---- the answers that are lent
-
-module _ (n codes words : ℕ) where
-  pub lent-all : n ≤ 3000 → n ≤ codes → 4 * n ≤ words → lentCount n codes words ≡ n
-  unfolding lentCount
-  lent-all h k l = rw (le-leb n 3000 h, le-leb n codes k, le-leb (4 * n) words l)
-
-  pub lent-many : 3000 < n → lentCount n codes words ≡ 0
-  unfolding lentCount
-  lent-many h = rw (lt-leb n 3000 h)
-
-  pub lent-few-codes : n ≤ 3000 → codes < n → lentCount n codes words ≡ 0
-  unfolding lentCount
-  lent-few-codes h k = rw (le-leb n 3000 h, lt-leb n codes k)
-
-  pub lent-few-words : n ≤ 3000 → n ≤ codes → words < 4 * n → lentCount n codes words ≡ 0
-  unfolding lentCount
-  lent-few-words h k l = rw (le-leb n 3000 h, le-leb n codes k, lt-leb (4 * n) words l)
-
-  pub lent-fits : {k : ℕ} → k ≡ lentCount n codes words → (k ≤ 3000) × (k ≤ codes) × (4 * k ≤ words)
-  lent-fits {k} e = elim (decLe n 3000) [ no h ↦ none (e ∙ lent-many (omega (arith, h))) | yes h ↦ elim (decLe n codes) [ no g ↦ none (e ∙ lent-few-codes h (omega (arith, g))) | yes g ↦ elim (decLe (4 * n) words) [ no f ↦ none (e ∙ lent-few-words h g (omega (arith, f))) | yes f ↦ rw (e ∙ lent-all h g f) (h, g, f) ] ] ]
-    where
-      none : {k : ℕ} → k ≡ 0 → (k ≤ 3000) × (k ≤ codes) × (4 * k ≤ words)
-      none e = (omega (arith, e), omega (arith, e), omega (arith, e))
-
--- all of them are lent, so all are shown
-pub shown-lent : (n : ℕ) (codes : List ℤ) (words : List ℕ) {k l : ℕ} → length codes ≡ k → length words ≡ l → n ≤ 3000 → 3000 ≤ k → 12000 ≤ l → (first : List ℕ) {r : Played} {old new : List ℕ}
-    → Shown (first ++ lines 1 (rows codes words (lentCount n (length codes) (length words)) 0)) r old new → Shown (first ++ lines 1 (rows codes words n 0)) r old new
-shown-lent n codes words ec ew h k l first S = rw (lent-all n (length codes) (length words) h (omega (arith, ec, h, k)) (omega (arith, ew, h, l))) at S

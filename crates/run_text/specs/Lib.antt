@@ -1,4 +1,5 @@
--- The lines of a text, and what a lent output holds then.
+-- The lines of a text, the text of a recorded run, and what a lent output holds then.
 pub mod Ascii
 pub mod Lines
+pub mod Text
 pub mod Output

@@ -1,10 +1,9 @@
 -- The lines of a text, as the numbers of its bytes. Numbers are decimal, with single spaces between them, and a line feed ends each line.
-use mathlib.Core.Bool.{cond, _&&_}
+use mathlib.Core.Bool.{cond}
 use mathlib.Core.List.{List, [], _∷_, _++_}
 use Prim.Native.Nat.{ℕ, zero, suc, _+_, _-_, _*_, _/_, _%_, _≤_}
-use lib.Dec.{leb, ltb}
+use lib.Dec.{ltb}
 use lib.IntN.{ℤ, pos, negsuc}
-use lib.ListN.{getD}
 use Rattle.run_text.specs.Ascii.{ascii}
 
 -- ---- numbers
@@ -46,23 +45,10 @@ startLine runs = ascii "start" ++ fields (pos runs ∷ [])
 unfoldable pub refusal : ℕ → ℕ → List ℕ
 refusal fault place = ascii "refused" ++ fields (pos fault ∷ pos place ∷ [])
 
--- a line for each answer, numbered from i on
-unfoldable pub lines : ℕ → List (List ℤ) → List ℕ
-lines i [] = []
-lines i (a ∷ l) = (decimal i ++ fields a) ++ lines (suc i) l
+-- the number of an event and those of its answer
+unfoldable pub eventLine : ℕ → List ℤ → List ℕ
+eventLine number answer = decimal number ++ fields answer
 
--- ---- answers as they lie in the lent places
-
--- the numbers of answer i: a code, and four words
-abbrev pub rowAt : List ℤ → List ℕ → ℕ → List ℤ
-rowAt codes words i =
-    getD codes i (pos 0) ∷ pos (getD words (4 * i) 0) ∷ pos (getD words (4 * i + 1) 0) ∷ pos (getD words (4 * i + 2) 0) ∷ pos (getD words (4 * i + 3) 0) ∷ []
-
--- of n answers from i on
-unfoldable pub rows : List ℤ → List ℕ → ℕ → ℕ → List (List ℤ)
-rows codes words zero i = []
-rows codes words (suc n) i = rowAt codes words i ∷ rows codes words n (suc i)
-
--- n, if a run may have so many events (3,000 at most) and the answers of n are lent; else 0
-unfoldable pub lentCount : ℕ → ℕ → ℕ → ℕ
-lentCount n codes words = cond (leb n 3000 && (leb n codes && leb (4 * n) words)) n 0
+-- no line that a recorder writes is longer: it is that of an event whose six numbers have ten digits and whose code has a sign
+abbrev pub longestLine : ℕ
+longestLine = 67

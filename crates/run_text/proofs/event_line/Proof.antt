@@ -1,8 +1,8 @@
 -- `event_line`: one part after the other. Assumes nothing.
-use Prim.Native.Nat.{_+_, _≤_}
+use Prim.Native.Nat.{_≤_}
 use native.Mathlib.Omega.{arith}
 use Rattle.call_words.proofs.Signed.{signed as read-back}
-use Rattle.run_text.specs.Lines.{signed, fields}
+use Rattle.run_text.specs.Lines.{signed, fields, eventLine}
 use Rattle.run_text.proofs.Laid.{wrote-then, number-short, field-short}
 use borrow.Author.Needs.{needs}
 use Rattle.run_text.proofs.event_line.Statement.{statement}
@@ -12,22 +12,22 @@ number-requires : tie.Need-number-requires
 number-requires c κs = search needs
 
 -- where it stands after each part, at most
-after-number : (c : tie.After-number) → c .number .result ≤ c .before .before .before .args .at + 4
-after-number c = number-short 3 (omega (arith, c .before .before .before .pre .1)) (c .number .ensures)
+after-number : (c : tie.After-number) → c .number .result ≤ 10
+after-number c = let h = c .before .before .before .fits .i .fits in number-short 9 (omega (arith, h)) (c .number .ensures)
 
-after-code : (c : tie.After-code-field) → c .code-field .result ≤ c .before .before .before .before .before .before .before .args .at + 16
+after-code : (c : tie.After-code-field) → c .code-field .result ≤ 22
 after-code c = omega (arith, after-number (c .before .before .before .before), c .code-field .ensures .1)
 
-after-w1 : (c : tie.After-field) → c .field .result ≤ c .before .before .before .before .before .before .before .before .before .before .before .args .at + 27
+after-w1 : (c : tie.After-field) → c .field .result ≤ 33
 after-w1 c = let h = c .before .before .before .before .before .before .before .before .before .before .before .fits .w1 .fits in omega (arith, after-code (c .before .before .before .before), field-short 9 (omega (arith, h)) (c .field .ensures))
 
-after-w2 : (c : tie.After-field2) → c .field2 .result ≤ c .before .before .before .before .before .before .before .before .before .before .before .before .before .before .before .args .at + 38
+after-w2 : (c : tie.After-field2) → c .field2 .result ≤ 44
 after-w2 c = let h = c .before .before .before .before .before .before .before .before .before .before .before .before .before .before .before .fits .w2 .fits in omega (arith, after-w1 (c .before .before .before .before), field-short 9 (omega (arith, h)) (c .field2 .ensures))
 
-after-runs : (c : tie.After-field3) → c .field3 .result ≤ c .before .before .before .before .before .before .before .before .before .before .before .before .before .before .before .before .before .before .before .args .at + 49
+after-runs : (c : tie.After-field3) → c .field3 .result ≤ 55
 after-runs c = let h = c .before .before .before .before .before .before .before .before .before .before .before .before .before .before .before .before .before .before .before .fits .runs .fits in omega (arith, after-w2 (c .before .before .before .before), field-short 9 (omega (arith, h)) (c .field3 .ensures))
 
-after-released : (c : tie.After-field4) → c .field4 .result ≤ c .before .before .before .before .before .before .before .before .before .before .before .before .before .before .before .before .before .before .before .before .before .before .before .args .at + 60
+after-released : (c : tie.After-field4) → c .field4 .result ≤ 66
 after-released c = let h = c .before .before .before .before .before .before .before .before .before .before .before .before .before .before .before .before .before .before .before .before .before .before .before .fits .released .fits in omega (arith, after-runs (c .before .before .before .before), field-short 9 (omega (arith, h)) (c .field4 .ensures))
 
 code-field-requires : tie.Need-code-field-requires
@@ -52,7 +52,7 @@ same-length : tie.Need-same-length
 same-length c = search needs
 
 returns : tie.Need-returns
-unfolding fields signed
+unfolding fields signed eventLine
 returns c =
     let e = c .before .before in
     let r = e .before .before .before .before in

@@ -1,0 +1,37 @@
+-- `occurs`: a step, and its line. Assumes nothing.
+use denote.Ref.{now}
+use Rattle.call_words.proofs.Signed.{signed}
+use Rattle.kernel_events.specs.Steps.{reply}
+use Rattle.run_recorder.proofs.Items.{plays-occurs}
+use borrow.Author.Needs.{needs}
+use Rattle.run_recorder.proofs.occurs.Statement.{statement}
+use Rattle.run_recorder.proofs.occurs.Tie as tie
+use Rattle.run_recorder.proofs.occurs.Reads as reads
+use Rattle.run_recorder.proofs.occurs.Lts as lts
+use Rattle.run_recorder.proofs.serve_held.Reads as serve-held-reads
+use Rattle.run_text.proofs.event_line.Reads as event-line-reads
+
+-- src/lib.rt:123:9
+serve-held-requires : tie.Need-serve-held-requires
+serve-held-requires c κs = search needs
+
+-- src/lib.rt:124:9
+event-line-requires : tie.Need-event-line-requires
+event-line-requires c κs = search needs
+
+-- src/lib.rt:112:1
+same-length : tie.Need-same-length
+same-length c = search needs
+
+-- src/lib.rt:112:1
+returns : tie.Need-returns
+returns c =
+    let L = c .before .before in
+    let S = L .before .before .before in
+    let a = S .serve-held .result in
+    let r = reply (a .code) (a .w1) (a .w2) (a .running) (a .released) in
+    let W = rw (signed _ (L .before .struct-told .given .0 .1)) at (L .event-line .ensures) in
+    plays-occurs (now (S .before .before .before .before .args .held)) _ _ _ _ _ {r = r} (S .serve-held .ensures) W
+
+pub occurs-spec : {M : Type 1} → statement M
+occurs-spec = tie.close (tie.spec serve-held-requires event-line-requires same-length returns)

@@ -1,0 +1,2 @@
+-- Laws of a recorder's lent numbers and bytes.
+pub mod Taking

@@ -1,0 +1,19 @@
+-- `is_closed`: by the phase. Assumes nothing.
+use mathlib.Core.Path.{refl}
+use Rattle.run_stream.proofs.Taking.{closed-tests}
+use borrow.Author.Needs.{needs}
+use Rattle.run_stream.proofs.is_closed.Statement.{statement}
+use Rattle.run_stream.proofs.is_closed.Tie as tie
+use Rattle.run_stream.proofs.is_closed.Reads as reads
+use Rattle.run_stream.proofs.is_closed.Lts as lts
+
+-- src/lib.rt:88:16
+element-copy-out-result : tie.Need-element-copy-out-result
+element-copy-out-result c = search needs
+
+-- src/lib.rt:85:1
+returns : tie.Need-returns
+returns c = λ h. closed-tests _ h refl
+
+pub is-closed-spec : {M : Type 1} → statement M
+is-closed-spec = tie.close (tie.spec element-copy-out-result returns)

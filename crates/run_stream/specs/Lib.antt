@@ -1,0 +1,2 @@
+-- A recorder as lent numbers and bytes.
+pub mod Lent
