@@ -12,3 +12,4 @@ pub mod rings;
 pub mod script;
 pub mod setup;
 pub mod sketch;
+pub mod stream;

@@ -1,10 +1,10 @@
-//! A second player of recorded runs, from the request alone: from a file's bytes to its text. And random runs to record.
+//! A second player of recorded runs, from requests K1 and K8 alone: from a whole file's bytes to its text. And random runs to record.
 use crate::plain::{Answer, Event, Plain};
 use crate::random::Random;
 use crate::script::{self, Author, Size};
 use crate::setup::{self, Fault, Reader, Setup};
 
-const EVENTS_MOST: u32 = 3000;
+const EVENTS_MOST: u32 = 1_000_000;
 const TICK: i32 = 2;
 const ENTRY: i32 = 3;
 const RETURN: i32 = 4;
@@ -76,27 +76,34 @@ impl Recording {
         bytes.extend(setup::bytes_of([count].into_iter().chain(words)));
         bytes
     }
+}
 
-    /// What a file has, or its first fault.
-    fn read(file: &[u8]) -> Result<Recording, Fault> {
-        let mut reader = Reader::new(file);
-        let setup = reader.setup()?;
-        let mut events = Vec::new();
-        for _ in 0..reader.count(0, EVENTS_MOST)? {
-            let mut five = Five::default();
-            for word in &mut five {
-                *word = reader.word()? as i32;
-            }
-            events.push(five);
-        }
-        reader.end()?;
-        Ok(Recording { setup, events })
+// ---- reading
+
+/// The setup and the number of events.
+pub fn front(reader: &mut Reader) -> Result<(Setup, u32), Fault> {
+    Ok((reader.setup()?, reader.count(0, EVENTS_MOST)?))
+}
+
+pub fn five(reader: &mut Reader) -> Result<Five, Fault> {
+    let mut five = Five::default();
+    for word in &mut five {
+        *word = reader.word()? as i32;
     }
+    Ok(five)
 }
 
 // ---- texts
 
-fn line(number: usize, answer: Answer) -> String {
+pub fn refusal((fault, place): Fault) -> String {
+    format!("refused {fault} {place}\n")
+}
+
+pub fn start(plain: &Plain) -> String {
+    format!("start {}\n", plain.running().unwrap_or(0))
+}
+
+pub fn line(number: u32, answer: Answer) -> String {
     let Answer {
         code,
         w1,
@@ -107,16 +114,24 @@ fn line(number: usize, answer: Answer) -> String {
     format!("{number} {code} {w1} {w2} {running} {released}\n")
 }
 
+/// Writes the lines of a file; gives the refusal that comes behind them.
+fn play(file: &[u8], text: &mut String) -> Result<(), Fault> {
+    let mut reader = Reader::new(file);
+    let (setup, many) = front(&mut reader)?;
+    let mut plain = Plain::fresh(&setup);
+    *text += &start(&plain);
+    for number in 1..=many {
+        let five = five(&mut reader)?;
+        *text += &line(number, plain.event(event(five)));
+    }
+    reader.end()
+}
+
 /// The text of a file.
 pub fn text(file: &[u8]) -> String {
-    let run = match Recording::read(file) {
-        Ok(run) => run,
-        Err((fault, place)) => return format!("refused {fault} {place}\n"),
-    };
-    let mut plain = Plain::fresh(&run.setup);
-    let mut text = format!("start {}\n", plain.running().unwrap_or(0));
-    for (number, five) in (1..).zip(run.events) {
-        text += &line(number, plain.event(event(five)));
+    let mut text = String::new();
+    if let Err(fault) = play(file, &mut text) {
+        text += &refusal(fault);
     }
     text
 }

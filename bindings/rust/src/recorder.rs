@@ -1,37 +1,40 @@
-//! Recorded runs as they come: setup, number of events (0 to 1,000,000) and five words for each event, in parts of any size. Each whole event runs at once and
-//! writes its line. However the bytes are divided, the text, the last state and the refusal are the same.
+//! Recorded runs as they come: setup, number of events (0 to 1,000,000) and events in parts, in fixed memory. However the bytes are divided, the
+//! text, the last state and the refusal are the same.
+//!
+//! The text has "start" and the running task once the number of events is accepted, then a line for each whole event. A run with a fault ends
+//! with the line "refused", digit of the fault, place from the first byte of all.
 //!
 //! ```
-//! use okrozumba::recorder::{Recorder, Said};
+//! use okrozumba::recorder::{Recorder, Said, LINE};
 //!
-//! // One priority; one task, of priority 1 and started; nothing else; then two events, slp_tsk and a tick.
-//! let words: [u32; 20] = [1, 1, 1, 1, 0, 0, 0, 0, 0, 2, 0, 9, 0, 0, 0, 2, 0, 0, 0, 0];
-//! let input: Vec<u8> = words.iter().flat_map(|word| word.to_le_bytes()).collect();
+//! // One priority; one task, of priority 1 and started; nothing else; then one event, slp_tsk.
+//! let words: [u32; 15] = [1, 1, 1, 1, 0, 0, 0, 0, 0, 1, 0, 9, 0, 0, 0];
+//! let file: Vec<u8> = words.iter().flat_map(|word| word.to_le_bytes()).collect();
 //!
 //! let mut recorder = Recorder::new();
-//! let mut text = Vec::new();
-//! for part in input.chunks(7) {
-//!     assert_eq!(recorder.take(part, &mut text).unwrap(), Said::Taken);
-//! }
-//! assert_eq!(recorder.finish(&mut text).unwrap(), Said::Taken);
-//! assert_eq!(text, b"start 1\n1 1 0 0 0 0\n2 0 0 0 0 0\n");
+//! let mut text = [0; LINE];
+//! let mut told = recorder.part(&file[..41], &mut text);
+//! assert_eq!((told.said, told.written), (Said::Full, 8));
+//! assert_eq!(&text[..8], b"start 1\n");
+//! // the rest of that part is the next one
+//! told = recorder.part(&file[told.taken..], &mut text);
+//! assert_eq!((told.said, &text[..told.written]), (Said::Taken, &b"1 1 0 0 0 0\n"[..]));
+//! assert_eq!(recorder.end(&mut text).said, Said::Taken);
+//! assert_eq!(recorder.part(&[1], &mut text).said, Said::Closed);
 //! assert_eq!(recorder.state().running(), 0);
 //! ```
-use std::io::{self, Write};
-
 use crate::{archive, fault, Fault, State, MESSAGES, STATE_WORDS};
+#[cfg(feature = "std")]
+use std::io::{self, Write};
 
 /// Numbers of a recorder.
 pub const NUMBERS: usize = 5;
-/// Bytes that a recorder holds: those of the longest setup and the count behind it.
+/// Bytes that a recorder holds: of the setup and the number of events, then of an event.
 pub const HELD: usize = 448;
-/// No line is longer: an output of so many bytes always takes a byte of a part.
+/// No line is longer: with so much room at least one byte of a part is taken.
 pub const LINE: usize = 67;
 
-/// Bytes of text that [`Recorder::take`] writes at once.
-const OUTPUT: usize = 4096;
-
-/// The refusal of a run: its first fault, and where it is, from the input's start.
+/// The fault of a run, and its place from the first byte of all.
 #[derive(Clone, Copy, PartialEq, Eq, Debug)]
 pub struct BadRun {
     /// What is wrong.
@@ -43,28 +46,28 @@ pub struct BadRun {
 /// What a part or an end says.
 #[derive(Clone, Copy, PartialEq, Eq, Debug)]
 pub enum Said {
-    /// All of the part was taken; or it is the end.
+    /// The whole part was taken; or it is the end.
     Taken,
-    /// The run's refusal, whose line is the last one written. Nothing behind the refused byte is taken.
+    /// The run is refused here; its line is the last one written.
     Refused(BadRun),
-    /// S5: a nonempty part after the end or after a refusal, or any end but the first. Nothing was done or written.
+    /// S5, a nonempty part behind the end or a refusal, or another end: nothing was written, nothing changed.
     Closed,
-    /// There is no room for the next line: what was not taken is the next part.
+    /// The room ran out: the rest of the part is the next part. Of an end, nothing changed.
     Full,
 }
 
 /// What came of a part or an end.
 #[derive(Clone, Copy, PartialEq, Eq, Debug)]
 pub struct Parted {
-    /// What it says.
+    /// What is said.
     pub said: Said,
-    /// How many bytes of the part were taken.
+    /// Bytes of the part that were taken, a refused one too.
     pub taken: usize,
-    /// How many bytes of text stand at the front of the output.
+    /// Bytes of text at the front of the output; what lies behind is left.
     pub written: usize,
 }
 
-/// A recorder and its kernel.
+/// A run on its way: what it holds of its bytes, and its kernel.
 #[derive(Clone, PartialEq, Eq, Debug)]
 pub struct Recorder {
     numbers: [u32; NUMBERS],
@@ -78,8 +81,28 @@ impl Default for Recorder {
     }
 }
 
+fn said(parted: &archive::Parted) -> Said {
+    match parted.number {
+        0 => Said::Taken,
+        5 => Said::Closed,
+        6 => Said::Full,
+        number => Said::Refused(BadRun {
+            fault: fault(number),
+            place: parted.place,
+        }),
+    }
+}
+
+fn told(parted: archive::Parted) -> Parted {
+    Parted {
+        said: said(&parted),
+        taken: parted.taken,
+        written: parted.written,
+    }
+}
+
 impl Recorder {
-    /// A recorder that has taken nothing.
+    /// One that nothing was given to.
     pub fn new() -> Recorder {
         let state = State::of([0; STATE_WORDS], [0; MESSAGES]);
         let mut recorder = Recorder::of([0; NUMBERS], [0; HELD], state);
@@ -88,7 +111,7 @@ impl Recorder {
         recorder
     }
 
-    /// A recorder from its numbers, bytes and kernel, as [`Recorder::numbers`], [`Recorder::held`] and [`Recorder::state`] gave them or any others.
+    /// One with any content: what [`Recorder::numbers`], [`Recorder::held`] and [`Recorder::state`] gave, or anything else.
     pub fn of(numbers: [u32; NUMBERS], held: [u8; HELD], state: State) -> Recorder {
         Recorder {
             numbers,
@@ -97,11 +120,11 @@ impl Recorder {
         }
     }
 
-    /// Takes the next bytes of the input and writes the lines that they complete to the front of the output. It ends before a byte where fewer than [`LINE`] bytes of the output are
-    /// left. An empty part changes nothing.
+    /// Takes bytes of a part as long as there is room for any line ([`LINE`]) and writes their lines to the front of the text. An empty part
+    /// changes nothing.
     pub fn part(&mut self, bytes: &[u8], text: &mut [u8]) -> Parted {
-        // SAFETY: each pointer goes with its slice's length, and the borrows keep all apart.
-        let parted = unsafe {
+        // SAFETY: each pointer goes with its slice's length, the arrays have the sizes that are asked, and the borrows keep all apart.
+        told(unsafe {
             archive::okrozumba_part(
                 &mut self.numbers,
                 &mut self.held,
@@ -112,76 +135,53 @@ impl Recorder {
                 text.as_mut_ptr(),
                 text.len(),
             )
-        };
-        told(parted)
+        })
     }
 
-    /// The end of the input. If its line has no room, it says [`Said::Full`] and is no end yet.
+    /// The end of input, once: if the run is not whole it is refused here, as long as there is room for that line.
     pub fn end(&mut self, text: &mut [u8]) -> Parted {
         // SAFETY: as in `part`.
-        let parted = unsafe {
-            archive::okrozumba_end(
-                &mut self.numbers,
-                &self.held,
-                text.as_mut_ptr(),
-                text.len(),
-            )
-        };
-        told(parted)
+        told(unsafe {
+            archive::okrozumba_end(&mut self.numbers, &self.held, text.as_mut_ptr(), text.len())
+        })
     }
 
-    /// Takes all of the next bytes, in as many parts as it takes, and writes their lines. If writing fails, the bytes whose lines are lost have been taken.
+    /// Takes a whole part and writes its lines; never [`Said::Full`].
+    #[cfg(feature = "std")]
     pub fn take(&mut self, bytes: &[u8], out: &mut impl Write) -> io::Result<Said> {
-        let mut text = [0; OUTPUT];
+        let mut text = [0; 64 * LINE];
         let mut rest = bytes;
         loop {
-            let parted = self.part(rest, &mut text);
-            out.write_all(&text[..parted.written])?;
-            rest = &rest[parted.taken..];
-            if parted.said != Said::Full {
-                return Ok(parted.said);
+            let told = self.part(rest, &mut text);
+            out.write_all(&text[..told.written])?;
+            if told.said != Said::Full {
+                return Ok(told.said);
             }
+            rest = &rest[told.taken..];
         }
     }
 
-    /// The end of the input, and its line.
+    /// The end of input, with its line if it has one; never [`Said::Full`].
+    #[cfg(feature = "std")]
     pub fn finish(&mut self, out: &mut impl Write) -> io::Result<Said> {
         let mut text = [0; LINE];
-        let parted = self.end(&mut text);
-        out.write_all(&text[..parted.written])?;
-        Ok(parted.said)
+        let told = self.end(&mut text);
+        out.write_all(&text[..told.written])?;
+        Ok(told.said)
     }
 
-    /// The kernel: anything before the start line is written, then the state behind the last event.
+    /// The kernel, which is the run's once the start line is written.
     pub fn state(&self) -> &State {
         &self.state
     }
 
-    /// The recorder's numbers.
+    /// How far the run is; only the archive gives these a meaning.
     pub fn numbers(&self) -> &[u32; NUMBERS] {
         &self.numbers
     }
 
-    /// The bytes that are held.
+    /// The bytes that make nothing whole yet, at the front.
     pub fn held(&self) -> &[u8; HELD] {
         &self.held
-    }
-}
-
-fn told(parted: archive::Parted) -> Parted {
-    let said = match parted.number {
-        0 => Said::Taken,
-        number @ 1..=4 => Said::Refused(BadRun {
-            fault: fault(number),
-            place: parted.place,
-        }),
-        5 => Said::Closed,
-        6 => Said::Full,
-        _ => panic!("the archive said what its header doesn't have"),
-    };
-    Parted {
-        said,
-        taken: parted.taken,
-        written: parted.written,
     }
 }

@@ -100,12 +100,7 @@ pub fn block_home(words: &[u32; STATE_WORDS], x: u32) -> u32
 }
 
 // Of an id of a sort.
-fn home_of(
-    words: &[u32; STATE_WORDS],
-    messages: &[u32; MESSAGE_WORDS],
-    rings: Rings,
-    i: u32,
-) -> u32
+fn home_of(words: &[u32; STATE_WORDS], messages: &[u32; MESSAGE_WORDS], rings: Rings, i: u32) -> u32
     ensures { λ r. ⌜ r ≡ Queues.homeIn (now (words .entry)) (now (messages .entry)) rings i ⌝ }
 {
     match rings {

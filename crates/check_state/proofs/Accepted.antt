@@ -111,7 +111,7 @@ accepts-law b msgs size marks = decides-as
     (decides-and (ranges-law b msgs) (λ R. decides-and (queued-law b msgs size R Tasks) (λ T. decides-and (ready-law b msgs R (T .0)) (λ N. decides-and (queued-law b msgs size R Messages)
     (λ M. decides-and (queued-law b msgs size R Blocks) (λ B. unserved-law b msgs size R (M .0) (M .1)))))))
     (λ h. accepted-of b msgs
-        (record { size = size; marks = marks; low = h .0 .low; rings = each-sort b msgs (WholeRings b msgs) (h .1 .0 .0) (h .1 .1 .1 .0 .0) (h .1 .1 .1 .1 .0 .0); word = h .1 .1 .0 })
-        (h .0) (h .1 .1 .1 .1 .1) (each-sort b msgs (Kept b msgs) (h .1 .0 .1) (h .1 .1 .1 .0 .1) (h .1 .1 .1 .1 .0 .1)))
+    (record { size = size; marks = marks; low = h .0 .low; rings = each-sort b msgs (WholeRings b msgs) (h .1 .0 .0) (h .1 .1 .1 .0 .0) (h .1 .1 .1 .1 .0 .0); word = h .1 .1 .0 })
+    (h .0) (h .1 .1 .1 .1 .1) (each-sort b msgs (Kept b msgs) (h .1 .0 .1) (h .1 .1 .1 .0 .1) (h .1 .1 .1 .1 .0 .1)))
     (λ A. let q : (r : Rings) → WholeRings b msgs r × Kept b msgs r = λ r. (A .whole .rings r, kept b msgs (queues-of b msgs A) r) in
-        (ranges-of b msgs A, (q Tasks, (A .whole .word, (q Messages, (q Blocks, nobody-of b msgs A))))))
+    (ranges-of b msgs A, (q Tasks, (A .whole .word, (q Messages, (q Blocks, nobody-of b msgs A))))))

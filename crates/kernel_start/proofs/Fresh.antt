@@ -123,8 +123,7 @@ module _ (msgs : List ℕ) where
       let q : p + 1 - 1 ≡ p = omega arith in
       let x : (n ≡ wordOfId s at 4 p) × (n ≤ maxBlocks) × (n ≡ length (of (v .body .store .pools) p [])) = rw q at (f 1 (omega arith, omega arith)) in
       let g = blocks-hold p n 1 b v H w (r, omega arith) (omega arith) (omega (arith, x .2)) in
-      let h = pools-hold s at l (suc p) (inTurn (freed p) n 1 b) (acts (map (λ j. mark p j true) (from 1 n)) v) (g .0) (kept-nobody (g .1) w) (rest (g .1)) (omega arith) (omega (arith, g .1 .sizes .objects pool)) in
-      (
+      let h = pools-hold s at l (suc p) (inTurn (freed p) n 1 b) (acts (map (λ j. mark p j true) (from 1 n)) v) (g .0) (kept-nobody (g .1) w) (rest (g .1)) (omega arith) (omega (arith, g .1 .sizes .objects pool)) in (
         holds-as (turn-one (freedPool s at) (length l) p b ∙ ap (inTurn (freedPool s at) (length l) (suc p)) (pool-words s at p b n (x .0) (x .1))) (frees-are p n l v) (h .0),
         subst (Kept v) (sym (frees-are p n l v)) (kept-then (g .1) (h .1)),
       )

@@ -43,10 +43,7 @@ fn free_pool(bytes: &[u8], at: usize, p: u32, words: &mut [u32; STATE_WORDS])
     requires { ⌜ 1 ≤ p ⌝ }
     ensures { λ _. ⌜ now (words .exit) ≡ freedPool (now (bytes .entry)) at p (now (words .entry)) ⌝ }
 {
-    let k = at_most(
-        word_at(bytes, at, 4 * (p - 1) as usize),
-        MAX_BLOCKS,
-    );
+    let k = at_most(word_at(bytes, at, 4 * (p - 1) as usize), MAX_BLOCKS);
     free_blocks(words, p, k);
 }
 

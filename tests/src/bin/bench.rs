@@ -4,13 +4,16 @@
 //! and the quickest round of each counts. Two kernels must have answered alike. With two words, a side (events, calls, rings,
 //! checked) and a setup (small, middle, large), that side alone plays the mixed events once, for a profiler.
 use okrozumba::brightness::Curve;
+use okrozumba::recorder::Recorder;
 use okrozumba::{Answer, State};
 use second::random::Random;
 use second::rings::Kernel;
 use second::setup::{self, Setup};
+use std::fmt::Write;
 use std::time::Instant;
 
 const ROUNDS: u32 = 31;
+const TEXT_ROUNDS: u32 = 7;
 const MIXED: usize = 20_000;
 const LONG: usize = 1_000_000;
 
@@ -426,6 +429,57 @@ fn levels() {
     );
 }
 
+/// The text of a recorded run by the recorder.
+fn recorded(file: &[u8], text: &mut Vec<u8>) {
+    let mut recorder = Recorder::new();
+    recorder.take(file, text).expect("a vector takes all");
+    recorder.finish(text).expect("a vector takes all");
+}
+
+/// The same by rings and the library's own numbers.
+fn ringed(s: &Setup, events: &[i32], text: &mut String) {
+    let mut kernel = rings(s);
+    let (events, _) = events.as_chunks::<5>();
+    for (number, event) in (1..).zip(events) {
+        let Answer {
+            code,
+            w1,
+            w2,
+            running,
+            released,
+        } = kernel.event(event);
+        writeln!(text, "{number} {code} {w1} {w2} {running} {released}")
+            .expect("a string takes all");
+    }
+}
+
+fn seconds(work: impl FnOnce()) -> f64 {
+    let begun = Instant::now();
+    work();
+    begun.elapsed().as_secs_f64()
+}
+
+/// The text of a million events: both sides from the words to the text, and how many bytes of the file a second.
+fn texts() {
+    let s = &large();
+    let events = &mixed(s, LONG);
+    let words = events.iter().map(|word| *word as u32);
+    let rest = setup::bytes_of([LONG as u32].into_iter().chain(words));
+    let file = &[setup::bytes(s), rest].concat();
+    let (mut quickest_a, mut quickest_b) = (f64::MAX, f64::MAX);
+    for _ in 0..TEXT_ROUNDS {
+        let (mut a, mut b) = (Vec::new(), String::new());
+        quickest_a = quickest_a.min(seconds(|| recorded(file, &mut a)));
+        quickest_b = quickest_b.min(seconds(|| ringed(s, events, &mut b)));
+        assert!(a.ends_with(b.as_bytes()), "the texts differ");
+    }
+    let each = |seconds: f64| seconds * 1e9 / LONG as f64;
+    let (a, b, ratio) = (each(quickest_a), each(quickest_b), quickest_a / quickest_b);
+    println!("| text of 1,000,000 mixed, large / rings | {a:.1} | {b:.1} | {ratio:.2} |");
+    let speed = file.len() as f64 / quickest_a / 1e6;
+    println!("\nThe recorder takes {speed:.0} million bytes a second.");
+}
+
 fn profiled(side: &str, name: &str) {
     let s = &match name {
         "small" => small(),
@@ -464,4 +518,5 @@ fn main() {
     ticks();
     levels();
     long_run();
+    texts();
 }

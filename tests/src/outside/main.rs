@@ -7,6 +7,7 @@ mod damage;
 mod drawn;
 mod handlers;
 mod pair;
+mod parts;
 mod playback;
 mod program;
 mod reach;
@@ -33,6 +34,7 @@ const PARTS: [Part; 9] = [
     ("many events at once", batch::check),
     ("recorded runs", playback::check),
     ("brightness", brightness::check),
+    ("runs in parts", parts::check),
 ];
 
 fn timed(check: fn() -> Verdict) -> (Verdict, f64) {

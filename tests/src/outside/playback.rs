@@ -8,13 +8,15 @@ use second::recording::{self, Recording};
 use second::script::{Size, SIZES};
 use second::setup;
 use std::fs;
-use std::path::Path;
+use std::path::{Path, PathBuf};
 
 const FILES: u64 = 500;
 /// Damaged copies of each.
 const COPIES: u32 = 24;
-const EVENTS_MOST: usize = 3000;
-const LONGEST: usize = 60_448;
+const LONG: usize = 3000;
+const EVENTS_MOST: u32 = 1_000_000;
+/// Ends of a long file that are tried.
+const ENDS: u32 = 300;
 /// Bytes of an output behind its text.
 const SPARE: usize = 40;
 const SENTINEL: u8 = 0xa5;
@@ -41,11 +43,12 @@ const HANDLERS_TEXT: &str = "start 1\n1 -2629 0 0 1 0\n2 0 0 0 1 0\n3 0 0 0 1 0\
 
 #[derive(Default)]
 struct Tally {
-    /// Files that ran, and their lines.
+    /// Files that ran to their end, and all lines but refusals.
     ran: u64,
     lines: u64,
-    /// Refused with S1 to S4.
+    /// Refused with S1 to S4, and how many of them behind other lines.
     faults: [u64; 4],
+    later: u64,
     by_program: u64,
     shipped: u64,
     longest_text: usize,
@@ -69,13 +72,16 @@ fn lent(file: &[u8], text: &[u8], places: usize) -> bool {
 
 impl Tally {
     fn count(&mut self, text: &str) {
-        match text.strip_prefix("refused ") {
-            Some(rest) => self.faults[rest.as_bytes()[0] as usize - usize::from(b'1')] += 1,
-            None => {
-                self.ran += 1;
-                self.lines += text.lines().count() as u64;
-            }
+        let mut lines: Vec<&str> = text.lines().collect();
+        let last = lines.last().and_then(|line| line.strip_prefix("refused "));
+        if let Some(rest) = last {
+            self.faults[rest.as_bytes()[0] as usize - usize::from(b'1')] += 1;
+            lines.pop();
+            self.later += u64::from(!lines.is_empty());
+        } else {
+            self.ran += 1;
         }
+        self.lines += lines.len() as u64;
         self.longest_text = self.longest_text.max(text.len());
     }
 
@@ -112,7 +118,7 @@ impl Tally {
 }
 
 /// A few bytes changed to any others, some cut off or added.
-fn damaged(random: &mut Random, file: &[u8]) -> Vec<u8> {
+pub fn damaged(random: &mut Random, file: &[u8]) -> Vec<u8> {
     let mut file = file.to_vec();
     // the setup is short beside the events
     let front = file.len().min(120) as u32;
@@ -132,11 +138,11 @@ fn damaged(random: &mut Random, file: &[u8]) -> Vec<u8> {
     file
 }
 
-/// Mostly some dozens of events, now and then as many as there can be.
+/// Mostly some dozens of events, now and then many.
 fn drawn(random: &mut Random, seed: u64) -> Vec<u8> {
     let many = match seed % 50 {
         0 => 0,
-        1 => EVENTS_MOST,
+        1 => LONG,
         _ => random.below(200) as usize,
     };
     Recording::drawn(random, SIZES[seed as usize % SIZES.len()], many).bytes()
@@ -158,27 +164,32 @@ fn random_files(tally: &mut Tally) -> Result<(), String> {
     Ok(())
 }
 
-/// The longest file: every truncation; and whatever follows it, all that the program need not read too.
-fn longest(tally: &mut Tally) -> Result<(), String> {
-    let mut file = Recording::drawn(&mut Random::new(9), Size::Full, EVENTS_MOST).bytes();
-    if file.len() != LONGEST {
-        return Err(format!("the longest file has {} bytes", file.len()));
+/// A long file: cut off anywhere; and whatever follows it, all that the program need not read too.
+fn long(tally: &mut Tally) -> Result<(), String> {
+    let random = &mut Random::new(9);
+    let mut file = Recording::drawn(random, Size::Full, LONG).bytes();
+    let long = file.len();
+    for _ in 0..ENDS {
+        tally.judge(&file[..random.below(long as u32) as usize])?;
     }
-    tally.truncations(&file)?;
     for more in [1, 2, 3, 4, 5, 100, 1_000_000] {
-        file.resize(LONGEST + more, 7);
+        file.resize(long + more, 7);
         tally.judge(&file)?;
         tally.run_program(&file, 4096)?;
     }
-    file.truncate(LONGEST);
+    file.truncate(long);
     tally.run_program(&file, 1000)
 }
 
-/// One event more than there can be, and the words of events at both ends.
+/// As many events as there can be, and one more, by a count that is not kept; and the words of events at both ends.
 fn edges(tally: &mut Tally) -> Result<(), String> {
-    let mut run = Recording::drawn(&mut Random::new(10), Size::Small, EVENTS_MOST);
-    run.events.push([0; 5]);
-    tally.judge(&run.bytes())?;
+    let mut run = Recording::drawn(&mut Random::new(10), Size::Small, 3);
+    for count in [EVENTS_MOST, EVENTS_MOST + 1, 1 << 31, u32::MAX] {
+        let mut file = run.bytes();
+        let place = setup::bytes(&run.setup).len();
+        file[place..place + 4].copy_from_slice(&count.to_le_bytes());
+        tally.truncations(&file)?;
+    }
     let words = [i32::MIN, -1, 0, 1, 2, 3, 4, 5, i32::MAX];
     for kinds in [0, 1, 2, 3, 4] {
         run.events = words.map(|word| [word, 26, word, word, word]).to_vec();
@@ -203,16 +214,24 @@ fn read(path: &Path) -> Result<Vec<u8>, String> {
     fs::read(path).map_err(|e| format!("{}: {e}", path.display()))
 }
 
-/// The runs that the repository ships, each beside its text.
-fn shipped(tally: &mut Tally) -> Result<(), String> {
+/// The runs that the repository ships.
+pub fn shipped_files() -> Result<Vec<(PathBuf, Vec<u8>)>, String> {
     let folder = concat!(env!("CARGO_MANIFEST_DIR"), "/../examples/runs");
-    let entries = fs::read_dir(folder).map_err(|e| format!("{folder}: {e}"))?;
-    for entry in entries {
-        let path = entry.map_err(|e| format!("{folder}: {e}"))?.path();
-        if path.extension().is_none_or(|ending| ending != "run") {
-            continue;
+    let named = |e| format!("{folder}: {e}");
+    let mut files = Vec::new();
+    for entry in fs::read_dir(folder).map_err(named)? {
+        let path = entry.map_err(named)?.path();
+        if path.extension().is_some_and(|ending| ending == "run") {
+            let file = read(&path)?;
+            files.push((path, file));
         }
-        let file = read(&path)?;
+    }
+    Ok(files)
+}
+
+/// Each of them beside its text.
+fn shipped(tally: &mut Tally) -> Result<(), String> {
+    for (path, file) in shipped_files()? {
         if recording::text(&file).as_bytes() != read(&path.with_extension("txt"))? {
             return Err(format!("{}: not the text beside it", path.display()));
         }
@@ -244,16 +263,16 @@ pub fn check() -> Verdict {
     sheet(&mut tally)?;
     shipped(&mut tally)?;
     random_files(&mut tally)?;
-    longest(&mut tally)?;
+    long(&mut tally)?;
     edges(&mut tally)?;
     nested(&mut tally)?;
-    if tally.faults.contains(&0) || tally.shipped == 0 {
-        let counts = (tally.faults, tally.shipped);
+    if tally.faults.contains(&0) || tally.later == 0 || tally.shipped == 0 {
+        let counts = (tally.faults, tally.later, tally.shipped);
         return Err(format!("too little tested: {counts:?}"));
     }
     let [s1, s2, s3, s4] = tally.faults;
     Ok(format!(
-        "{} files ran, {} lines; {s1} S1, {s2} S2, {s3} S3, {s4} S4; {} files by the program, {} of them shipped; the longest text had {} bytes",
-        tally.ran, tally.lines, tally.by_program, tally.shipped, tally.longest_text
+        "{} files ran to their end, {} lines; {s1} S1, {s2} S2, {s3} S3, {s4} S4, {} of them behind other lines; {} files by the program, {} of them shipped; the longest text had {} bytes",
+        tally.ran, tally.lines, tally.later, tally.by_program, tally.shipped, tally.longest_text
     ))
 }

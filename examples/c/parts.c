@@ -1,0 +1,68 @@
+/* A recorded run that comes in parts of seven bytes, each of its lines printed as soon as it is there. From the repository's root:
+
+       rt staticlib okrozumba
+       cc -std=c11 -Wall -Wextra -Iinclude examples/c/parts.c target/staticlib/libokrozumba.a -o target/parts
+       target/parts
+
+   It prints:
+
+       start 1
+       70 bytes taken, runs 1
+       1 0 0 0 3 0
+       91 bytes taken, runs 3
+       2 1 0 0 1 0
+       108 bytes taken, runs 1
+       the end: 0
+       one more end: 5
+       another byte: 5 */
+#include "okrozumba.h"
+
+#include <inttypes.h>
+#include <stdio.h>
+
+#define WORD(n) (uint8_t)(n), 0, 0, 0
+
+enum { PART = 7 };
+
+/* The setup of the bench sheet, then two events of the running task: sta_tsk(3) and slp_tsk. */
+static const uint8_t run[] = {
+    WORD(4),                                                       /* priorities */
+    WORD(3), WORD(2), WORD(1), WORD(2), WORD(1), WORD(1), WORD(0), /* tasks: priority, started */
+    WORD(1), WORD(0),                                              /* a semaphore: count */
+    WORD(1), WORD(0),                                              /* a flag: pattern */
+    WORD(1),                                                       /* a mailbox */
+    WORD(2),                                                       /* messages */
+    WORD(1), WORD(2),                                              /* a pool: blocks */
+    WORD(2),                                                       /* events: kind, call, a, b, c */
+    WORD(OKROZUMBA_TASK), WORD(OKROZUMBA_STA_TSK), WORD(3), WORD(0), WORD(0),
+    WORD(OKROZUMBA_TASK), WORD(OKROZUMBA_SLP_TSK), WORD(0), WORD(0), WORD(0),
+};
+
+static okrozumba_recorder recorder;
+static okrozumba_state state;
+/* room for a line, and for any other behind it */
+static uint8_t text[2 * OKROZUMBA_LINE];
+
+static okrozumba_parted part(const uint8_t *bytes, size_t many) {
+    return okrozumba_part(recorder.numbers, recorder.held, state.words, state.messages, bytes, many, text, sizeof text);
+}
+
+static size_t smaller(size_t a, size_t b) {
+    return a < b ? a : b;
+}
+
+int main(void) {
+    okrozumba_begin(recorder.numbers);
+    for (size_t given = 0; given < sizeof run;) {
+        okrozumba_parted told = part(run + given, smaller(PART, sizeof run - given));
+        given += told.taken;
+        fwrite(text, 1, told.written, stdout);
+        if (told.written != 0) {
+            printf("%zu bytes taken, runs %" PRIu32 "\n", given, okrozumba_running(state.words, state.messages));
+        }
+    }
+    printf("the end: %" PRIu32 "\n", okrozumba_end(recorder.numbers, recorder.held, text, sizeof text).number);
+    printf("one more end: %" PRIu32 "\n", okrozumba_end(recorder.numbers, recorder.held, text, sizeof text).number);
+    printf("another byte: %" PRIu32 "\n", part(run, 1).number);
+    return 0;
+}
