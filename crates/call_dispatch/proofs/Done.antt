@@ -13,13 +13,13 @@ use borrow.Author.Tests.{eqb-false}
 use Rattle.rules.specs.Ids.{ids, In, times}
 use Rattle.rules.specs.Codes.{OK, negative, refuses}
 use Rattle.rules.specs.State.{Kind, semaphore, flag, mailbox, pool, Body, task, nobody, objects, waitOf, isReady, wish}
-use Rattle.rules.specs.Places.{readyAt, waiters, mail, population, belongs, lineAt}
+use Rattle.rules.specs.Places.{readyAt, waiters, mail, freeIn, many, population, belongs, lineAt}
 use Rattle.rules.specs.Events.{Event, tick, enter, exit, call, Words, nat, outside, above}
 use Rattle.rules.specs.Acts.{Act, rotate, release, elapse, after}
 use Rattle.rules.specs.View.{View, line, best}
 use Rattle.rules.specs.Verdicts.{Verdict}
 use Rattle.rules.specs.Tasks.{starting, sta-tsk, ext-tsk, ter-tsk, chg-pri, rot-rdq, rel-wai, sus-tsk, rsm-tsk, take-wakeup, slp-tsk, wai-tsk, waking, wup-tsk, can-wup, get-tid, tsk-sts}
-use Rattle.rules.specs.Objects.{to-first, obj-sts, sig-sem, take-sem, met, left, serve-flag, set-flg, clr-flg, take-flg, snd-msg, take-msg, blocksOf, lowest, take-blk, rel-blk}
+use Rattle.rules.specs.Objects.{to-first, obj-sts, sig-sem, take-sem, met, left, serve-flag, set-flg, clr-flg, take-flg, snd-msg, take-msg, take-blk, rel-blk}
 use Rattle.rules.specs.Time.{get-tim, ending, endings, timeout, ticked}
 use Rattle.rules.specs.Handling.{entered, exited}
 use Rattle.rules.specs.Rows.{staTsk, extTsk, terTsk, chgPri, rotRdq, relWai, susTsk, rsmTsk, slpTsk, waiTsk, wupTsk, canWup, sigSem, waiSem, preqSem, setFlg, clrFlg, waiFlg, polFlg, sndMsg, rcvMsg, prcvMsg, getBlk, pgetBlk, relBlk, getTid, tskSts, semSts, flgSts, mbxSts, mplSts, getTim}
@@ -121,11 +121,6 @@ exit-names v = acts-check _ tt (λ e. on-acts (tt, tt))
 
 -- ---- the calls
 
-lowest-in : (j : ℕ) (l : List Bool) (k : ℕ) → lowest (suc j) l ≡ suc k → (suc j ≤ suc k) × (suc k ≤ j + length l)
-lowest-in j [] k e = absurd (omega arith)
-lowest-in j (true ∷ l) k e = (omega arith, omega arith)
-lowest-in j (false ∷ l) k e = let r = lowest-in (suc j) l k e in (omega (arith, r .0), omega (arith, r .1))
-
 module _ (v : View) (h : Sound v) (a : ℤ) where
   abbrev There : Kind → Type 0
   There k = In (nat a) (objects (v .body .store) k)
@@ -167,8 +162,8 @@ module _ (v : View) (h : Sound v) (a : ℤ) where
   msg-named r i g = acts-first (λ e. g) (λ x m e. on-acts (first-lies v h (nat a) x m i e, tt))
 
   blk-named : (r : Verdict) → There pool → OnActs (AllNames (v .body)) r → OnActs (AllNames (v .body)) (take-blk v a r)
-  unfolding take-blk
-  blk-named r i g = acts-count (λ e. g) (λ k e. on-acts ((i, (omega arith, omega (arith, lowest-in 0 (blocksOf v a) k e .1))), tt))
+  unfolding take-blk population
+  blk-named r i g = acts-first (λ e. g) (λ x m e. on-acts ((i, subst (Known (many (v .body) (freeIn (nat a)))) e (h .queues (freeIn (nat a)) i .known) .0), tt))
 
   ret-named : (k : ℤ) → There pool → OnActs (AllNames (v .body)) (rel-blk v a k)
   unfolding rel-blk
