@@ -3,9 +3,6 @@ use native.Mathlib.Omega.{arith}
 use borrow.Author.Needs.{needs}
 use Rattle.play.proofs.play_all.Statement.{statement}
 use Rattle.play.proofs.play_all.Tie as tie
-use Rattle.play.proofs.play_all.Reads as reads
-use Rattle.play.proofs.play_all.Lts as lts
-use Rattle.play.proofs.play_some.Reads as play-some-reads
 
 abbrev Inv-loop : tie.InvT-loop
 Inv-loop numbers₀ held₀ words₀ messages₀ file₀ text₀ turns₀ numbers held words messages file text turns = Unit {0}
@@ -13,35 +10,27 @@ Inv-loop numbers₀ held₀ words₀ messages₀ file₀ text₀ turns₀ number
 abbrev μ-loop : tie.MeasureT-loop
 μ-loop numbers₀ held₀ words₀ messages₀ file₀ text₀ turns₀ numbers held words messages file text turns = turns
 
--- src/main.rt:99:5
 loop-holds : tie.Need-loop-holds Inv-loop μ-loop
 loop-holds c = tt
 
--- src/main.rt:100:12
 play-some-requires : tie.Need-play-some-requires Inv-loop μ-loop
 play-some-requires c κs = search needs
 
--- src/main.rt:101:13
 sub-turns : tie.Need-sub-turns Inv-loop μ-loop
 sub-turns c = omega arith
 
--- src/main.rt:99:5
 loop-less : tie.Need-loop-less Inv-loop μ-loop
 loop-less c = omega arith
 
--- src/main.rt:99:5
 loop-again : tie.Need-loop-again Inv-loop μ-loop
 loop-again c = tt
 
--- src/main.rt:99:5
 loop-less-2 : tie.Need-loop-less-2 Inv-loop μ-loop
 loop-less-2 c = omega arith
 
--- src/main.rt:99:5
 loop-again-2 : tie.Need-loop-again-2 Inv-loop μ-loop
 loop-again-2 c = tt
 
--- src/main.rt:90:1
 returns : tie.Need-returns Inv-loop μ-loop
 returns c = tt
 

@@ -4,62 +4,43 @@ use Rattle.run_recorder.proofs.Ending.{ended-again, end-none, end-no-be
 use borrow.Author.Needs.{needs}
 use Rattle.run_recorder.proofs.end.Statement.{statement}
 use Rattle.run_recorder.proofs.end.Tie as tie
-use Rattle.run_recorder.proofs.end.Reads as reads
-use Rattle.run_recorder.proofs.end.Lts as lts
-use Rattle.run_recorder.proofs.end_quiet.Reads as end-quiet-reads
-use Rattle.run_recorder.proofs.end_refused.Reads as end-refused-reads
-use Rattle.run_stream.proofs.at_end.Reads as at-end-reads
-use Rattle.run_stream.proofs.is_ended.Reads as is-ended-reads
 
--- src/lib.rt:313:8
 is-ended-requires : tie.Need-is-ended-requires
 is-ended-requires c κs = search needs
 
--- src/lib.rt:314:9
 returns : tie.Need-returns
 returns c = ended-again _ _ _ (sym (c .before .is-ended .ensures _) ∙ c .if1 .taken)
 
--- src/lib.rt:321:11
 at-end-requires : tie.Need-at-end-requires
 at-end-requires c κs = search needs
 
--- src/lib.rt:322:28
 enum-known-fault : tie.Need-enum-known-fault
 enum-known-fault c = search needs
 
--- src/lib.rt:322:45
 end-refused-requires : tie.Need-end-refused-requires
 end-refused-requires c κs = search needs
 
--- src/lib.rt:323:41
 enum-told : tie.Need-enum-told
 enum-told c = search needs
 
--- src/lib.rt:323:31
 end-quiet-requires : tie.Need-end-quiet-requires
 end-quiet-requires c κs = search needs
 
--- src/lib.rt:324:43
 enum-told-2 : tie.Need-enum-told-2
 enum-told-2 c = search needs
 
--- src/lib.rt:324:33
 end-quiet-requires-2 : tie.Need-end-quiet-requires-2
 end-quiet-requires-2 c κs = search needs
 
--- src/lib.rt:325:43
 enum-told-3 : tie.Need-enum-told-3
 enum-told-3 c = search needs
 
--- src/lib.rt:325:33
 end-quiet-requires-3 : tie.Need-end-quiet-requires-3
 end-quiet-requires-3 c κs = search needs
 
--- src/lib.rt:310:1
 same-length : tie.Need-same-length
 same-length c = search needs
 
--- src/lib.rt:310:1
 returns-2 : tie.Need-returns-2
 returns-2 c =
     let R = c .before .before in
@@ -68,7 +49,6 @@ returns-2 c =
     let o = t .before .before in
     end-says _ _ _ (sym (o .before .is-ended .ensures _) ∙ o .if1 .left) _ _ (rw (f .fault .given .1) at (t .at-end .ensures)) (R .end-refused .ensures)
 
--- src/lib.rt:310:1
 returns-3 : tie.Need-returns-3
 returns-3 c =
     let e = c .before .before in
@@ -76,7 +56,6 @@ returns-3 c =
     let o = t .before .before in
     end-none _ _ _ (sym (o .before .is-ended .ensures _) ∙ o .if1 .left) (rw (e .enum-told .given .1) at (t .at-end .ensures)) (c .end-quiet .ensures)
 
--- src/lib.rt:310:1
 returns-4 : tie.Need-returns-4
 returns-4 c =
     let e = c .before .before in
@@ -84,7 +63,6 @@ returns-4 c =
     let o = t .before .before in
     end-no-begin _ _ _ (sym (o .before .is-ended .ensures _) ∙ o .if1 .left) _ (rw (e .enum-told2 .given .1) at (t .at-end .ensures)) (c .end-quiet2 .ensures)
 
--- src/lib.rt:310:1
 returns-5 : tie.Need-returns-5
 returns-5 c =
     let e = c .before .before in

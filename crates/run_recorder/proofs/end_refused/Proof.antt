@@ -3,36 +3,25 @@ use Rattle.run_recorder.proofs.Ending.{refused-full, refused-written}
 use borrow.Author.Needs.{needs}
 use Rattle.run_recorder.proofs.end_refused.Statement.{statement}
 use Rattle.run_recorder.proofs.end_refused.Tie as tie
-use Rattle.run_recorder.proofs.end_refused.Reads as reads
-use Rattle.run_recorder.proofs.end_refused.Lts as lts
-use Rattle.run_stream.proofs.close.Reads as close-reads
-use Rattle.run_text.proofs.refusal_line.Reads as refusal-line-reads
 
--- src/lib.rt:277:26
 slice-aggregate-refusal-line : tie.Need-slice-aggregate-refusal-line
 slice-aggregate-refusal-line c = search needs
 
--- src/lib.rt:277:9
 refusal-line-requires : tie.Need-refusal-line-requires
 refusal-line-requires c κs = search needs
 
--- src/lib.rt:279:9
 returns : tie.Need-returns
 returns c = refused-full _ _ (c .before .before .refusal-line .ensures) _ _ (c .if1 .taken)
 
--- src/lib.rt:286:5
 refusal-line-requires-2 : tie.Need-refusal-line-requires-2
 refusal-line-requires-2 c κs = search needs
 
--- src/lib.rt:287:5
 close-requires : tie.Need-close-requires
 close-requires c κs = search needs
 
--- src/lib.rt:268:1
 same-length : tie.Need-same-length
 same-length c = search needs
 
--- src/lib.rt:268:1
 returns-2 : tie.Need-returns-2
 returns-2 c =
     let W = c .before .before .before .before in

@@ -6,24 +6,16 @@ use Rattle.run_recorder.proofs.Items.{plays-occurs}
 use borrow.Author.Needs.{needs}
 use Rattle.run_recorder.proofs.occurs.Statement.{statement}
 use Rattle.run_recorder.proofs.occurs.Tie as tie
-use Rattle.run_recorder.proofs.occurs.Reads as reads
-use Rattle.run_recorder.proofs.occurs.Lts as lts
-use Rattle.run_recorder.proofs.serve_held.Reads as serve-held-reads
-use Rattle.run_text.proofs.event_line.Reads as event-line-reads
 
--- src/lib.rt:123:9
 serve-held-requires : tie.Need-serve-held-requires
 serve-held-requires c κs = search needs
 
--- src/lib.rt:124:9
 event-line-requires : tie.Need-event-line-requires
 event-line-requires c κs = search needs
 
--- src/lib.rt:112:1
 same-length : tie.Need-same-length
 same-length c = search needs
 
--- src/lib.rt:112:1
 returns : tie.Need-returns
 returns c =
     let L = c .before .before in

@@ -5,71 +5,52 @@ use Rattle.run_recorder.proofs.Items.{plays-nothing, plays-refuses}
 use borrow.Author.Needs.{needs}
 use Rattle.run_recorder.proofs.play_item.Statement.{statement}
 use Rattle.run_recorder.proofs.play_item.Tie as tie
-use Rattle.run_recorder.proofs.play_item.Reads as reads
-use Rattle.run_recorder.proofs.play_item.Lts as lts
-use Rattle.run_recorder.proofs.begins.Reads as begins-reads
-use Rattle.run_recorder.proofs.occurs.Reads as occurs-reads
-use Rattle.run_text.proofs.refusal_line.Reads as refusal-line-reads
 
--- src/lib.rt:148:31
 enum-told : tie.Need-enum-told
 enum-told c = search needs
 
--- src/lib.rt:155:27
 enum-known-item : tie.Need-enum-known-item
 enum-known-item c = search needs
 
--- src/lib.rt:155:35
 begins-requires : tie.Need-begins-requires
 begins-requires c κs =
     let i = c .before .before .before .before in
     rw (i .item .given .1) at (i .before .before .before .pre)
 
--- src/lib.rt:156:27
 enum-known-item-2 : tie.Need-enum-known-item-2
 enum-known-item-2 c = search needs
 
--- src/lib.rt:156:33
 occurs-requires : tie.Need-occurs-requires
 occurs-requires c κs = search needs
 
--- src/lib.rt:157:28
 enum-known-item-3 : tie.Need-enum-known-item-3
 enum-known-item-3 c = search needs
 
--- src/lib.rt:158:17
 refusal-line-requires : tie.Need-refusal-line-requires
 refusal-line-requires c κs = search needs
 
--- src/lib.rt:135:1
 returns : tie.Need-returns
 returns c = rw (c .enum-told .given .1) (plays-nothing (now (c .before .before .before .args .held)) _ _ _ _)
 
--- src/lib.rt:135:1
 same-length : tie.Need-same-length
 same-length c = search needs
 
--- src/lib.rt:135:1
 returns-2 : tie.Need-returns-2
 returns-2 c =
     let b = c .before .before in
     rw (b .before .before .before .before .before .item .given .1) (b .begins .ensures)
 
--- src/lib.rt:135:1
 same-length-2 : tie.Need-same-length-2
 same-length-2 c = search needs
 
--- src/lib.rt:135:1
 returns-3 : tie.Need-returns-3
 returns-3 c =
     let o = c .before .before in
     rw (o .before .before .before .before .before .item2 .given .1) (o .occurs .ensures)
 
--- src/lib.rt:135:1
 same-length-3 : tie.Need-same-length-3
 same-length-3 c = search needs
 
--- src/lib.rt:135:1
 returns-4 : tie.Need-returns-4
 returns-4 c =
     let i = c .before .before .before .before .before in

@@ -12,65 +12,47 @@ use Rattle.run_reading.specs.Recorded.{signedWord}
 use borrow.Author.Needs.{needs}
 use Rattle.run_recorder.proofs.serve_held.Statement.{statement}
 use Rattle.run_recorder.proofs.serve_held.Tie as tie
-use Rattle.run_recorder.proofs.serve_held.Reads as reads
-use Rattle.run_recorder.proofs.serve_held.Lts as lts
-use Rattle.kernel_events.proofs.serve.Reads as serve-reads
-use Rattle.run_reading.proofs.signed.Reads as signed-reads
-use Rattle.setup.proofs.word.Reads as word-reads
 
 -- a word that was read as a signed one
 read : {z : ℤ} {w x : ℕ} → mag z < 2 ^ 31 → z ≡ signedWord w → w ≡ x → toZ w32 (ofZ w32 z) ≡ signedWord x
 read h e q = toZ-ofZ {w = w32} (record { sfits = h }) ∙ e ∙ ap signedWord q
 
--- src/lib.rt:102:9
 slice-aggregate-event : tie.Need-slice-aggregate-event
 slice-aggregate-event c = omega (arith, length-take 20 (c .before .before .args .held .now), c .before .all .given)
 
--- src/lib.rt:103:23
 word-requires : tie.Need-word-requires
 word-requires c κs = search needs
 
--- src/lib.rt:103:9
 signed-requires : tie.Need-signed-requires
 signed-requires c κs = search needs
 
--- src/lib.rt:104:25
 word-requires-2 : tie.Need-word-requires-2
 word-requires-2 c κs = search needs
 
--- src/lib.rt:104:9
 signed-requires-2 : tie.Need-signed-requires-2
 signed-requires-2 c κs = search needs
 
--- src/lib.rt:105:20
 word-requires-3 : tie.Need-word-requires-3
 word-requires-3 c κs = search needs
 
--- src/lib.rt:105:9
 signed-requires-3 : tie.Need-signed-requires-3
 signed-requires-3 c κs = search needs
 
--- src/lib.rt:106:20
 word-requires-4 : tie.Need-word-requires-4
 word-requires-4 c κs = search needs
 
--- src/lib.rt:106:9
 signed-requires-4 : tie.Need-signed-requires-4
 signed-requires-4 c κs = search needs
 
--- src/lib.rt:107:20
 word-requires-5 : tie.Need-word-requires-5
 word-requires-5 c κs = search needs
 
--- src/lib.rt:107:9
 signed-requires-5 : tie.Need-signed-requires-5
 signed-requires-5 c κs = search needs
 
--- src/lib.rt:108:5
 serve-requires : tie.Need-serve-requires
 serve-requires c κs = search needs
 
--- src/lib.rt:92:1
 returns : tie.Need-returns
 returns c =
     let s5 = c .before .before .before in

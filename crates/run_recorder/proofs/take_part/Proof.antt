@@ -8,11 +8,6 @@ use Rattle.run_recorder.specs.Recording.{lent}
 use Rattle.run_recorder.proofs.Going.{Going, taken-length, going-first, goes-on, one-more, part-refused, part-full, part-taken}
 use Rattle.run_recorder.proofs.take_part.Statement.{statement}
 use Rattle.run_recorder.proofs.take_part.Tie as tie
-use Rattle.run_recorder.proofs.take_part.Reads as reads
-use Rattle.run_recorder.proofs.take_part.Lts as lts
-use Rattle.check_damage.proofs.judged.Reads as judged-reads
-use Rattle.memory_running.proofs.running_task.Reads as running-task-reads
-use Rattle.run_recorder.proofs.step.Reads as step-reads
 
 abbrev Inv-loop : tie.InvT-loop
 Inv-loop numbers₀ held₀ words₀ messages₀ bytes text₀ found₀ me₀ i₀ at₀ numbers held words messages text found me i at =
@@ -21,19 +16,15 @@ Inv-loop numbers₀ held₀ words₀ messages₀ bytes text₀ found₀ me₀ i�
 abbrev μ-loop : tie.MeasureT-loop
 μ-loop numbers₀ held₀ words₀ messages₀ bytes text₀ found₀ me₀ i₀ at₀ numbers held words messages text found me i at = length bytes - i
 
--- src/lib.rt:198:9
 judged-requires : tie.Need-judged-requires Inv-loop μ-loop
 judged-requires c κs = search needs
 
--- src/lib.rt:199:9
 running-task-requires : tie.Need-running-task-requires Inv-loop μ-loop
 running-task-requires c κs = search needs
 
--- src/lib.rt:202:5
 loop-holds : tie.Need-loop-holds Inv-loop μ-loop
 loop-holds c = going-first _ _ _ (c .before .before .judged .ensures) (c .running-task .ensures)
 
--- src/lib.rt:203:12
 sub-if1 : tie.Need-sub-if1 Inv-loop μ-loop
 sub-if1 c = let D = c .before .loop .inv .done in omega (arith, taken-length _ _ _ D, D .fits)
 
@@ -44,39 +35,30 @@ more-fits c = omega arith
 text-fits : (c : tie.At-loop Inv-loop μ-loop) → length (c .before .before .before .before .before .before .before .before .args .text .now) < 2 ^ 64
 text-fits c = omega arith
 
--- src/lib.rt:204:13
 same-length : tie.Need-same-length Inv-loop μ-loop
 same-length c = taken-length _ _ _ (c .before .before .loop .inv .done)
 
--- src/lib.rt:204:13
 returns : tie.Need-returns Inv-loop μ-loop
 returns c = part-full _ _ _ (c .before .before .loop .inv) (c .before .loop-test .taken) (c .if1 .taken)
 
--- src/lib.rt:211:65
 shared-slice-read-step : tie.Need-shared-slice-read-step Inv-loop μ-loop
 shared-slice-read-step c = search needs
 
--- src/lib.rt:211:75
 sub-step : tie.Need-sub-step Inv-loop μ-loop
 sub-step c = search needs
 
--- src/lib.rt:211:75
 part-step-start : tie.Need-part-step-start Inv-loop μ-loop
 part-step-start c = search needs
 
--- src/lib.rt:211:75
 part-step-end : tie.Need-part-step-end Inv-loop μ-loop
 part-step-end c = search needs
 
--- src/lib.rt:211:13
 step-requires : tie.Need-step-requires Inv-loop μ-loop
 step-requires c κs = search needs
 
--- src/lib.rt:212:9
 add-i : tie.Need-add-i Inv-loop μ-loop
 add-i c = record { fits = more-fits (c .before .before .before .before .before .before .before .before .before .before) }
 
--- src/lib.rt:213:9
 add-at : tie.Need-add-at Inv-loop μ-loop
 add-at c =
     let S = c .before .before .before in
@@ -84,36 +66,30 @@ add-at c =
     let D = one-more _ _ _ (L .before .before .loop .inv) (L .before .loop-test .taken) (L .if1 .left) (S .step .ensures) in
     record { fits = omega (arith, D .fits, text-fits (L .before .before)) }
 
--- src/lib.rt:215:13
 same-length-2 : tie.Need-same-length-2 Inv-loop μ-loop
 same-length-2 c =
     let S = c .before .before .before .before .before in
     let L = S .before .before .before .before .before .before .before in
     taken-length _ _ _ (one-more _ _ _ (L .before .before .loop .inv) (L .before .loop-test .taken) (L .if1 .left) (S .step .ensures))
 
--- src/lib.rt:215:13
 returns-2 : tie.Need-returns-2 Inv-loop μ-loop
 returns-2 c =
     let S = c .before .before .before .before .before in
     let L = S .before .before .before .before .before .before .before in
     part-refused _ _ _ (L .before .before .loop .inv) (L .before .loop-test .taken) (L .if1 .left) (S .step .ensures) (c .if2 .taken)
 
--- src/lib.rt:202:5
 loop-less : tie.Need-loop-less Inv-loop μ-loop
 loop-less c = omega arith
 
--- src/lib.rt:202:5
 loop-again : tie.Need-loop-again Inv-loop μ-loop
 loop-again c =
     let S = c .before .before .before .before .before .before in
     let L = S .before .before .before .before .before .before .before in
     goes-on _ _ _ (L .before .before .loop .inv) (L .before .loop-test .taken) (L .if1 .left) (S .step .ensures) (c .before .if2 .left)
 
--- src/lib.rt:188:1
 same-length-3 : tie.Need-same-length-3 Inv-loop μ-loop
 same-length-3 c = taken-length _ _ _ (c .before .loop .inv .done)
 
--- src/lib.rt:188:1
 returns-3 : tie.Need-returns-3 Inv-loop μ-loop
 returns-3 c = part-taken _ _ _ (c .before .loop .inv) (c .loop-test .left)
 

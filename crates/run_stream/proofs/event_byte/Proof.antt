@@ -7,45 +7,30 @@ use Rattle.run_stream.proofs.Taking.{event-left-over, event-more, event
 use borrow.Author.Needs.{needs}
 use Rattle.run_stream.proofs.event_byte.Statement.{statement}
 use Rattle.run_stream.proofs.event_byte.Tie as tie
-use Rattle.run_stream.proofs.event_byte.Reads as reads
-use Rattle.run_stream.proofs.event_byte.Lts as lts
-use Rattle.run_stream.proofs.held_count.Reads as held-count-reads
-use Rattle.run_stream.proofs.hold.Reads as hold-reads
-use Rattle.run_stream.proofs.place.Reads as place-reads
-use Rattle.run_stream.proofs.succ.Reads as succ-reads
-use Rattle.run_stream.proofs.write.Reads as write-reads
 
--- src/lib.rt:161:17
 element-copy-out-total : tie.Need-element-copy-out-total
 element-copy-out-total c = search needs
 
--- src/lib.rt:162:16
 element-copy-out-done : tie.Need-element-copy-out-done
 element-copy-out-done c = search needs
 
--- src/lib.rt:163:16
 element-copy-out-base : tie.Need-element-copy-out-base
 element-copy-out-base c = search needs
 
--- src/lib.rt:165:13
 place-requires : tie.Need-place-requires
 place-requires c κs = search needs
 
--- src/lib.rt:166:9
 write-requires : tie.Need-write-requires
 write-requires c κs = search needs
 
--- src/lib.rt:167:9
 returns : tie.Need-returns
 returns c =
     let p = c .before .before in
     takes-with (c .write .ensures) (event-left-over _ _ _ (p .before .before .before .before .before .before .pre) (p .before .before .if1 .taken) (p .place .ensures .0))
 
--- src/lib.rt:169:9
 held-count-requires : tie.Need-held-count-requires
 held-count-requires c κs = search needs
 
--- src/lib.rt:170:5
 hold-requires : tie.Need-hold-requires
 hold-requires c κs = search needs
 
@@ -53,38 +38,30 @@ hold-requires c κs = search needs
 room : (c : tie.After-hold) → headBytes ≤ length (c .hold .last .0)
 room c = omega (arith, c .before .hold-arg .given .0 .1, c .hold .kept .0)
 
--- src/lib.rt:171:8
 add-if2 : tie.Need-add-if2
 add-if2 c = search needs
 
--- src/lib.rt:172:33
 cast-write : tie.Need-cast-write
 cast-write c = search needs
 
--- src/lib.rt:172:33
 add-write : tie.Need-add-write
 add-write c = search needs
 
--- src/lib.rt:172:9
 write-requires-2 : tie.Need-write-requires-2
 write-requires-2 c κs = search needs
 
--- src/lib.rt:173:9
 returns-2 : tie.Need-returns-2
 returns-2 c =
     let H = c .before .before .before in
     let N = H .before .before in
     takes-with (c .write2 .ensures) (event-more _ _ _ (N .before .before .before .before .before .before .pre) (N .before .before .if1 .left) _ (N .held-count .ensures .0) _ (room H) (H .hold .ensures) (c .before .before .if2 .taken))
 
--- src/lib.rt:175:9
 succ-requires : tie.Need-succ-requires
 succ-requires c κs = search needs
 
--- src/lib.rt:176:5
 write-requires-3 : tie.Need-write-requires-3
 write-requires-3 c κs = search needs
 
--- src/lib.rt:157:1
 returns-3 : tie.Need-returns-3
 returns-3 c =
     let H = c .before .before .before .before in

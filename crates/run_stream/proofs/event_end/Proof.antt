@@ -6,49 +6,36 @@ use Rattle.run_stream.proofs.Taking.{event-end-none, event-end-short}
 use borrow.Author.Needs.{needs}
 use Rattle.run_stream.proofs.event_end.Statement.{statement}
 use Rattle.run_stream.proofs.event_end.Tie as tie
-use Rattle.run_stream.proofs.event_end.Reads as reads
-use Rattle.run_stream.proofs.event_end.Lts as lts
-use Rattle.run_stream.proofs.held_count.Reads as held-count-reads
-use Rattle.run_stream.proofs.place.Reads as place-reads
 
--- src/lib.rt:212:8
 element-copy-out-if1 : tie.Need-element-copy-out-if1
 element-copy-out-if1 c = search needs
 
--- src/lib.rt:212:26
 element-copy-out-if1-2 : tie.Need-element-copy-out-if1-2
 element-copy-out-if1-2 c = search needs
 
--- src/lib.rt:213:9
 returns : tie.Need-returns
 returns c = event-end-none _ _ (c .before .before .before .pre) (c .if1 .taken)
 
--- src/lib.rt:215:9
 held-count-requires : tie.Need-held-count-requires
 held-count-requires c κs = search needs
 
 held : (c : tie.After-held-count) → length (take (c .held-count .result) (c .before .before .before .before .args .held .now)) < 20
 held c = omega (arith, length-take (c .held-count .result) (c .before .before .before .before .args .held .now), c .held-count .ensures .1)
 
--- src/lib.rt:217:9
 slice-aggregate-front : tie.Need-slice-aggregate-front
 slice-aggregate-front c =
     let N = c .before .before in
     omega (arith, length-take (N .held-count .result) (N .before .before .before .before .args .held .now), N .held-count .ensures .1, c .before .all .given)
 
--- src/lib.rt:218:28
 place-requires : tie.Need-place-requires
 place-requires c κs = search needs
 
--- src/lib.rt:218:45
 mul-t18 : tie.Need-mul-t18
 mul-t18 c = record { fits = omega (arith, held (c .before .before .before)) }
 
--- src/lib.rt:218:28
 add-t19 : tie.Need-add-t19
 add-t19 c = record { fits = omega (arith, held (c .before .before .before), c .place .ensures .1) }
 
--- src/lib.rt:208:1
 returns-2 : tie.Need-returns-2
 returns-2 c =
     let N = c .before .before .before in

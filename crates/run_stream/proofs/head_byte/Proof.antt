@@ -7,23 +7,13 @@ use Rattle.run_stream.proofs.Taking.{head-more, head-refused, good-size
 use borrow.Author.Needs.{needs}
 use Rattle.run_stream.proofs.head_byte.Statement.{statement}
 use Rattle.run_stream.proofs.head_byte.Tie as tie
-use Rattle.run_stream.proofs.head_byte.Reads as reads
-use Rattle.run_stream.proofs.head_byte.Lts as lts
-use Rattle.run_reading.proofs.judge_head.Reads as judge-head-reads
-use Rattle.run_stream.proofs.held_count.Reads as held-count-reads
-use Rattle.run_stream.proofs.hold.Reads as hold-reads
-use Rattle.run_stream.proofs.write.Reads as write-reads
-use Rattle.setup.proofs.word.Reads as word-reads
 
--- src/lib.rt:135:9
 held-count-requires : tie.Need-held-count-requires
 held-count-requires c κs = search needs
 
--- src/lib.rt:136:5
 hold-requires : tie.Need-hold-requires
 hold-requires c κs = search needs
 
--- src/lib.rt:138:24
 add-front : tie.Need-add-front
 add-front c = search needs
 
@@ -31,33 +21,26 @@ add-front c = search needs
 room : (c : tie.After-hold) → headBytes ≤ length (c .hold .last .0)
 room c = omega (arith, c .before .hold-arg .given .0 .1, c .hold .kept .0)
 
--- src/lib.rt:138:9
 slice-aggregate-front : tie.Need-slice-aggregate-front
 slice-aggregate-front c =
     let H = c .before .before .before in
     omega (arith, length-take (H .before .before .held-count .result + 1) (H .hold .last .0), room H, H .before .before .held-count .ensures .1)
 
--- src/lib.rt:139:11
 judge-head-requires : tie.Need-judge-head-requires
 judge-head-requires c κs = search needs
 
--- src/lib.rt:140:21
 enum-known-d : tie.Need-enum-known-d
 enum-known-d c = search needs
 
--- src/lib.rt:142:41
 cast-write : tie.Need-cast-write
 cast-write c = search needs
 
--- src/lib.rt:142:41
 add-write : tie.Need-add-write
 add-write c = search needs
 
--- src/lib.rt:142:17
 write-requires : tie.Need-write-requires
 write-requires c κs = search needs
 
--- src/lib.rt:143:17
 returns : tie.Need-returns
 returns c =
     let d = c .before .before .before .before in
@@ -66,11 +49,9 @@ returns c =
     let N = H .before .before in
     takes-with (c .write .ensures) (head-more _ _ _ _ (N .before .before .pre) _ (N .held-count .ensures .0) (room H) (H .hold .ensures) (J .judge-head .ensures) _ _ (d .d .given .1) (c .before .before .if1 .taken))
 
--- src/lib.rt:145:13
 write-requires-2 : tie.Need-write-requires-2
 write-requires-2 c κs = search needs
 
--- src/lib.rt:148:22
 enum-known-i : tie.Need-enum-known-i
 enum-known-i c = search needs
 
@@ -83,27 +64,21 @@ sizes c =
     let g = good-sizes (take (N .held-count .result + 1) (H .hold .last .0)) (J .judge-head .ensures) _ (c .i .given .1) in
     (g .0, omega (arith, g .1, length-take (N .held-count .result + 1) (H .hold .last .0), N .held-count .ensures .1))
 
--- src/lib.rt:149:38
 sub-word : tie.Need-sub-word
 sub-word c = sizes (c .before) .0
 
--- src/lib.rt:149:17
 word-requires : tie.Need-word-requires
 word-requires c κs = search needs
 
--- src/lib.rt:150:51
 cast-write-2 : tie.Need-cast-write-2
 cast-write-2 c = record { fits = omega (arith, sizes (c .before .before .before) .1) }
 
--- src/lib.rt:150:13
 write-requires-3 : tie.Need-write-requires-3
 write-requires-3 c κs = search needs
 
--- src/lib.rt:151:31
 sub-t27 : tie.Need-sub-t27
 sub-t27 c = sizes (c .before .before .before .before) .0
 
--- src/lib.rt:131:1
 returns-2 : tie.Need-returns-2
 returns-2 c =
     let d = c .before .before .before .before in
@@ -112,7 +87,6 @@ returns-2 c =
     let N = H .before .before in
     takes-with (c .write2 .ensures) (head-refused _ _ _ _ (N .before .before .pre) _ (N .held-count .ensures .0) (room H) (H .hold .ensures) (J .judge-head .ensures) _ _ (d .d .given .1) (c .before .before .if1 .left))
 
--- src/lib.rt:131:1
 returns-3 : tie.Need-returns-3
 returns-3 c =
     let i = c .before .before .before .before in

@@ -5,34 +5,24 @@ use Rattle.run_stream.proofs.Taking.{head-end-refused, head-end-whole}
 use borrow.Author.Needs.{needs}
 use Rattle.run_stream.proofs.head_end.Statement.{statement}
 use Rattle.run_stream.proofs.head_end.Tie as tie
-use Rattle.run_stream.proofs.head_end.Reads as reads
-use Rattle.run_stream.proofs.head_end.Lts as lts
-use Rattle.run_reading.proofs.judge_head.Reads as judge-head-reads
-use Rattle.run_stream.proofs.held_count.Reads as held-count-reads
 
--- src/lib.rt:190:9
 held-count-requires : tie.Need-held-count-requires
 held-count-requires c κs = search needs
 
--- src/lib.rt:192:22
 slice-aggregate-judge-head : tie.Need-slice-aggregate-judge-head
 slice-aggregate-judge-head c =
     let N = c .before .before in
     omega (arith, length-take (N .held-count .result) (N .before .args .held .now), N .held-count .ensures .1, c .before .all .given)
 
--- src/lib.rt:192:11
 judge-head-requires : tie.Need-judge-head-requires
 judge-head-requires c κs = search needs
 
--- src/lib.rt:193:21
 enum-known-d : tie.Need-enum-known-d
 enum-known-d c = search needs
 
--- src/lib.rt:194:28
 enum-told : tie.Need-enum-told
 enum-told c = search needs
 
--- src/lib.rt:186:1
 returns : tie.Need-returns
 returns c =
     let d = c .before in
@@ -40,7 +30,6 @@ returns c =
     let N = J .before .before .before in
     head-end-refused _ _ (N .before .pre) (N .held-count .ensures .0) (J .judge-head .ensures) _ _ (d .d .given .1)
 
--- src/lib.rt:186:1
 returns-2 : tie.Need-returns-2
 returns-2 c =
     let J = c .before .before in

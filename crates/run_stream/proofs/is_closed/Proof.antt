@@ -4,14 +4,10 @@ use Rattle.run_stream.proofs.Taking.{closed-tests}
 use borrow.Author.Needs.{needs}
 use Rattle.run_stream.proofs.is_closed.Statement.{statement}
 use Rattle.run_stream.proofs.is_closed.Tie as tie
-use Rattle.run_stream.proofs.is_closed.Reads as reads
-use Rattle.run_stream.proofs.is_closed.Lts as lts
 
--- src/lib.rt:88:16
 element-copy-out-result : tie.Need-element-copy-out-result
 element-copy-out-result c = search needs
 
--- src/lib.rt:85:1
 returns : tie.Need-returns
 returns c = λ h. closed-tests _ h refl
 

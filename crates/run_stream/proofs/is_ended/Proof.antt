@@ -4,14 +4,10 @@ use Rattle.run_stream.proofs.Taking.{ended-tests}
 use borrow.Author.Needs.{needs}
 use Rattle.run_stream.proofs.is_ended.Statement.{statement}
 use Rattle.run_stream.proofs.is_ended.Tie as tie
-use Rattle.run_stream.proofs.is_ended.Reads as reads
-use Rattle.run_stream.proofs.is_ended.Lts as lts
 
--- src/lib.rt:95:14
 element-copy-out-result : tie.Need-element-copy-out-result
 element-copy-out-result c = search needs
 
--- src/lib.rt:92:1
 returns : tie.Need-returns
 returns c = λ h. ended-tests _ h refl
 

@@ -3,32 +3,22 @@ use Rattle.run_stream.proofs.Taking.{closed-byte}
 use borrow.Author.Needs.{needs}
 use Rattle.run_stream.proofs.take_byte.Statement.{statement}
 use Rattle.run_stream.proofs.take_byte.Tie as tie
-use Rattle.run_stream.proofs.take_byte.Reads as reads
-use Rattle.run_stream.proofs.take_byte.Lts as lts
-use Rattle.run_stream.proofs.event_byte.Reads as event-byte-reads
-use Rattle.run_stream.proofs.head_byte.Reads as head-byte-reads
 
--- src/lib.rt:175:17
 element-copy-out-phase : tie.Need-element-copy-out-phase
 element-copy-out-phase c = search needs
 
--- src/lib.rt:177:20
 head-byte-requires : tie.Need-head-byte-requires
 head-byte-requires c κs = search needs
 
--- src/lib.rt:178:20
 event-byte-requires : tie.Need-event-byte-requires
 event-byte-requires c κs = search needs
 
--- src/lib.rt:172:1
 returns : tie.Need-returns
 returns c = search needs
 
--- src/lib.rt:172:1
 returns-2 : tie.Need-returns-2
 returns-2 c = search needs
 
--- src/lib.rt:172:1
 returns-3 : tie.Need-returns-3
 returns-3 c = closed-byte _ _ _ (c .match .rest .0 .1) (c .match .rest .1)
 
