@@ -72,7 +72,10 @@ enum {
     OKROZUMBA_FLG_STS = 29,  /* flag; w1 the first waiter or 0, w2 the pattern */
     OKROZUMBA_MBX_STS = 30,  /* mailbox; w1 the first waiter or 0, w2 the first message or 0 */
     OKROZUMBA_MPL_STS = 31,  /* pool; w1 the first waiter or 0, w2 the number of free blocks */
-    OKROZUMBA_GET_TIM = 32   /* the clock: w1 its quotient by 2^32, w2 the remainder */
+    OKROZUMBA_GET_TIM = 32,  /* the clock: w1 its quotient by 2^32, w2 the remainder */
+    OKROZUMBA_CRE_TSK = 33,  /* T, task that is not there, starting priority: it is dormant then */
+    OKROZUMBA_DEL_TSK = 34,  /* T, dormant task: it is not there then */
+    OKROZUMBA_EXD_TSK = 35   /* T: ext_tsk, and then the task is not there */
 };
 
 /* The time of wai_tsk that never ends. */
@@ -100,13 +103,14 @@ enum {
 enum {
     OKROZUMBA_E_OK = 0,
     OKROZUMBA_WAITS = 1,          /* the caller waits: its answer will be in its cell */
-    OKROZUMBA_H_CALL = -1,        /* call number not 1..32, or context not 0 or 1 */
+    OKROZUMBA_H_CALL = -1,        /* call number not 1..35, or context not 0 or 1 */
     OKROZUMBA_H_PAR = -2,         /* flag pattern 0 in a wait or poll, mode not 0..3, message number outside 1..count */
-    OKROZUMBA_H_NODMT = -3,       /* sta_tsk on a task not dormant */
+    OKROZUMBA_H_NODMT = -3,       /* sta_tsk or del_tsk on a task not dormant */
     OKROZUMBA_H_SUS = -4,         /* sus_tsk on a suspended task */
     OKROZUMBA_H_POLL = -5,        /* a poll that can't be served at once */
     OKROZUMBA_H_MSG = -6,         /* the message already lies in a mailbox */
     OKROZUMBA_H_NEST = -7,        /* an entry while 15 handlers are open */
+    OKROZUMBA_H_EXIST = -8,       /* cre_tsk on a task that is there */
     OKROZUMBA_H_ILBLK = -10,      /* block number outside the pool, or free */
     /* The state is damaged; the first of these that applies. */
     OKROZUMBA_H_NUMBER = -20,     /* a number out of range anywhere, or any breach but the next four; w1 0 */
@@ -117,7 +121,7 @@ enum {
     OKROZUMBA_E_TPRI = -1830,     /* priority outside 1..P (rot_rdq: 0..P) */
     OKROZUMBA_E_ILTIME = -1831,   /* wai_tsk time below -1 */
     OKROZUMBA_E_SELF = -2097,     /* ter_tsk, sus_tsk or wup_tsk on oneself, task context */
-    OKROZUMBA_E_NOEXS = -2100,    /* id outside 1..count */
+    OKROZUMBA_E_NOEXS = -2100,    /* id outside 1..count, or a task that is not there */
     OKROZUMBA_E_DMT = -2101,      /* ter_tsk, chg_pri, sus_tsk, wup_tsk or can_wup on a dormant task */
     OKROZUMBA_E_NOSUS = -2104,    /* rsm_tsk on a task not suspended */
     OKROZUMBA_E_NOWAI = -2110,    /* rel_wai on a task not waiting */
@@ -140,7 +144,7 @@ typedef struct okrozumba_answer {
 } okrozumba_answer;
 
 /* An answer cell: the code that the task was last released from a wait with, and the pattern, message or block that it got. It is 0 and 0 from
-   a start of the task to its first release. A wait that ends since the task is terminated writes nothing. */
+   a start of the task, or from its making, to its first release. A wait that ends since the task is terminated writes nothing. */
 typedef struct okrozumba_reading {
     int32_t code;
     uint32_t word;
@@ -200,8 +204,8 @@ okrozumba_answer okrozumba_enter(uint32_t words[OKROZUMBA_STATE_WORDS], const ui
 /* A handler returns; behind the outermost the best ready task runs. On a damaged state: as okrozumba_call. It looks for damage itself. */
 okrozumba_answer okrozumba_leave(uint32_t words[OKROZUMBA_STATE_WORDS], const uint32_t messages[OKROZUMBA_MESSAGES]);
 
-/* Reads the answer cell of a task. On a damaged state H_NUMBER to H_FREE, then for a bad id E_NOEXS, each with word 0. It looks for damage
-   itself. */
+/* Reads the answer cell of a task. On a damaged state H_NUMBER to H_FREE, then for a bad id, or a task that is not there, E_NOEXS, each with
+   word 0. It looks for damage itself. */
 okrozumba_reading okrozumba_cell(const uint32_t words[OKROZUMBA_STATE_WORDS], const uint32_t messages[OKROZUMBA_MESSAGES], int32_t task);
 
 /* The running task, while a handler is open the one at the outermost entry; 0 if there is none, and on a damaged state. It looks for damage

@@ -1,4 +1,4 @@
-//! The bench sheet of the paper, its further cases and those of requests K2, K5 and K7, as data: what a kernel must answer, word by word.
+//! The bench sheet of the paper, its further cases and those of requests K2, K5, K7 and K9, as data: what a kernel must answer, word by word.
 use crate::plain::{Answer, Event};
 use crate::setup::{self, Setup};
 
@@ -55,7 +55,7 @@ const fn waits(wish: i32, mode: i32) -> Step {
 const START_3: Step = X(1, [3, 0, 0], runs(0, 3));
 
 /// On the sheet's setup.
-const CASES: [(&str, &[Step]); 41] = [
+const CASES: [(&str, &[Step]); 51] = [
     ("B1", &[Running(1)]),
     ("B2", &[X(1, [3, 0, 0], runs(0, 3))]),
     (
@@ -244,7 +244,7 @@ const CASES: [(&str, &[Step]); 41] = [
             X(26, [0, 0, 0], only(-2629, 1)),
             X(14, [9, 0, 0], only(-2100, 1)),
             X(11, [1, 0, 0], only(-2629, 1)),
-            X(33, [0, 0, 0], only(-1, 1)),
+            X(40, [0, 0, 0], only(-1, 1)),
             Call(14, [1, 0, 0], only(-2629, 1)),
             Leave(only(0, 1)),
         ],
@@ -421,6 +421,139 @@ const CASES: [(&str, &[Step]); 41] = [
             X(25, [1, 1, 0], code(0)),
             X(25, [1, 2, 0], code(0)),
             X(24, [1, 0, 0], words(1, 0)),
+        ],
+    ),
+    (
+        "every call on a task that is not there is refused",
+        &[
+            X(34, [3, 0, 0], only(0, 1)),
+            X(1, [3, 0, 0], only(-2100, 1)),
+            X(3, [3, 0, 0], only(-2100, 1)),
+            X(4, [3, 1, 0], only(-2100, 1)),
+            X(6, [3, 0, 0], only(-2100, 1)),
+            X(7, [3, 0, 0], only(-2100, 1)),
+            X(8, [3, 0, 0], only(-2100, 1)),
+            X(11, [3, 0, 0], only(-2100, 1)),
+            X(12, [3, 0, 0], only(-2100, 1)),
+            X(27, [3, 0, 0], only(-2100, 1)),
+            X(34, [3, 0, 0], only(-2100, 1)),
+            Cell(3, -2100, 0),
+            Cell(4, -2100, 0),
+        ],
+    ),
+    (
+        "a handler's too, but for calls of tasks only",
+        &[
+            X(34, [3, 0, 0], only(0, 1)),
+            H(1, [3, 0, 0], only(-2100, 1)),
+            H(4, [3, 1, 0], only(-2100, 1)),
+            H(11, [3, 0, 0], only(-2100, 1)),
+            H(27, [3, 0, 0], only(-2100, 1)),
+            H(3, [3, 0, 0], only(-2629, 1)),
+            H(34, [3, 0, 0], only(-2629, 1)),
+            H(33, [3, 1, 0], only(-2629, 1)),
+            H(33, [1, 1, 0], only(-2629, 1)),
+            H(35, [0, 0, 0], only(-2629, 1)),
+        ],
+    ),
+    (
+        "words come before whether a task is there",
+        &[
+            X(34, [3, 0, 0], only(0, 1)),
+            X(4, [3, 5, 0], only(-1830, 1)),
+            Call(1, [3, 0, 0], only(-2629, 1)),
+            Enter(only(0, 1)),
+            X(27, [3, 0, 0], only(-2629, 1)),
+            Leave(only(0, 1)),
+        ],
+    ),
+    (
+        "an id is made again, with another priority",
+        &[
+            X(34, [3, 0, 0], only(0, 1)),
+            X(33, [3, 4, 0], only(0, 1)),
+            X(27, [3, 0, 0], words(0, 4)),
+            Cell(3, 0, 0),
+            X(33, [3, 1, 0], only(-8, 1)),
+            X(1, [3, 0, 0], only(0, 1)),
+            X(27, [3, 0, 0], words(1, 4)),
+            X(4, [3, 1, 0], runs(0, 3)),
+            X(2, [0, 0, 0], runs(0, 1)),
+            X(27, [3, 0, 0], words(0, 4)),
+        ],
+    ),
+    (
+        "cre_tsk is refused",
+        &[
+            X(33, [1, 1, 0], only(-8, 1)),
+            X(33, [2, 4, 0], only(-8, 1)),
+            X(33, [3, 1, 0], only(-8, 1)),
+            X(33, [0, 1, 0], only(-2100, 1)),
+            X(33, [4, 1, 0], only(-2100, 1)),
+            X(33, [4, 9, 0], only(-2100, 1)),
+            X(33, [3, 0, 0], only(-1830, 1)),
+            X(33, [3, 5, 0], only(-1830, 1)),
+        ],
+    ),
+    (
+        "del_tsk is for a dormant task",
+        &[
+            X(34, [1, 0, 0], only(-3, 1)),
+            X(34, [2, 0, 0], only(-3, 1)),
+            X(34, [0, 0, 0], only(-2100, 1)),
+            X(34, [4, 0, 0], only(-2100, 1)),
+            X(7, [2, 0, 0], code(0)),
+            X(34, [2, 0, 0], only(-3, 1)),
+            X(3, [2, 0, 0], code(0)),
+            X(34, [2, 0, 0], only(0, 1)),
+        ],
+    ),
+    (
+        "exd_tsk ends and deletes its caller",
+        &[
+            X(35, [0, 0, 0], only(0, 2)),
+            X(27, [1, 0, 0], only(-2100, 2)),
+            Cell(1, -2100, 0),
+            X(33, [1, 3, 0], only(0, 2)),
+            X(27, [1, 0, 0], words(0, 3)),
+        ],
+    ),
+    (
+        "a deleted task keeps neither cell nor wake-ups",
+        &[
+            X(9, [0, 0, 0], runs(1, 2)),
+            X(6, [1, 0, 0], releases(2, 1)),
+            X(11, [1, 0, 0], code(0)),
+            X(3, [1, 0, 0], code(0)),
+            Cell(1, -3414, 0),
+            X(34, [1, 0, 0], code(0)),
+            Cell(1, -2100, 0),
+            X(33, [1, 2, 0], code(0)),
+            Cell(1, 0, 0),
+            X(1, [1, 0, 0], code(0)),
+            X(12, [1, 0, 0], words(0, 0)),
+        ],
+    ),
+    (
+        "all that runs is deleted",
+        &[
+            X(35, [0, 0, 0], only(0, 2)),
+            X(35, [0, 0, 0], only(0, 0)),
+            X(33, [1, 1, 0], only(-2629, 0)),
+            H(33, [1, 1, 0], only(-2629, 0)),
+            H(11, [1, 0, 0], only(-2100, 0)),
+            H(1, [3, 0, 0], only(0, 3)),
+            X(33, [1, 1, 0], only(0, 3)),
+            X(34, [2, 0, 0], only(-2100, 3)),
+        ],
+    ),
+    (
+        "a deleted task's blocks stay out",
+        &[
+            X(23, [1, 0, 0], words(1, 0)),
+            X(35, [0, 0, 0], only(0, 2)),
+            X(31, [1, 0, 0], words(0, 1)),
+            X(25, [1, 1, 0], code(0)),
         ],
     ),
 ];

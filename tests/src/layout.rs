@@ -148,6 +148,7 @@ impl Reader<'_> {
             3 => Ok(Standing::Wait(self.wait(id)?)),
             4 => Ok(Standing::Suspend),
             5 => Ok(Standing::WaitSuspend(self.wait(id)?)),
+            6 => Ok(Standing::Absent),
             _ => Err(Breach::number("a task's state")),
         }
     }
@@ -380,6 +381,7 @@ impl Writer {
             Standing::Wait(_) => 3,
             Standing::Suspend => 4,
             Standing::WaitSuspend(_) => 5,
+            Standing::Absent => 6,
         };
         self.put(STATUS, id, status);
         self.put(START, id, task.start);

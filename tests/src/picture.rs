@@ -25,6 +25,8 @@ pub enum Wait {
 /// RUN isn't kept: the running rule says which READY task it is.
 #[derive(Clone, Copy, PartialEq, Eq, Debug)]
 pub enum Standing {
+    /// The id may be made again.
+    Absent,
     Dormant,
     Ready,
     Suspend,
@@ -58,6 +60,15 @@ pub struct Task {
     /// Code and word.
     pub cell: (i32, u32),
 }
+
+/// A task that is not there has nothing.
+pub const ABSENT: Task = Task {
+    start: 0,
+    priority: 0,
+    standing: Standing::Absent,
+    wakeups: 0,
+    cell: (0, 0),
+};
 
 /// The waiters on each object of a kind, by id from 1.
 pub type Queues = Vec<Vec<u32>>;
@@ -94,6 +105,7 @@ pub struct Picture {
 pub type Rule = &'static str;
 pub const DEPTH_RULE: Rule = "depth of handlers";
 pub const INTERRUPTED_RULE: Rule = "interrupted task";
+pub const ABSENT_RULE: Rule = "task not there";
 pub const MARK_RULE: Rule = "message's mark against its list";
 /// These three only a memory can break, no picture.
 pub const BACKWARD_RULE: Rule = "backward link";
@@ -328,6 +340,9 @@ impl Picture {
     }
 
     fn task_in_range(&self, task: &Task) -> Result<(), Breach> {
+        if task.standing == Standing::Absent {
+            return keep(*task == ABSENT, ABSENT_RULE);
+        }
         keep(
             (1..=self.priorities).contains(&task.start),
             "starting priority",
@@ -408,7 +423,7 @@ impl Picture {
         kinds.flat_map(|(place, queues)| (1..).map(place).zip(queues))
     }
 
-    /// Where a task belongs; a sleeper, a suspended and a dormant one nowhere.
+    /// Where a task belongs; a sleeper, a suspended, a dormant one and one that is not there nowhere.
     fn home(&self, id: u32) -> Option<Place> {
         let task = self.task(id);
         match (task.standing, task.standing.wait()) {

@@ -1,6 +1,6 @@
 //! The plain kernel of the paper, written from the paper alone and in the plainest way: arrival numbers, and no queue that outlives the
 //! look at it. It is fed the setup and the events and nothing of the other kernel's.
-use crate::picture::{meets, Object, Picture, Queues, Standing, Task, Wait, CLOCK_END};
+use crate::picture::{meets, Object, Picture, Queues, Standing, Task, Wait, ABSENT, CLOCK_END};
 use crate::setup::Setup;
 
 pub const H_CALL: i32 = -1;
@@ -10,6 +10,7 @@ pub const H_SUS: i32 = -4;
 pub const H_POLL: i32 = -5;
 pub const H_MSG: i32 = -6;
 pub const H_NEST: i32 = -7;
+pub const H_EXIST: i32 = -8;
 pub const H_ILBLK: i32 = -10;
 pub const E_TPRI: i32 = -1830;
 pub const E_ILTIME: i32 = -1831;
@@ -30,7 +31,12 @@ const WAKEUPS_MOST: u32 = 15;
 const SEMAPHORE_MOST: u32 = 65535;
 const TASK: i32 = 0;
 const HANDLER: i32 = 1;
-const TASK_ONLY: [i32; 8] = [2, 3, 9, 10, 14, 18, 21, 23];
+pub const CRE_TSK: i32 = 33;
+pub const DEL_TSK: i32 = 34;
+pub const EXD_TSK: i32 = 35;
+/// The number of calls.
+pub const CALLS: i32 = 35;
+const TASK_ONLY: [i32; 11] = [2, 3, 9, 10, 14, 18, 21, 23, 33, 34, 35];
 
 /// A tick, a handler's entry or return, or a call.
 #[derive(Clone, Copy, PartialEq, Eq, Debug)]
@@ -128,9 +134,28 @@ fn at(id: u32) -> usize {
     id as usize - 1
 }
 
+/// Whether the call's first word is a task.
+pub fn names_task(number: i32) -> bool {
+    matches!(
+        number,
+        1 | 3 | 4 | 6 | 7 | 8 | 11 | 12 | 27 | CRE_TSK | DEL_TSK
+    )
+}
+
 /// Whether a wait for a flag asks for clearing.
 fn clears(mode: u32) -> bool {
     mode & 2 != 0
+}
+
+/// A task as it is made: dormant.
+fn made(start: u32) -> Task {
+    Task {
+        start,
+        priority: start,
+        standing: Standing::Dormant,
+        wakeups: 0,
+        cell: (0, 0),
+    }
 }
 
 /// Ids by rising number.
@@ -152,20 +177,13 @@ fn blocks_of(free: &[bool]) -> Vec<Block> {
 
 impl Plain {
     pub fn fresh(setup: &Setup) -> Plain {
-        let idle = |start| Task {
-            start,
-            priority: start,
-            standing: Standing::Dormant,
-            wakeups: 0,
-            cell: (0, 0),
-        };
         let mut plain = Plain {
             priorities: setup.priorities,
             tasks: setup
                 .tasks
                 .iter()
                 .map(|t| Kept {
-                    task: idle(t.0),
+                    task: made(t.0),
                     arrival: 0,
                 })
                 .collect(),
@@ -338,7 +356,8 @@ impl Plain {
     }
 
     pub fn cell(&self, id: i32) -> (i32, u32) {
-        match inside(id, self.tasks.len(), E_NOEXS) {
+        let inside = inside(id, self.tasks.len(), E_NOEXS);
+        match inside.and_then(|()| self.judge_there(id as u32)) {
             Ok(()) => self.task(id as u32).cell,
             Err(code) => (code, 0),
         }
@@ -395,12 +414,15 @@ impl Plain {
 
 impl Plain {
     fn judge(&self, context: i32, number: i32, a: i32, b: i32, c: i32) -> Result<(), i32> {
-        refuse_if(!(1..=32).contains(&number), H_CALL)?;
+        refuse_if(!(1..=CALLS).contains(&number), H_CALL)?;
         refuse_if(context != TASK && context != HANDLER, H_CALL)?;
         self.judge_a(number, a)?;
         self.judge_b(number, b)?;
         refuse_if(matches!(number, 18 | 19) && !(0..=3).contains(&c), H_PAR)?;
         let caller = self.judge_context(context, number)?;
+        if names_task(number) && number != CRE_TSK {
+            self.judge_there(a as u32)?;
+        }
         let oneself = context == TASK && caller == Some(a as u32);
         refuse_if(matches!(number, 3 | 7 | 11) && oneself, E_SELF)?;
         let on_active = matches!(number, 3 | 4 | 7 | 11 | 12);
@@ -413,7 +435,7 @@ impl Plain {
 
     fn judge_a(&self, number: i32, a: i32) -> Result<(), i32> {
         match number {
-            1 | 3 | 4 | 6 | 7 | 8 | 11 | 12 | 27 => inside(a, self.tasks.len(), E_NOEXS),
+            _ if names_task(number) => inside(a, self.tasks.len(), E_NOEXS),
             5 => refuse_if(a < 0 || a > self.priorities as i32, E_TPRI),
             10 => refuse_if(a < -1, E_ILTIME),
             13..=15 | 28 => inside(a, self.semaphores.len(), E_NOEXS),
@@ -426,11 +448,16 @@ impl Plain {
 
     fn judge_b(&self, number: i32, b: i32) -> Result<(), i32> {
         match number {
-            4 => inside(b, self.priorities as usize, E_TPRI),
+            4 | CRE_TSK => inside(b, self.priorities as usize, E_TPRI),
             18 | 19 => refuse_if(b == 0, H_PAR),
             20 => inside(b, self.messages.len(), H_PAR),
             _ => Ok(()),
         }
+    }
+
+    /// An id in range may be nobody's.
+    fn judge_there(&self, id: u32) -> Result<(), i32> {
+        refuse_if(self.task(id).standing == Standing::Absent, E_NOEXS)
     }
 
     /// The running task, if the context suits the call and what is open.
@@ -453,7 +480,7 @@ impl Plain {
     ) -> Result<(), i32> {
         let id = a as u32;
         match number {
-            1 => refuse_if(self.task(id).standing != Standing::Dormant, H_NODMT),
+            1 | DEL_TSK => refuse_if(self.task(id).standing != Standing::Dormant, H_NODMT),
             6 => refuse_if(self.task(id).standing.wait().is_none(), E_NOWAI),
             7 => refuse_if(self.task(id).standing.suspended(), H_SUS),
             8 => refuse_if(!self.task(id).standing.suspended(), E_NOSUS),
@@ -472,6 +499,7 @@ impl Plain {
                 inside(b, self.pools[at(id)].len(), H_ILBLK)?;
                 refuse_if(self.pools[at(id)][at(b as u32)].free, H_ILBLK)
             }
+            CRE_TSK => refuse_if(self.task(id).standing != Standing::Absent, H_EXIST),
             _ => Ok(()),
         }
     }
@@ -665,6 +693,12 @@ impl Plain {
                 (self.clock >> 32) as u32,
                 (self.clock & 0xffff_ffff) as u32,
             ),
+            CRE_TSK => self.cre_tsk(a, b),
+            DEL_TSK => self.delete(a),
+            EXD_TSK => {
+                self.end(me);
+                self.delete(me)
+            }
             _ => unreachable!("judged"),
         }
     }
@@ -692,6 +726,16 @@ impl Plain {
 
     fn end(&mut self, id: u32) -> Said {
         self.make_dormant(id);
+        DONE
+    }
+
+    fn cre_tsk(&mut self, id: u32, start: u32) -> Said {
+        self.kept(id).task = made(start);
+        DONE
+    }
+
+    fn delete(&mut self, id: u32) -> Said {
+        self.kept(id).task = ABSENT;
         DONE
     }
 
@@ -756,6 +800,7 @@ impl Plain {
 
     fn tsk_sts(&self, id: u32, running: Option<u32>) -> Said {
         let state = match self.task(id).standing {
+            Standing::Absent => unreachable!("judged"),
             Standing::Dormant => 0,
             Standing::Ready if running == Some(id) => 2,
             Standing::Ready => 1,

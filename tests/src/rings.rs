@@ -1,4 +1,4 @@
-//! The kernel of paper 01 and requests K2 and K5 to K7 once more, unproved and written for speed: what `bench` measures the proved one against.
+//! The kernel of paper 01 and requests K2, K5 to K7 and K9 once more, unproved and written for speed: what `bench` measures the proved one against.
 //!
 //! Queues are doubly linked rings in arrays: nodes 1 to 32 are tasks (1 to 256 messages, or free blocks, 32 for each pool), the nodes behind
 //! them anchors, one for each queue.
@@ -15,6 +15,9 @@ use okrozumba::Answer;
 const TASKS: usize = 32;
 const MESSAGES: usize = 256;
 const BLOCKS: usize = 256;
+
+/// The status of a task that is not there; the others are what tsk_sts gives.
+const ABSENT: u32 = 6;
 
 /// What a task waits for. Those that wait for an object stand in its ring; that of kind k and object o has the anchor 16 + 16 k + o.
 const SLEEP: u32 = 0;
@@ -401,6 +404,14 @@ impl Kernel {
         task.wakeups = 0;
     }
 
+    /// A dormant task is no more.
+    fn delete(&mut self, t: u32) {
+        *self.at_mut(t) = Task {
+            status: ABSENT,
+            ..Task::default()
+        };
+    }
+
     fn is_waiting(&self, t: u32) -> bool {
         matches!(self.at(t).status, WAIT | WAIT_SUSPEND)
     }
@@ -409,6 +420,14 @@ impl Kernel {
 
     fn task_id(&self, a: i32) -> Result<u32, i32> {
         within(a, self.tasks, E_NOEXS)
+    }
+
+    fn there(&self, t: u32) -> Result<(), i32> {
+        if self.at(t).status == ABSENT {
+            Err(E_NOEXS)
+        } else {
+            Ok(())
+        }
     }
 
     fn not_dormant(&self, t: u32) -> Result<(), i32> {
@@ -422,6 +441,7 @@ impl Kernel {
     fn sta_tsk(&mut self, by: Caller, a: i32) -> Result<Said, i32> {
         let t = self.task_id(a)?;
         by.any()?;
+        self.there(t)?;
         let task = self.at_mut(t);
         if task.status != DORMANT {
             return Err(H_NODMT);
@@ -440,7 +460,9 @@ impl Kernel {
 
     fn ter_tsk(&mut self, by: Caller, a: i32) -> Result<Said, i32> {
         let t = self.task_id(a)?;
-        if by.task()? == t {
+        let me = by.task()?;
+        self.there(t)?;
+        if me == t {
             return Err(E_SELF);
         }
         self.not_dormant(t)?;
@@ -448,10 +470,43 @@ impl Kernel {
         DONE
     }
 
+    fn cre_tsk(&mut self, by: Caller, a: i32, b: i32) -> Result<Said, i32> {
+        let t = self.task_id(a)?;
+        let p = within(b, self.priorities, E_TPRI)?;
+        by.task()?;
+        let task = self.at_mut(t);
+        if task.status != ABSENT {
+            return Err(H_EXIST);
+        }
+        task.status = DORMANT;
+        task.start = p;
+        task.priority = p;
+        DONE
+    }
+
+    fn del_tsk(&mut self, by: Caller, a: i32) -> Result<Said, i32> {
+        let t = self.task_id(a)?;
+        by.task()?;
+        self.there(t)?;
+        if self.at(t).status != DORMANT {
+            return Err(H_NODMT);
+        }
+        self.delete(t);
+        DONE
+    }
+
+    fn exd_tsk(&mut self, by: Caller) -> Result<Said, i32> {
+        let me = by.task()?;
+        self.retire(me);
+        self.delete(me);
+        DONE
+    }
+
     fn chg_pri(&mut self, by: Caller, a: i32, b: i32) -> Result<Said, i32> {
         let t = self.task_id(a)?;
         let p = within(b, self.priorities, E_TPRI)?;
         by.any()?;
+        self.there(t)?;
         self.not_dormant(t)?;
         if self.at(t).status == READY {
             self.leave_ready(t);
@@ -484,6 +539,7 @@ impl Kernel {
     fn rel_wai(&mut self, by: Caller, a: i32) -> Result<Said, i32> {
         let t = self.task_id(a)?;
         by.any()?;
+        self.there(t)?;
         if !self.is_waiting(t) {
             return Err(E_NOWAI);
         }
@@ -494,6 +550,7 @@ impl Kernel {
     fn sus_tsk(&mut self, by: Caller, a: i32) -> Result<Said, i32> {
         let t = self.task_id(a)?;
         by.any()?;
+        self.there(t)?;
         if by.me == t {
             return Err(E_SELF);
         }
@@ -515,6 +572,7 @@ impl Kernel {
     fn rsm_tsk(&mut self, by: Caller, a: i32) -> Result<Said, i32> {
         let t = self.task_id(a)?;
         by.any()?;
+        self.there(t)?;
         match self.at(t).status {
             SUSPEND => self.make_ready(t),
             WAIT_SUSPEND => self.at_mut(t).status = WAIT,
@@ -554,6 +612,7 @@ impl Kernel {
     fn wup_tsk(&mut self, by: Caller, a: i32) -> Result<Said, i32> {
         let t = self.task_id(a)?;
         by.any()?;
+        self.there(t)?;
         if by.me == t {
             return Err(E_SELF);
         }
@@ -573,6 +632,7 @@ impl Kernel {
     fn can_wup(&mut self, by: Caller, a: i32) -> Result<Said, i32> {
         let t = self.task_id(a)?;
         by.any()?;
+        self.there(t)?;
         self.not_dormant(t)?;
         gives(std::mem::take(&mut self.at_mut(t).wakeups), 0)
     }
@@ -580,6 +640,7 @@ impl Kernel {
     fn tsk_sts(&self, by: Caller, a: i32) -> Result<Said, i32> {
         let t = self.task_id(a)?;
         by.any()?;
+        self.there(t)?;
         let status = match self.at(t).status {
             READY if t == self.running => RUN,
             status => status,
@@ -905,6 +966,9 @@ impl Kernel {
             32 => by
                 .any()
                 .and(gives((self.clock >> 32) as u32, self.clock as u32)),
+            33 => self.cre_tsk(by, a, b),
+            34 => self.del_tsk(by, a),
+            35 => self.exd_tsk(by),
             _ => Err(H_CALL),
         }
     }
@@ -988,9 +1052,10 @@ impl Kernel {
         self.event(e)
     }
 
-    /// A task's answer cell: code and word; E_NOEXS for a bad id.
+    /// A task's answer cell: code and word; E_NOEXS for a bad id, and for one that is not there.
     pub fn cell(&self, task: i32) -> (i32, u32) {
-        match self.task_id(task) {
+        let found = self.task_id(task).and_then(|t| self.there(t).map(|()| t));
+        match found {
             Ok(t) => (self.at(t).code, self.at(t).word),
             Err(code) => (code, 0),
         }
@@ -1049,8 +1114,20 @@ impl Kernel {
         }
     }
 
+    /// A task that is not there has nothing.
+    fn is_nothing(task: &Task) -> bool {
+        task.priority == 0
+            && task.start == 0
+            && task.wakeups == 0
+            && task.code == 0
+            && task.word == 0
+    }
+
     fn is_task_sound(&self, t: u32) -> bool {
         let task = self.at(t);
+        if task.status == ABSENT {
+            return Self::is_nothing(task);
+        }
         let ranges = task.priority.wrapping_sub(1) < self.priorities
             && task.start.wrapping_sub(1) < self.priorities
             && task.wakeups <= 15

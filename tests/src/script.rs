@@ -1,6 +1,6 @@
 //! Random setups and events that lead a kernel into every corner: moods that crowd few objects with many tasks, and wrong words.
 use crate::picture::Standing;
-use crate::plain::{Event, Plain};
+use crate::plain::{names_task, Event, Plain, CALLS, CRE_TSK, DEL_TSK};
 use crate::random::Random;
 use crate::setup::Setup;
 
@@ -125,12 +125,13 @@ const fn nested(deeper: u32, mood: Mood) -> Mood {
     Mood { deeper, ..mood }
 }
 
-const ALL: [i32; 32] = [
+/// sta_tsk and cre_tsk twice, so that tasks that end or go come again.
+const ALL: [i32; 37] = [
     1, 2, 3, 4, 5, 6, 7, 8, 9, 10, 11, 12, 13, 14, 15, 16, 17, 18, 19, 20, 21, 22, 23, 24, 25, 26,
-    27, 28, 29, 30, 31, 32,
+    27, 28, 29, 30, 31, 32, 33, 34, 35, 1, 33,
 ];
 
-const MOODS: [Mood; 16] = [
+const MOODS: [Mood; 18] = [
     // of everything, right and wrong
     mood(&ALL, 10, 35, 10, 30),
     mood(&ALL, 5, 50, 50, 30),
@@ -145,6 +146,15 @@ const MOODS: [Mood; 16] = [
     // tasks come and go
     mood(&[1, 2, 3, 4, 5, 7, 8, 12], 5, 50, 5, 30),
     mood(&[1, 1, 1, 2, 3], 5, 60, 0, 0),
+    // and are made and deleted
+    mood(&[1, 1, 3, 33, 33, 33, 34, 34, 35], 2, 20, 3, 10),
+    mood(
+        &[1, 3, 4, 6, 7, 8, 11, 12, 27, 33, 34, 34, 34],
+        2,
+        50,
+        5,
+        10,
+    ),
     // waits end while tasks are suspended
     mood(&[7, 8, 6, 10, 9, 14], 20, 50, 3, 40),
     // counts rise and mailboxes fill; the last is short of events to fill one with all messages if it does anything else
@@ -157,7 +167,7 @@ const MOODS: [Mood; 16] = [
     nested(40, mood(&[1, 5, 6, 11, 26, 27], 5, 60, 3, 0)),
 ];
 
-const NUMBERS_OUTSIDE: [i32; 6] = [0, 33, -1, 64, i32::MIN, i32::MAX];
+const NUMBERS_OUTSIDE: [i32; 6] = [0, CALLS + 1, -1, 64, i32::MIN, i32::MAX];
 /// The top one, too: a pattern is an unsigned number.
 const BITS: [i32; 4] = [1, 2, 4, i32::MIN];
 const CONTEXTS_OUTSIDE: [i32; 7] = [2, -1, 3, 4, 5, i32::MIN, i32::MAX];
@@ -286,8 +296,9 @@ impl Author {
         let counts = plain.counts();
         let any = |random: &mut Random| random.word() as i32;
         let a = match number {
-            1 => self.dormant(random, plain, counts.tasks),
-            3 | 4 | 6 | 7 | 8 | 11 | 12 | 27 => self.id(random, counts.tasks),
+            1 | DEL_TSK => self.standing(random, plain, counts.tasks, Standing::Dormant),
+            CRE_TSK => self.standing(random, plain, counts.tasks, Standing::Absent),
+            _ if names_task(number) => self.id(random, counts.tasks),
             5 => self.rotated(random, counts.priorities),
             10 => self.time(random),
             13..=15 | 28 => self.id(random, counts.semaphores),
@@ -297,7 +308,7 @@ impl Author {
             _ => any(random),
         };
         let b = match number {
-            4 => self.id(random, counts.priorities),
+            4 | CRE_TSK => self.id(random, counts.priorities),
             16 => self.pattern(random),
             17 => !self.pattern(random),
             18 | 19 => self.wish(random),
@@ -325,14 +336,14 @@ impl Author {
         }
     }
 
-    /// Mostly a dormant task, if there is one.
-    fn dormant(&self, random: &mut Random, plain: &Plain, count: u32) -> i32 {
+    /// Mostly a task that stands so, if there is one.
+    fn standing(&self, random: &mut Random, plain: &Plain, count: u32, wanted: Standing) -> i32 {
         let first = self.id(random, count);
         if random.percent(20) || !(1..=count as i32).contains(&first) {
             return first;
         }
         let mut ids = (first..=count as i32).chain(1..first);
-        let found = ids.find(|id| plain.task(*id as u32).standing == Standing::Dormant);
+        let found = ids.find(|id| plain.task(*id as u32).standing == wanted);
         found.unwrap_or(first)
     }
 

@@ -1,5 +1,7 @@
 //! Random sound states, also those that no short run reaches: the clock at its end, full counts, any order in any queue.
-use crate::picture::{meets, Object, Picture, Queues, Standing, Task, Wait, CLOCK_END, TICKS_MOST};
+use crate::picture::{
+    meets, Object, Picture, Queues, Standing, Task, Wait, ABSENT, CLOCK_END, TICKS_MOST,
+};
 use crate::random::Random;
 use crate::setup::Setup;
 
@@ -74,6 +76,9 @@ fn cell(random: &mut Random) -> (i32, u32) {
 }
 
 fn task(random: &mut Random, setup: &Setup) -> Task {
+    if random.percent(10) {
+        return ABSENT;
+    }
     let standing = standing(random, setup);
     let start = random.within(1, setup.priorities);
     let dormant = standing == Standing::Dormant;

@@ -64,3 +64,9 @@ pub const MBX_STS: i32 = 30;
 pub const MPL_STS: i32 = 31;
 /// The clock: w1 its quotient by 2^32, w2 the remainder.
 pub const GET_TIM: i32 = 32;
+/// T, task that is not there, starting priority: it is dormant then.
+pub const CRE_TSK: i32 = 33;
+/// T, dormant task: it is not there then.
+pub const DEL_TSK: i32 = 34;
+/// T: ext_tsk, and then the task is not there.
+pub const EXD_TSK: i32 = 35;

@@ -5,11 +5,11 @@
 pub const E_OK: i32 = 0;
 /// The caller waits: its answer will be in its cell.
 pub const WAITS: i32 = 1;
-/// Call number not 1..32, or context not 0 or 1.
+/// Call number not 1..35, or context not 0 or 1.
 pub const H_CALL: i32 = -1;
 /// Flag pattern 0 in a wait or poll, mode not 0..3, message number outside 1..count.
 pub const H_PAR: i32 = -2;
-/// sta_tsk on a task not dormant.
+/// sta_tsk or del_tsk on a task not dormant.
 pub const H_NODMT: i32 = -3;
 /// sus_tsk on a suspended task.
 pub const H_SUS: i32 = -4;
@@ -19,6 +19,8 @@ pub const H_POLL: i32 = -5;
 pub const H_MSG: i32 = -6;
 /// An entry while 15 handlers are open.
 pub const H_NEST: i32 = -7;
+/// cre_tsk on a task that is there.
+pub const H_EXIST: i32 = -8;
 /// Block number outside the pool, or free.
 pub const H_ILBLK: i32 = -10;
 /// Damage: a number out of range anywhere, or any breach but those of the next four; w1 is 0.
@@ -37,7 +39,7 @@ pub const E_TPRI: i32 = -1830;
 pub const E_ILTIME: i32 = -1831;
 /// ter_tsk, sus_tsk or wup_tsk on oneself, task context.
 pub const E_SELF: i32 = -2097;
-/// Id outside 1..count.
+/// Id outside 1..count, or a task that is not there.
 pub const E_NOEXS: i32 = -2100;
 /// ter_tsk, chg_pri, sus_tsk, wup_tsk or can_wup on a dormant task.
 pub const E_DMT: i32 = -2101;

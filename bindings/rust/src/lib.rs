@@ -279,7 +279,8 @@ impl State {
         unsafe { archive::okrozumba_leave(&mut self.words, &self.messages) }
     }
 
-    /// The answer cell of a task: on a damaged state the code that an event gets, then [`code::E_NOEXS`] for a bad id, each with word 0.
+    /// The answer cell of a task: on a damaged state the code that an event gets, then [`code::E_NOEXS`] for a bad id or a task
+    /// that is not there, each with word 0.
     pub fn cell(&self, task: i32) -> Cell {
         // SAFETY: as in `call`.
         unsafe { archive::okrozumba_cell(&self.words, &self.messages, task) }

@@ -1,5 +1,5 @@
-//! Recorded runs as they come: setup, number of events (0 to 1,000,000) and events in parts, in fixed memory. However the bytes are divided, the
-//! text, the last state and the refusal are the same.
+//! Recorded runs as they come: setup, number of events (0 to 1,000,000) and events in parts, in fixed memory. However the bytes are divided,
+//! the text, the last state and the refusal are the same.
 //!
 //! The text has "start" and the running task once the number of events is accepted, then a line for each whole event. A run with a fault ends
 //! with the line "refused", digit of the fault, place from the first byte of all.

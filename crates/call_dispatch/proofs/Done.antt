@@ -18,11 +18,11 @@ use Rattle.rules.specs.Events.{Event, tick, enter, exit, call, Words, nat, outs
 use Rattle.rules.specs.Acts.{Act, rotate, release, elapse, after}
 use Rattle.rules.specs.View.{View, line, best}
 use Rattle.rules.specs.Verdicts.{Verdict}
-use Rattle.rules.specs.Tasks.{starting, sta-tsk, ext-tsk, ter-tsk, chg-pri, rot-rdq, rel-wai, sus-tsk, rsm-tsk, take-wakeup, slp-tsk, wai-tsk, waking, wup-tsk, can-wup, get-tid, tsk-sts}
+use Rattle.rules.specs.Tasks.{starting, sta-tsk, ext-tsk, ter-tsk, chg-pri, rot-rdq, rel-wai, sus-tsk, rsm-tsk, take-wakeup, slp-tsk, wai-tsk, waking, wup-tsk, can-wup, get-tid, tsk-sts, cre-tsk, del-tsk, exd-tsk}
 use Rattle.rules.specs.Objects.{to-first, obj-sts, sig-sem, take-sem, met, left, serve-flag, set-flg, clr-flg, take-flg, snd-msg, take-msg, take-blk, rel-blk}
 use Rattle.rules.specs.Time.{get-tim, ending, endings, timeout, ticked}
 use Rattle.rules.specs.Handling.{entered, exited}
-use Rattle.rules.specs.Rows.{staTsk, extTsk, terTsk, chgPri, rotRdq, relWai, susTsk, rsmTsk, slpTsk, waiTsk, wupTsk, canWup, sigSem, waiSem, preqSem, setFlg, clrFlg, waiFlg, polFlg, sndMsg, rcvMsg, prcvMsg, getBlk, pgetBlk, relBlk, getTid, tskSts, semSts, flgSts, mbxSts, mplSts, getTim}
+use Rattle.rules.specs.Rows.{staTsk, extTsk, terTsk, chgPri, rotRdq, relWai, susTsk, rsmTsk, slpTsk, waiTsk, wupTsk, canWup, sigSem, waiSem, preqSem, setFlg, clrFlg, waiFlg, polFlg, sndMsg, rcvMsg, prcvMsg, getBlk, pgetBlk, relBlk, getTid, tskSts, semSts, flgSts, mbxSts, mplSts, getTim, creTsk, delTsk, exdTsk}
 use Rattle.rules.specs.Table.{table, caller, handles, judge}
 use Rattle.rules.specs.Sound.{Known, Sound}
 use Rattle.rules.specs.Kernel.{next}
@@ -185,7 +185,7 @@ module _ (v : View) (h : Sound v) (x : Bool) (a p c : ℤ) where
   whom e = in-by a (length (v .body .tasks)) e
 
   all-rows : AllRows (λ n r. OnActs (AllNames (v .body)) r) v (handles v x) me 1 (table v me a p c)
-  unfolding table staTsk extTsk terTsk chgPri rotRdq relWai susTsk rsmTsk slpTsk waiTsk wupTsk canWup sigSem waiSem preqSem setFlg clrFlg waiFlg polFlg sndMsg rcvMsg prcvMsg getBlk pgetBlk relBlk getTid tskSts semSts flgSts mbxSts mplSts getTim sta-tsk starting ext-tsk ter-tsk chg-pri rel-wai sus-tsk rsm-tsk slp-tsk wai-tsk can-wup clr-flg get-tid tsk-sts obj-sts get-tim
+  unfolding table staTsk extTsk terTsk chgPri rotRdq relWai susTsk rsmTsk slpTsk waiTsk wupTsk canWup sigSem waiSem preqSem setFlg clrFlg waiFlg polFlg sndMsg rcvMsg prcvMsg getBlk pgetBlk relBlk getTid tskSts semSts flgSts mbxSts mplSts getTim creTsk delTsk exdTsk sta-tsk starting ext-tsk ter-tsk chg-pri rel-wai sus-tsk rsm-tsk slp-tsk wai-tsk can-wup clr-flg get-tid tsk-sts obj-sts get-tim cre-tsk del-tsk exd-tsk
   all-rows =
       (λ t. acts-check _ tt (λ k. on-acts (whom (t .words .0), tt)))
       ⊗ (λ t. on-acts (mine (t .context), tt))
@@ -219,6 +219,9 @@ module _ (v : View) (h : Sound v) (x : Bool) (a p c : ℤ) where
       ⊗ (λ t. on-acts tt)
       ⊗ (λ t. on-acts tt)
       ⊗ (λ t. on-acts tt)
+      ⊗ (λ t. acts-check _ tt (λ k. on-acts (whom (t .words .0), tt)))
+      ⊗ (λ t. acts-check _ tt (λ k. on-acts (whom (t .words .0), tt)))
+      ⊗ (λ t. on-acts (mine (t .context), tt))
       ⊗ tt
 
 -- ---- an event

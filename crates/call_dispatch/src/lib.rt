@@ -5,6 +5,9 @@ pub mod numbers;
 use crate::numbers::CAN_WUP;
 use crate::numbers::CHG_PRI;
 use crate::numbers::CLR_FLG;
+use crate::numbers::CRE_TSK;
+use crate::numbers::DEL_TSK;
+use crate::numbers::EXD_TSK;
 use crate::numbers::EXT_TSK;
 use crate::numbers::FLG_STS;
 use crate::numbers::GET_BLK;
@@ -44,6 +47,7 @@ use call_judging::ANOTHER;
 use call_judging::ANYONE;
 use call_judging::BOTH;
 use call_judging::TASK_ONLY;
+use call_judging::UNNAMED;
 use call_judging::on_flag;
 use call_judging::on_message;
 use call_judging::on_nothing;
@@ -66,6 +70,9 @@ use call_objects::semaphores::sig_sem;
 use call_objects::semaphores::wai_sem;
 use call_tasks::can_wup;
 use call_tasks::chg_pri;
+use call_tasks::cre_tsk;
+use call_tasks::del_tsk;
+use call_tasks::exd_tsk;
 use call_tasks::get_tid;
 use call_tasks::get_tim;
 use call_tasks::rel_wai;
@@ -119,7 +126,7 @@ pub fn dispatch(
             OK => ter_tsk(words, i),
             e => refuse(e),
         },
-        CHG_PRI => match on_priority(words, handler, me, i, j) {
+        CHG_PRI => match on_priority(words, BOTH, ALIVE, handler, me, i, j) {
             OK => chg_pri(words, i, j),
             e => refuse(e),
         },
@@ -233,6 +240,18 @@ pub fn dispatch(
         },
         GET_TIM => match on_nothing(words, BOTH, handler, me) {
             OK => get_tim(words),
+            e => refuse(e),
+        },
+        CRE_TSK => match on_priority(words, TASK_ONLY, UNNAMED, handler, me, i, j) {
+            OK => cre_tsk(words, i, j),
+            e => refuse(e),
+        },
+        DEL_TSK => match on_task(words, TASK_ONLY, ANYONE, handler, me, i) {
+            OK => del_tsk(words, i),
+            e => refuse(e),
+        },
+        EXD_TSK => match on_nothing(words, TASK_ONLY, handler, me) {
+            OK => exd_tsk(words, me),
             e => refuse(e),
         },
         _ => refuse(H_CALL),

@@ -62,3 +62,9 @@ pub const MBX_STS: u32 = 30;
 pub const MPL_STS: u32 = 31;
 
 pub const GET_TIM: u32 = 32;
+
+pub const CRE_TSK: u32 = 33;
+
+pub const DEL_TSK: u32 = 34;
+
+pub const EXD_TSK: u32 = 35;

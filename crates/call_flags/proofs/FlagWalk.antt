@@ -17,7 +17,7 @@ use borrow.Author.Tests.{ne-eqb, le-leb, lt-leb}
 use Rattle.rules.specs.Ids.{In, keep, times}
 use Rattle.rules.specs.Codes.{Code, OK}
 use Rattle.rules.specs.Events.{nat, bits}
-use Rattle.rules.specs.State.{Kind, semaphore, flag, mailbox, pool, Wait, on, State, dormant, ready, suspended, waiting, waiting-suspended, Body, task, nobody, objects, waitOf, wish}
+use Rattle.rules.specs.State.{Kind, semaphore, flag, mailbox, pool, Wait, on, State, dormant, ready, suspended, absent, waiting, waiting-suspended, Body, task, nobody, objects, waitOf, wish}
 use Rattle.rules.specs.Places.{waiters, aTask, waitsOn, awaits, belongs, population}
 use Rattle.rules.specs.Acts.{Act, release, pattern, after, move, releasedMove}
 use Rattle.rules.specs.Releases.{releases}
@@ -70,7 +70,7 @@ wait-wish k o p m t i = kind-cases k o p m t (λ w. waitsOn (some w) flag i ≡ 
 shown-wish : (s k o p m t i : ℕ) → awaits (stateShown s (waitShown k o p m t)) flag i ≡ true → wish (waitOf (stateShown s (waitShown k o p m t))) ≡ (p, m)
 shown-wish s k o p m t i =
     status-cases s (waitShown k o p m t) (λ st. awaits st flag i ≡ true → wish (waitOf st) ≡ (p, m))
-    (λ e h. absurd (false≢true h)) (λ e h. absurd (false≢true h)) (λ e. wait-wish k o p m t i) (λ e h. absurd (false≢true h)) (λ e. wait-wish k o p m t i) (λ h. absurd (false≢true h))
+    (λ e h. absurd (false≢true h)) (λ e h. absurd (false≢true h)) (λ e. wait-wish k o p m t i) (λ e h. absurd (false≢true h)) (λ e. wait-wish k o p m t i) (λ e h. absurd (false≢true h)) (λ h. absurd (false≢true h))
 
 -- ---- a waiter that is released leaves its line, and nobody comes
 
@@ -86,6 +86,7 @@ released-line k o x c w b l h = go (task b x .state) h
     go dormant e = absurd (false≢true e)
     go ready e = absurd (false≢true e)
     go suspended e = absurd (false≢true e)
+    go absent e = absurd (false≢true e)
     go (waiting y) e = rw gone (append-nil _ ∙ keep-without x l)
     go (waiting-suspended y) e = keep-without x l
 

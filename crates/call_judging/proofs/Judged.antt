@@ -16,7 +16,7 @@ use Rattle.memory_columns.specs.Layout.{entry}
 use Rattle.memory_picture.specs.Picture.{kindNumber, messagesShown, storeShown, bodyShown, viewShown}
 use Rattle.call_words.proofs.Tasks.{tasks-count, objects-count, messages-count}
 use Rattle.call_judging.specs.Judging.{firstCode, targetOf, commonCode, refusalsOf}
-use Rattle.call_judging.proofs.Tests.{dormant-is}
+use Rattle.call_judging.proofs.Tests.{absent-is, dormant-is}
 use Rattle.call_judging.proofs.Refused.{word-passes}
 
 module _ (i : ℕ) (b m : List ℕ) {s : ℕ} {t : Bool} where
@@ -39,9 +39,9 @@ object-is k i b m en es et = et ∙ rw (es, ← en, ← objects-count k b m)
 
 -- a task that is there: what is common is judged of it
 module _ (c : Context) (h : Bool) (me : ℕ) (t i : ℕ) (b m : List ℕ) {s : ℕ} {x : Bool} {z : ℤ} (es : s ≡ entry Layout.system b 1) (ex : x ≡ outside (pos i) s) (out : x ≡ false)
-    (ez : z ≡ commonCode c (targetOf t i) h me (eqb (entry Layout.status b i) 0)) where
+    (ez : z ≡ commonCode c (targetOf t i) h me (entry Layout.status b i)) where
   pub named-passed : z ≡ firstCode (refusalsOf (viewShown b m) h me [] c (targetOf t i))
-  named-passed = ez ∙ rw (dormant-is t i b m (subst (In i) es (in-by (pos i) s (sym ex ∙ out))))
+  named-passed = let r = subst (In i) es (in-by (pos i) s (sym ex ∙ out)) in ez ∙ rw (absent-is t i b m r, dormant-is t i b m r)
 
   pub task-passed : z ≡ firstCode (refusalsOf (viewShown b m) h me (task-id (viewShown b m) (pos i) ∷ []) c (targetOf t i))
   task-passed = word-passes _ _ (task-is i b m es ex) out named-passed

@@ -11,12 +11,12 @@ use lib.Signed.{ltZ}
 use borrow.Author.Tests.{le-leb, lt-leb, le-ltb, lt-ltb, ltb-true}
 use Rattle.rules.specs.Ids.{In}
 use Rattle.rules.specs.Events.{nat, outside, above, belowForEver}
-use Rattle.rules.specs.Table.{names-self, names-dormant}
+use Rattle.rules.specs.Table.{names-absent, names-self, names-dormant}
 use Rattle.memory_columns.specs.Layout as Layout
 use Rattle.memory_columns.specs.Layout.{entry}
 use Rattle.memory_picture.specs.Picture.{tasksShown, viewShown}
-use Rattle.call_words.proofs.Tasks.{dormant-read}
-use Rattle.call_judging.specs.Judging.{targetOf, dormantIf}
+use Rattle.call_words.proofs.Tasks.{absent-read, dormant-read}
+use Rattle.call_judging.specs.Judging.{targetOf, absentIf, dormantIf}
 
 pub self-free : (t me i : ℕ) → t < 3 → false ≡ names-self (targetOf t i) me
 self-free zero me i h = refl
@@ -47,6 +47,23 @@ dormant-is zero i b m h = refl
 dormant-is (suc zero) i b m h = refl
 dormant-is (suc (suc zero)) i b m h = sym (dormant-read b m i h)
 dormant-is (suc (suc (suc t))) i b m h = sym (dormant-read b m i h)
+
+pub absent-free : (t i x : ℕ) → t < 1 → false ≡ absentIf (targetOf t i) (eqb x 6)
+absent-free zero i x h = refl
+absent-free (suc t) i x h = absurd (omega arith)
+
+pub absent-named : (t i : ℕ) {s x : ℕ} → 1 ≤ t → s ≡ x → eqb s 6 ≡ absentIf (targetOf t i) (eqb x 6)
+absent-named zero i h e = absurd (omega arith)
+absent-named (suc zero) i h e = rw e
+absent-named (suc (suc zero)) i h e = rw e
+absent-named (suc (suc (suc t))) i h e = rw e
+
+-- the column says whether the task is there
+pub absent-is : (t i : ℕ) (b m : List ℕ) → In i (tasksShown b) → absentIf (targetOf t i) (eqb (entry Layout.status b i) 6) ≡ names-absent (viewShown b m .body) (targetOf t i)
+absent-is zero i b m h = refl
+absent-is (suc zero) i b m h = sym (absent-read b m i h)
+absent-is (suc (suc zero)) i b m h = sym (absent-read b m i h)
+absent-is (suc (suc (suc t))) i b m h = sym (absent-read b m i h)
 
 -- ---- numbers
 

@@ -3,19 +3,20 @@ use mathlib.Core.Bool.{Bool, true, false, cond}
 use mathlib.Core.List.{List, [], _∷_, _++_}
 use mathlib.Core.Path.{_≡_}
 use Prim.Native.Nat.{ℕ, zero, suc}
+use lib.Dec.{eqb}
 use lib.IntN.{ℤ, pos}
-use Rattle.rules.specs.Codes.{number, E-CTX, E-SELF, E-DMT}
+use Rattle.rules.specs.Codes.{number, E-CTX, E-NOEXS, E-SELF, E-DMT}
 use Rattle.rules.specs.State.{Kind}
 use Rattle.rules.specs.View.{View}
 use Rattle.rules.specs.Rows.{Refusal, Context, T, both, Target, unnamed, anyone, alive, another, Row, object-id}
-use Rattle.rules.specs.Table.{misplaced, names-self, names-dormant}
+use Rattle.rules.specs.Table.{misplaced, names-absent, names-self, names-dormant}
 use Rattle.memory_picture.specs.Picture.{kindNumber, viewShown, Accepted}
 
 unfoldable pub firstCode : List Refusal → ℤ
 firstCode [] = pos 0
 firstCode (x ∷ l) = cond (x .applies) (number (x .code)) (firstCode l)
 
--- ---- E_CTX, E_SELF, E_DMT
+-- ---- E_CTX, E_NOEXS of a task that is not there, E_SELF, E_DMT
 
 abbrev pub contextOf : Bool → Context
 contextOf true = T
@@ -35,18 +36,30 @@ dormantIf (anyone i) d = false
 dormantIf (alive i) d = d
 dormantIf (another i) d = d
 
--- d: E_DMT applies
-abbrev pub common : Context → Target → Bool → ℕ → Bool → List Refusal
-common c t handler me d =
-    record { applies = misplaced c handler me; code = E-CTX } ∷ record { applies = names-self t me; code = E-SELF } ∷ record { applies = d; code = E-DMT } ∷ []
+-- a: the task that is named is not there
+abbrev pub absentIf : Target → Bool → Bool
+absentIf unnamed a = false
+absentIf (anyone i) a = a
+absentIf (alive i) a = a
+absentIf (another i) a = a
 
-abbrev pub commonCode : Context → Target → Bool → ℕ → Bool → ℤ
-commonCode c t handler me d = firstCode (common c t handler me (dormantIf t d))
+-- a: E_NOEXS applies; d: E_DMT does
+abbrev pub common : Context → Target → Bool → ℕ → Bool → Bool → List Refusal
+common c t handler me a d =
+    record { applies = misplaced c handler me; code = E-CTX }
+    ∷ record { applies = a; code = E-NOEXS }
+    ∷ record { applies = names-self t me; code = E-SELF }
+    ∷ record { applies = d; code = E-DMT }
+    ∷ []
+
+-- s: the status of the task that is named
+abbrev pub commonCode : Context → Target → Bool → ℕ → ℕ → ℤ
+commonCode c t handler me s = firstCode (common c t handler me (absentIf t (eqb s 6)) (dormantIf t (eqb s 0)))
 
 -- ---- a row: its words, then these
 
 abbrev pub refusalsOf : View → Bool → ℕ → List Refusal → Context → Target → List Refusal
-refusalsOf v handler me words c t = words ++ common c t handler me (names-dormant (v .body) t)
+refusalsOf v handler me words c t = words ++ common c t handler me (names-absent (v .body) t) (names-dormant (v .body) t)
 
 -- z is the row's code, on any accepted memory
 abbrev pub Judges : (View → List Refusal) → Context → Target → Bool → ℕ → ℤ → List ℕ → Type 0

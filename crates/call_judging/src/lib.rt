@@ -1,4 +1,4 @@
-// What of a call is judged before its own rule: the words, then E_CTX, E_SELF and E_DMT. A refusal is its code, none is 0. The
+// What of a call is judged before its own rule: the words, then E_CTX, E_NOEXS of a task that is not there, E_SELF and E_DMT. A refusal is its code, none is 0. The
 // contracts speak of an accepted memory (`Judges`).
 use call_words::codes::E_CTX;
 use call_words::codes::E_DMT;
@@ -9,6 +9,7 @@ use call_words::codes::E_TPRI;
 use call_words::codes::H_PAR;
 use call_words::codes::OK;
 use call_words::named;
+use memory_columns::ABSENT;
 use memory_columns::DORMANT;
 use memory_columns::FLAGS;
 use memory_columns::MAILBOXES;
@@ -23,19 +24,19 @@ ghost use mathlib.Core.List.{[], _∷_};
 ghost use lib.Dec.{eqb};
 ghost use lib.IntN.{pos};
 ghost use Rattle.rules.specs.Events.{outside, above};
-ghost use Rattle.rules.specs.Rows.{T, both, unnamed, alive, task-id, priority, queue, time, object-id, asked, mode, message};
+ghost use Rattle.rules.specs.Rows.{T, both, unnamed, task-id, priority, queue, time, object-id, asked, mode, message};
 ghost use Rattle.rules.specs.State as Kind;
 ghost use Rattle.rules.specs.Table as Table;
 ghost use Rattle.memory_columns.specs.Layout as Layout;
 ghost use Rattle.memory_columns.specs.Layout.{entry};
-ghost use Rattle.call_judging.specs.Judging.{contextOf, targetOf, dormantIf, commonCode, Judges, JudgesObject};
+ghost use Rattle.call_judging.specs.Judging.{contextOf, targetOf, absentIf, dormantIf, commonCode, Judges, JudgesObject};
 
 // Task-only, or from both contexts.
 pub const TASK_ONLY: bool = true;
 
 pub const BOTH: bool = false;
 
-// Which task the call names: none, one that is there, one that is not dormant, one that is not oneself either.
+// Which task the call names: none (or one that is not to be there), one that is there, one that is not dormant either, one that is not oneself either.
 pub const UNNAMED: u32 = 0;
 
 pub const ANYONE: u32 = 1;
@@ -78,6 +79,17 @@ fn misplaced(strict: bool, handler: bool, me: u32) -> bool
     me == 0
 }
 
+// E_NOEXS: on a task that is not there.
+fn names_absent(words: &[u32; STATE_WORDS], target: u32, i: u32) -> bool
+    ensures { λ r. ⌜ r ≡ absentIf (targetOf target i) (eqb (entry Layout.status (now (words .entry)) i) 6) ⌝ }
+{
+    if target < ANYONE {
+        false
+    } else {
+        status(words, i) == ABSENT
+    }
+}
+
 // E_SELF: on oneself.
 fn names_self(target: u32, me: u32, i: u32) -> bool
     ensures { λ r. ⌜ r ≡ Table.names-self (targetOf target i) me ⌝ }
@@ -106,10 +118,13 @@ fn common(
     me: u32,
     i: u32,
 ) -> i32
-    ensures { λ r. ⌜ r ≡ commonCode (contextOf strict) (targetOf target i) handler me (eqb (entry Layout.status (now (words .entry)) i) 0) ⌝ }
+    ensures { λ r. ⌜ r ≡ commonCode (contextOf strict) (targetOf target i) handler me (entry Layout.status (now (words .entry)) i) ⌝ }
 {
     if misplaced(strict, handler, me) {
         return E_CTX;
+    }
+    if names_absent(words, target, i) {
+        return E_NOEXS;
     }
     if names_self(target, me, i) {
         return E_SELF;
@@ -147,8 +162,16 @@ pub fn on_task(
 }
 
 // Task i and priority p.
-pub fn on_priority(words: &[u32; STATE_WORDS], handler: bool, me: u32, i: u32, p: u32) -> i32
-    ensures { λ r. ⌜ Judges (λ v. task-id v (pos i) ∷ priority v (pos p) ∷ []) both (alive i) handler me r (now (words .entry)) ⌝ }
+pub fn on_priority(
+    words: &[u32; STATE_WORDS],
+    strict: bool,
+    target: u32,
+    handler: bool,
+    me: u32,
+    i: u32,
+    p: u32,
+) -> i32
+    ensures { λ r. ⌜ Judges (λ v. task-id v (pos i) ∷ priority v (pos p) ∷ []) (contextOf strict) (targetOf target i) handler me r (now (words .entry)) ⌝ }
 {
     if is_outside(i, system(words, TASKS)) {
         return E_NOEXS;
@@ -156,7 +179,7 @@ pub fn on_priority(words: &[u32; STATE_WORDS], handler: bool, me: u32, i: u32, p
     if is_outside(p, system(words, PRIORITIES)) {
         return E_TPRI;
     }
-    common(words, BOTH, ALIVE, handler, me, i)
+    common(words, strict, target, handler, me, i)
 }
 
 // A ready queue, or 0.

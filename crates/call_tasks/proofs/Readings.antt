@@ -10,14 +10,14 @@ use lib.Dec.{eqb, leb}
 use lib.ListN.{length, List·getD-eq-default}
 use borrow.Author.Tests.{eq-eqb, ne-eqb, le-leb, lt-leb}
 use Rattle.rules.specs.Ids.{In}
-use Rattle.rules.specs.State.{Kind, semaphore, flag, mailbox, pool, Wait, Store, dormant, ready, suspended, waiting, waiting-suspended, task, nobody, waitOf, isDormant, isSuspended, isWaiting, sleeps}
+use Rattle.rules.specs.State.{Kind, semaphore, flag, mailbox, pool, Wait, Store, dormant, ready, suspended, waiting, waiting-suspended, task, nobody, waitOf, isDormant, isAbsent, isSuspended, isWaiting, sleeps}
 use Rattle.rules.specs.Tasks.{stateNumber}
 use Rattle.rules.specs.View.{running}
 use Rattle.memory_running.proofs.Running.{running-law}
 use Rattle.rules.specs.Sound.{WaitNumbers}
 use Rattle.memory_picture.proofs.Cases.{kind-cases, status-cases}
 use Rattle.call_words.specs.Naming.{NamesTask}
-use Rattle.call_words.proofs.Tasks.{tasks-count, task-shown, dormant-read}
+use Rattle.call_words.proofs.Tasks.{tasks-count, task-shown, absent-read, dormant-read}
 use Rattle.call_tasks.specs.Reading.{waitsAt, haltedAt, sleepsAt, wakeupsAt, numberAt}
 use Rattle.rules.proofs.Ids.{of-ids, length-ids}
 use Rattle.memory_columns.specs.Layout as Layout
@@ -31,21 +31,21 @@ past b m (suc i) ne h = List·getD-eq-default (viewShown b m .body .tasks) nobod
 -- By the status; no sound wait has 0 ticks left.
 module _ (u : Store) (s : ℕ) (w : Wait) where
   suspended-number : WaitNumbers u (waitOf (stateShown s w)) → isSuspended (stateShown s w) ≡ (eqb s 4 || eqb s 5)
-  suspended-number = status-cases s w (λ st. WaitNumbers u (waitOf st) → isSuspended st ≡ (eqb s 4 || eqb s 5)) (λ e h. rw e) (λ e h. rw e) (λ e h. rw e) (λ e h. rw e) (λ e h. rw e)
+  suspended-number = status-cases s w (λ st. WaitNumbers u (waitOf st) → isSuspended st ≡ (eqb s 4 || eqb s 5)) (λ e h. rw e) (λ e h. rw e) (λ e h. rw e) (λ e h. rw e) (λ e h. rw e) (λ e h. rw e)
       (λ h. absurd (omega (arith, h .0)))
 
   waiting-number : WaitNumbers u (waitOf (stateShown s w)) → isWaiting (stateShown s w) ≡ (eqb s 3 || eqb s 5)
-  waiting-number = status-cases s w (λ st. WaitNumbers u (waitOf st) → isWaiting st ≡ (eqb s 3 || eqb s 5)) (λ e h. rw e) (λ e h. rw e) (λ e h. rw e) (λ e h. rw e) (λ e h. rw e)
+  waiting-number = status-cases s w (λ st. WaitNumbers u (waitOf st) → isWaiting st ≡ (eqb s 3 || eqb s 5)) (λ e h. rw e) (λ e h. rw e) (λ e h. rw e) (λ e h. rw e) (λ e h. rw e) (λ e h. rw e)
       (λ h. absurd (omega (arith, h .0)))
 
   sleeping-number : (t : Bool) → (WaitNumbers u (some w) → sleeps (some w) ≡ t) → WaitNumbers u (waitOf (stateShown s w)) → sleeps (waitOf (stateShown s w)) ≡ ((eqb s 3 || eqb s 5) && t)
-  sleeping-number t f = status-cases s w (λ st. WaitNumbers u (waitOf st) → sleeps (waitOf st) ≡ ((eqb s 3 || eqb s 5) && t)) (λ e h. rw e) (λ e h. rw e) (λ e h. rw e (f h)) (λ e h. rw e) (λ e h. rw e (f h))
+  sleeping-number t f = status-cases s w (λ st. WaitNumbers u (waitOf st) → sleeps (waitOf st) ≡ ((eqb s 3 || eqb s 5) && t)) (λ e h. rw e) (λ e h. rw e) (λ e h. rw e (f h)) (λ e h. rw e) (λ e h. rw e (f h)) (λ e h. rw e)
       (λ h. absurd (omega (arith, h .0)))
 
 -- RUN is the running task's
 number-state : (u : Store) (s : ℕ) (w : Wait) (r : Bool) → WaitNumbers u (waitOf (stateShown s w)) → stateNumber (stateShown s w) r ≡ cond (eqb s 1) (cond r 2 1) s
 unfolding stateNumber
-number-state u s w r = status-cases s w (λ st. WaitNumbers u (waitOf st) → stateNumber st r ≡ cond (eqb s 1) (cond r 2 1) s) (λ e h. rw e) (λ e h. rw e) (λ e h. rw e) (λ e h. rw e) (λ e h. rw e)
+number-state u s w r = status-cases s w (λ st. WaitNumbers u (waitOf st) → stateNumber st r ≡ cond (eqb s 1) (cond r 2 1) s) (λ e h. rw e) (λ e h. rw e) (λ e h. rw e) (λ e h. rw e) (λ e h. rw e) (λ e h. rw e)
     (λ h. absurd (omega (arith, h .0)))
 
 not-asleep : (c : Kind) → leb (kindNumber c) 1 ≡ false
@@ -76,6 +76,12 @@ module _ (b m : List ℕ) (i : ℕ) (k : NamesTask i (viewShown b m)) where
 
     pub reads-alive : (s ≡ 0 → ⊥) → isDormant (task (viewShown b m .body) i .state) ≡ false
     reads-alive n = dormant-read b m i h ∙ ne-eqb _ _ (λ z. n (e ∙ z))
+
+    pub reads-absent : s ≡ 6 → isAbsent (task (viewShown b m .body) i .state) ≡ true
+    reads-absent z = absent-read b m i h ∙ eq-eqb _ _ (sym e ∙ z)
+
+    pub reads-there : (s ≡ 6 → ⊥) → isAbsent (task (viewShown b m .body) i .state) ≡ false
+    reads-there n = absent-read b m i h ∙ ne-eqb _ _ (λ z. n (e ∙ z))
 
   pub wakeups-read : task (viewShown b m .body) i .wakeups ≡ entry Layout.wakeups b i
   unfolding taskShown

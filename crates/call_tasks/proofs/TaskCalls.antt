@@ -7,13 +7,13 @@ use native.Mathlib.Omega.{arith}
 use lib.IntN.{pos}
 use lib.ListN.{length}
 use Rattle.rules.specs.Ids.{In}
-use Rattle.rules.specs.Acts.{start, retire, rotate, regrade, release, suspend, resume, wakeups}
-use Rattle.rules.specs.Codes.{number, H-NODMT, E-NOWAI, E-RLWAI, H-SUS, E-NOSUS}
-use Rattle.rules.specs.Tasks.{starting, ext-tsk, chg-pri, rot-rdq, rel-wai, sus-tsk, rsm-tsk, can-wup, get-tid, tsk-sts}
+use Rattle.rules.specs.Acts.{start, retire, create, delete, rotate, regrade, release, suspend, resume, wakeups}
+use Rattle.rules.specs.Codes.{number, H-NODMT, H-EXIST, E-NOWAI, E-RLWAI, H-SUS, E-NOSUS}
+use Rattle.rules.specs.Tasks.{starting, ext-tsk, chg-pri, rot-rdq, rel-wai, sus-tsk, rsm-tsk, can-wup, get-tid, tsk-sts, cre-tsk, del-tsk, exd-tsk}
 use Rattle.rules.specs.Time.{get-tim}
 use Rattle.memory_columns.specs.Layout as Layout
 use Rattle.memory_columns.specs.Layout.{entry}
-use Rattle.memory_tasks.specs.Moves.{started, retired, rotated, regraded, released, halted, resumed}
+use Rattle.memory_tasks.specs.Moves.{started, retired, created, deleted, rotated, regraded, released, halted, resumed}
 use Rattle.memory_picture.specs.Picture.{tasksShown, storeShown, bodyShown, viewShown}
 use Rattle.memory_picture.specs.Perform.{performed, performedMarks}
 use Rattle.memory_running.specs.Running.{runningOf}
@@ -25,7 +25,7 @@ use Rattle.call_words.proofs.Verdicts.{check-stops, check-passes, gives-none, g
 use Rattle.call_words.specs.Naming.{NamesTask, NamesQueue}
 use Rattle.call_tasks.specs.Reading.{waitsAt, haltedAt, numberAt, turnAt}
 use Rattle.call_tasks.proofs.Heads.{turn-head}
-use Rattle.call_tasks.proofs.Readings.{reads-dormant, reads-alive, waiting-read, suspended-read, wakeups-read, number-read, priority-read}
+use Rattle.call_tasks.proofs.Readings.{reads-dormant, reads-alive, reads-absent, reads-there, waiting-read, suspended-read, wakeups-read, number-read, priority-read}
 
 module _ {b : List ℕ} {s : Outcome} where
   -- ---- the task that is named
@@ -42,6 +42,27 @@ module _ {b : List ℕ} {s : Outcome} where
     pub ter-done : {b′ : List ℕ} → b′ ≡ retired i b → s ≡ outcome (pos 0) 0 0 0 → DoesOnWords Anything (λ v. ext-tsk i) s b b′
     unfolding ext-tsk performed performedMarks
     ter-done g e m A k = gives-one (retire i) refl e g
+
+    pub cre-there : (p : ℕ) {t : ℕ} → t ≡ entry Layout.status b i → (t ≡ 6 → ⊥) → s ≡ outcome (number H-EXIST) 0 0 0 → DoesOnWords (NamesTask i) (λ v. cre-tsk v (pos i) (pos p)) s b b
+    unfolding cre-tsk
+    cre-there p f z e m A k = check-stops H-EXIST _ (ap not (reads-there b m i k f z)) e
+
+    pub cre-done : (p : ℕ) {t : ℕ} → t ≡ entry Layout.status b i → t ≡ 6 → {b′ : List ℕ} → b′ ≡ created i p b → s ≡ outcome (pos 0) 0 0 0
+        → DoesOnWords (NamesTask i) (λ v. cre-tsk v (pos i) (pos p)) s b b′
+    unfolding cre-tsk performed performedMarks
+    cre-done p f z g e m A k = check-passes H-EXIST _ (ap not (reads-absent b m i k f z)) (gives-one (create i p) refl e g)
+
+    pub del-alive : {t : ℕ} → t ≡ entry Layout.status b i → (t ≡ 0 → ⊥) → s ≡ outcome (number H-NODMT) 0 0 0 → DoesOnWords (NamesTask i) (λ v. del-tsk v (pos i)) s b b
+    unfolding del-tsk
+    del-alive f z e m A k = check-stops H-NODMT _ (ap not (reads-alive b m i k f z)) e
+
+    pub del-done : {t : ℕ} → t ≡ entry Layout.status b i → t ≡ 0 → {b′ : List ℕ} → b′ ≡ deleted i b → s ≡ outcome (pos 0) 0 0 0 → DoesOnWords (NamesTask i) (λ v. del-tsk v (pos i)) s b b′
+    unfolding del-tsk performed performedMarks
+    del-done f z g e m A k = check-passes H-NODMT _ (ap not (reads-dormant b m i k f z)) (gives-one (delete i) refl e g)
+
+    pub exd-done : {b′ : List ℕ} → b′ ≡ deleted i b → s ≡ outcome (pos 0) 0 0 0 → DoesOnWords Anything (λ v. exd-tsk i) s b b′
+    unfolding exd-tsk performed performedMarks
+    exd-done g e m A k = gives-one (delete i) refl e g
 
     pub chg-done : (p : ℕ) {b′ : List ℕ} → b′ ≡ regraded i p b → s ≡ outcome (pos 0) 0 0 0 → DoesOnWords Anything (λ v. chg-pri (pos i) (pos p)) s b b′
     unfolding chg-pri performed performedMarks

@@ -14,6 +14,7 @@ use call_words::codes::E_NOSUS;
 use call_words::codes::E_NOWAI;
 use call_words::codes::E_QOVR;
 use call_words::codes::E_TMOUT;
+use call_words::codes::H_EXIST;
 use call_words::codes::H_NODMT;
 use call_words::codes::H_SUS;
 use call_words::done;
@@ -22,6 +23,7 @@ use call_words::named;
 use call_words::refuse;
 use call_words::releases;
 use call_words::waits;
+use memory_columns::ABSENT;
 use memory_columns::ASLEEP;
 use memory_columns::CELL_OK;
 use memory_columns::CELL_RLWAI;
@@ -37,6 +39,8 @@ use memory_columns::system;
 use memory_columns::wakeups;
 use memory_running::running_task;
 use memory_tasks::begin;
+use memory_tasks::create;
+use memory_tasks::delete;
 use memory_tasks::regrade;
 use memory_tasks::release;
 use memory_tasks::resume;
@@ -45,7 +49,7 @@ use memory_tasks::rotate;
 use memory_tasks::sleep;
 use memory_tasks::suspend;
 ghost use lib.IntN.{pos};
-ghost use Rattle.rules.specs.Tasks.{starting, waking, ext-tsk, chg-pri, rot-rdq, rel-wai, sus-tsk, rsm-tsk, slp-tsk, wai-tsk, can-wup, get-tid, tsk-sts};
+ghost use Rattle.rules.specs.Tasks.{starting, waking, ext-tsk, chg-pri, rot-rdq, rel-wai, sus-tsk, rsm-tsk, slp-tsk, wai-tsk, can-wup, get-tid, tsk-sts, cre-tsk, del-tsk, exd-tsk};
 ghost use Rattle.rules.specs.Time.{get-tim};
 ghost use Rattle.call_words.specs.Doing.{Anything, DoesOnWords};
 ghost use Rattle.call_words.specs.Naming.{NamesTask, NamesQueue, HasCaller};
@@ -69,6 +73,36 @@ pub fn ter_tsk(words: &mut [u32; STATE_WORDS], i: u32) -> Outcome
     ensures { λ r. ⌜ DoesOnWords Anything (λ v. ext-tsk i) r (now (words .entry)) (now (words .exit)) ⌝ }
 {
     retire(words, i);
+    done()
+}
+
+// 33 cre_tsk: the task is made, dormant, with starting priority p.
+pub fn cre_tsk(words: &mut [u32; STATE_WORDS], i: u32, p: u32) -> Outcome
+    ensures { λ r. ⌜ DoesOnWords (NamesTask i) (λ v. cre-tsk v (pos i) (pos p)) r (now (words .entry)) (now (words .exit)) ⌝ }
+{
+    if status(words, i) != ABSENT {
+        return refuse(H_EXIST);
+    }
+    create(words, i, p);
+    done()
+}
+
+// 34 del_tsk: the dormant task is deleted.
+pub fn del_tsk(words: &mut [u32; STATE_WORDS], i: u32) -> Outcome
+    ensures { λ r. ⌜ DoesOnWords (NamesTask i) (λ v. del-tsk v (pos i)) r (now (words .entry)) (now (words .exit)) ⌝ }
+{
+    if status(words, i) != DORMANT {
+        return refuse(H_NODMT);
+    }
+    delete(words, i);
+    done()
+}
+
+// 35 exd_tsk: the caller ends and is deleted.
+pub fn exd_tsk(words: &mut [u32; STATE_WORDS], me: u32) -> Outcome
+    ensures { λ r. ⌜ DoesOnWords Anything (λ v. exd-tsk me) r (now (words .entry)) (now (words .exit)) ⌝ }
+{
+    delete(words, me);
     done()
 }
 

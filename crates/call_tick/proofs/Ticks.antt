@@ -12,7 +12,7 @@ use lib.ListN.{length}
 use borrow.Author.Tests.{eqb-true, le-leb}
 use Rattle.rules.specs.Ids.{from, ids, keep, once}
 use Rattle.rules.specs.Codes.{number}
-use Rattle.rules.specs.State.{semaphore, flag, mailbox, pool, Wait, asleep, timed, on, State, dormant, ready, suspended, waiting, waiting-suspended, task, nobody, waitOf}
+use Rattle.rules.specs.State.{semaphore, flag, mailbox, pool, Wait, asleep, timed, on, State, dormant, ready, suspended, absent, waiting, waiting-suspended, task, nobody, waitOf}
 use Rattle.rules.specs.Acts.{Act, elapse}
 use Rattle.rules.specs.Releases.{releases}
 use Rattle.rules.specs.Time.{ending, endings, timeout, ticked}
@@ -56,18 +56,19 @@ wait-ends k o p m t = go (eqb k 0) (eqb k 1) (eqb k 2) (eqb k 3) (eqb k 4) (eqb 
 
 shown-ends : (s k o p m t : ℕ) → ending (waitOf (stateShown s (waitShown k o p m t))) ≡ lastTick s k t
 unfolding stateShown
-shown-ends s k o p m t = go (eqb s 0) (eqb s 1) (eqb s 3) (eqb s 4) (eqb s 5) refl refl refl refl refl
+shown-ends s k o p m t = go (eqb s 0) (eqb s 1) (eqb s 3) (eqb s 4) (eqb s 5) (eqb s 6) refl refl refl refl refl
   where
-    S : Bool → Bool → Bool → Bool → Bool → State
-    S a b c d e = let w = waitShown k o p m t in cond a dormant (cond b ready (cond c (waiting w) (cond d suspended (cond e (waiting-suspended w) (waiting noWait)))))
+    S : Bool → Bool → Bool → Bool → Bool → Bool → State
+    S a b c d e x = let w = waitShown k o p m t in cond a dormant (cond b ready (cond c (waiting w) (cond d suspended (cond e (waiting-suspended w) (cond x absent (waiting noWait))))))
 
-    go : (a b c d e : Bool) → eqb s 0 ≡ a → eqb s 1 ≡ b → eqb s 3 ≡ c → eqb s 4 ≡ d → eqb s 5 ≡ e → ending (waitOf (S a b c d e)) ≡ (((eqb s 3 || eqb s 5) && eqb k 1) && eqb t 1)
-    go true b c d e e0 e1 e3 e4 e5 = rw (eqb-true s 0 e0)
-    go false true c d e e0 e1 e3 e4 e5 = rw (eqb-true s 1 e1)
-    go false false true d e e0 e1 e3 e4 e5 = rw e3 (wait-ends k o p m t)
-    go false false false true e e0 e1 e3 e4 e5 = rw (eqb-true s 4 e4)
-    go false false false false true e0 e1 e3 e4 e5 = rw (e3, e5) (wait-ends k o p m t)
-    go false false false false false e0 e1 e3 e4 e5 = rw (e3, e5)
+    go : (a b c d e x : Bool) → eqb s 0 ≡ a → eqb s 1 ≡ b → eqb s 3 ≡ c → eqb s 4 ≡ d → eqb s 5 ≡ e → ending (waitOf (S a b c d e x)) ≡ (((eqb s 3 || eqb s 5) && eqb k 1) && eqb t 1)
+    go true b c d e x e0 e1 e3 e4 e5 = rw (eqb-true s 0 e0)
+    go false true c d e x e0 e1 e3 e4 e5 = rw (eqb-true s 1 e1)
+    go false false true d e x e0 e1 e3 e4 e5 = rw e3 (wait-ends k o p m t)
+    go false false false true e x e0 e1 e3 e4 e5 = rw (eqb-true s 4 e4)
+    go false false false false true x e0 e1 e3 e4 e5 = rw (e3, e5) (wait-ends k o p m t)
+    go false false false false false true e0 e1 e3 e4 e5 = rw (e3, e5)
+    go false false false false false false e0 e1 e3 e4 e5 = rw (e3, e5)
 
 ends-shown : (b : List ℕ) (i : ℕ) → ending (waitOf (taskShown b i .state)) ≡ endsAt b i
 unfolding taskShown endsAt

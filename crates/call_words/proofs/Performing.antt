@@ -10,7 +10,7 @@ use lib.ListN.{length}
 use Rattle.rules.specs.Ids.{of, In}
 use Rattle.rules.specs.Codes.{Code}
 use Rattle.rules.specs.State.{Body, task, isReady}
-use Rattle.rules.specs.Acts.{Act, start, retire, rotate, regrade, wait, release, suspend, resume, wakeups, count, pattern, post, receive, mark, elapse, nest, after}
+use Rattle.rules.specs.Acts.{Act, start, retire, create, delete, rotate, regrade, wait, release, suspend, resume, wakeups, count, pattern, post, receive, mark, elapse, nest, after}
 use Rattle.rules.specs.View.{View, act, acts}
 use Rattle.rules.specs.Objects.{laid}
 use Rattle.rules.specs.Sound.{CellNumbers, Sound}
@@ -27,6 +27,8 @@ use Rattle.call_words.specs.Doing.{performs, performsMarks}
 abbrev pub Names : Body → Act → Type 0
 Names b (start i) = In i (length (b .tasks))
 Names b (retire i) = In i (length (b .tasks))
+Names b (create i p) = In i (length (b .tasks))
+Names b (delete i) = In i (length (b .tasks))
 Names b (rotate i) = In i (length (b .tasks)) × (isReady (task b i .state) ≡ true)
 Names b (regrade i p) = In i (length (b .tasks))
 Names b (wait i w) = In i (length (b .tasks))
@@ -54,8 +56,10 @@ cell-kept c w (inl h) = subst (λ (x : Code). codeOf (codeKept x) ≡ x) (sym (h
 cell-kept c w (inr h) = elim (h .0) [ inl e ↦ subst (λ (x : Code). codeOf (codeKept x) ≡ x) (sym e) refl | inr e ↦ subst (λ (x : Code). codeOf (codeKept x) ≡ x) (sym e) refl ]
 
 pub pre-fits : (b : Body) (a : Act) → Pre b a → Names b a → Fit b a
-pre-fits b (start i) p n = n
+pre-fits b (start i) p n = (n, p n)
 pre-fits b (retire i) p n = n
+pre-fits b (create i k) p n = n
+pre-fits b (delete i) p n = n
 pre-fits b (rotate i) p n = n
 pre-fits b (regrade i k) p n = (n, p .0)
 pre-fits b (wait i w) p n = (n, p .1 n .0)

@@ -17,6 +17,8 @@ pub const H_MSG: i32 = -6;
 
 pub const H_NEST: i32 = -7;
 
+pub const H_EXIST: i32 = -8;
+
 pub const H_ILBLK: i32 = -10;
 
 pub const E_TPRI: i32 = -1830;

@@ -11,7 +11,7 @@ use lib.Dec.{eqb, lit≤}
 use lib.ListN.{length, replicate}
 use borrow.Author.Tests.{eq-eqb, ne-eqb, le-leb}
 use Rattle.rules.specs.Ids.{of, In}
-use Rattle.rules.specs.State.{Kind, semaphore, flag, mailbox, pool, Wait, on, Store, Body, task, nobody, objects, waitOf}
+use Rattle.rules.specs.State.{Kind, semaphore, flag, mailbox, pool, Wait, on, Store, Body, task, nobody, objects, waitOf, isAbsent}
 use Rattle.rules.specs.Places.{Place, readyAt, waiters, mail, freeIn, many as manyAt, lies, belongs, Exists, population}
 use Rattle.rules.specs.Sound.{LiesWell, WaitNumbers, SoundTask, Queue}
 use Rattle.rules.proofs.Ids.{of-ids, length-ids, inside}
@@ -55,12 +55,12 @@ module _ (u : Store) (few : (k : Kind) → objects u k ≤ maxObjects) where
   wait-home-is k o p m t = kind-cases k o p m t (λ w. WaitNumbers u (some w) → waitHome k o ≡ anchorOf (Form.waitHome w))
       (λ e h. rw e) (λ e h. rw e) (λ c e h. on-home c k o (asked c p) (asked c m) e h) (λ h. absurd (omega (arith, h .0)))
 
-  state-home : (s p x : ℕ) (w : Wait) → p ≤ maxPriorities → (WaitNumbers u (some w) → x ≡ anchorOf (Form.waitHome w)) → WaitNumbers u (waitOf (stateShown s w))
+  state-home : (s p x : ℕ) (w : Wait) → (s ≡ 1 → p ≤ maxPriorities) → (WaitNumbers u (some w) → x ≡ anchorOf (Form.waitHome w)) → WaitNumbers u (waitOf (stateShown s w))
       → cond (eqb s 1) (readyAnchor p) (cond (eqb s 3 || eqb s 5) x 0) ≡ anchorOf (Form.taskHome (stateShown s w) p)
   unfolding anchor
   state-home s p x w hp hw =
       status-cases s w (λ y. WaitNumbers u (waitOf y) → cond (eqb s 1) (readyAnchor p) (cond (eqb s 3 || eqb s 5) x 0) ≡ anchorOf (Form.taskHome y p))
-      (λ e h. rw e) (λ e h. rw (e, le-leb p maxPriorities hp)) (λ e h. rw e (hw h)) (λ e h. rw e) (λ e h. rw e (hw h)) (λ h. absurd (omega (arith, h .0)))
+      (λ e h. rw e) (λ e h. rw (e, le-leb p maxPriorities (hp e))) (λ e h. rw e (hw h)) (λ e h. rw e) (λ e h. rw e (hw h)) (λ e h. rw e) (λ h. absurd (omega (arith, h .0)))
 
 -- ---- entries
 
@@ -288,9 +288,12 @@ module _ (b msgs : List ℕ) (size : length b ≡ stateWords) (R : Ranges b msgs
       go false k = refl
 
   pub home-is : (r : Rings) (i : ℕ) → In i (idsShown b r) → homeIn b msgs r i ≡ anchorOf (homeOf (bodyShown b msgs) r i)
-  unfolding home taskShown storeShown bodyShown
-  home-is Tasks i h = rw (task-is b msgs i h) (state-home (storeShown b msgs) shown-few (entry Layout.status b i) (entry Layout.priority b i) _ _ (omega (arith, R .tasks i h .priority .1, priorities-few))
+  unfolding home taskShown stateShown storeShown bodyShown
+  home-is Tasks i h = rw (task-is b msgs i h) (state-home (storeShown b msgs) shown-few (entry Layout.status b i) (entry Layout.priority b i) _ _ (λ e. omega (arith, R .tasks i h .priority (there e) .1, priorities-few))
       (wait-home-is (storeShown b msgs) shown-few (entry Layout.kind b i) (entry Layout.object b i) (entry Layout.wish b i) (entry Layout.mode b i) (entry Layout.ticks b i)) (R .tasks i h .wait))
+    where
+      there : entry Layout.status b i ≡ 1 → isAbsent (taskShown b i .state) ≡ false
+      there e = rw e
   home-is Messages j h = mark-home (of msgs j 0) (subst (LiesWell (many b Layout.mailboxes)) (message-is b msgs j h) (message-well j h)) ∙ ap (λ (x : Option ℕ). anchorOf (Form.mailHome x)) (sym (message-is b msgs j h))
   home-is Blocks x h = block-home-is x h
 

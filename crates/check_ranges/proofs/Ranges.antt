@@ -3,7 +3,7 @@ use mathlib.Core.Bool.{Bool, true, false, cond, _&&_, _||_, false≢true}
 use mathlib.Core.List.{List, [], map}
 use mathlib.Core.Logic.{_⊎_, inl, inr, _≢_}
 use mathlib.Core.Option.{none, some}
-use mathlib.Core.Path.{_≡_, refl, sym, ap, subst}
+use mathlib.Core.Path.{_≡_, refl, sym, ap, _∙_, subst}
 use Prim.Native.Nat.{ℕ, zero, suc, _/_, _^_, _≤_, _<_}
 use native.Mathlib.Decide.{ℕ-discrete}
 use native.Mathlib.Omega.{arith}
@@ -12,14 +12,15 @@ use lib.ListN.{length}
 use borrow.Author.Tests.{eqb-true, eqb-false, ne-eqb}
 use Rattle.rules.specs.Ids.{of, ids, In}
 use Rattle.rules.specs.Codes.{Code, OK, H-NUMBER, E-TMOUT, E-RLWAI}
-use Rattle.rules.specs.State.{Kind, semaphore, flag, mailbox, pool, Wait, on, State, dormant, waiting, waiting-suspended, Task, Store, nobody, objects, waitOf, isDormant, isFreed, sleeps}
+use Rattle.rules.specs.State.{Kind, semaphore, flag, mailbox, pool, Wait, on, State, dormant, absent, waiting, waiting-suspended, Task, Store, nobody, objects, waitOf, isDormant, isAbsent, isFreed, sleeps}
 use Rattle.rules.specs.Sound.{Sizes, LiesWell, StoreNumbers, CellNumbers, WishNumbers, WaitNumbers, SoundTask, HandlersFit}
 use Rattle.rules.proofs.Ids.{tested, of-ids, length-ids}
 use Rattle.memory_columns.specs.Layout as Layout
 use Rattle.memory_columns.specs.Layout.{maxPriorities, maxTasks, maxObjects, maxMessages, maxPools, maxBlocks, maxDepth, entry}
 use Rattle.memory_picture.specs.Perform.{codeKept}
 use Rattle.memory_picture.specs.Picture.{codeOf, noWait, waitShown, stateShown, taskShown, messageShown, bitsOf, poolShown, tasksShown, storeShown, openShown, handlersShown, bodyShown}
-use Rattle.check_ranges.specs.Ranges.{every, within, many, sizesOk, cellOk, wishOk, ticksOk, flagWaitOk, waitOk, waitAt, stateOk, taskOk, semaphoreOk, flagOk, poolOk, messageOk, freedAt, interruptedOk, openOk, handlingOk, rangesOk}
+use Rattle.memory_picture.proofs.Cases.{status-cases}
+use Rattle.check_ranges.specs.Ranges.{every, within, many, sizesOk, cellOk, wishOk, ticksOk, flagWaitOk, waitOk, waitAt, stateOk, presentOk, vacantOk, taskOk, semaphoreOk, flagOk, poolOk, messageOk, freedAt, interruptedOk, openOk, handlingOk, rangesOk}
 use Rattle.check_ranges.proofs.Decisions.{Decides, decides-as, decides-no, decides-yes, decides-and, decides-or, decides-cond, decides-eq, decides-ne, decides-le, decides-lt, decides-in, decides-every}
 
 -- ---- a cell
@@ -103,15 +104,15 @@ module _ (b msgs : List ℕ) where
   abbrev StateGood : ℕ → ℕ → ℕ → State → Type 0
   StateGood n p s x = WaitNumbers u (waitOf x) × (sleeps (waitOf x) ≡ true → n ≡ 0) × (isDormant x ≡ true → n ≡ 0) × (isDormant x ≡ true → p ≡ s)
 
-  state-law : (i : ℕ) → Decides (stateOk b i) (StateGood (entry Layout.wakeups b i) (entry Layout.priority b i) (entry Layout.start b i) (taskShown b i .state))
+  state-law : (i : ℕ) → eqb (entry Layout.status b i) 6 ≡ false → Decides (stateOk b i) (StateGood (entry Layout.wakeups b i) (entry Layout.priority b i) (entry Layout.start b i) (taskShown b i .state))
   unfolding stateOk stateShown taskShown
-  state-law i =
+  state-law i there =
       decides-cond P (eqb s 0) (decides-as (decides-and (decides-eq n 0) (λ _. decides-eq p q)) (λ h. (tt, (λ _. h .0), (λ _. h .0), (λ _. h .1))) (λ h. (h .2 refl, h .3 refl)))
       (decides-cond P (eqb s 1) (decides-yes none-asks)
       (decides-cond P (eqb s 3) waits
       (decides-cond P (eqb s 4) (decides-yes none-asks)
       (decides-cond P (eqb s 5) waits
-      (decides-no (λ h. omega (arith, h .0 .0)))))))
+      (rw there (decides-no (λ h. omega (arith, h .0 .0))))))))
     where
       s : ℕ
       s = entry Layout.status b i
@@ -137,13 +138,64 @@ module _ (b msgs : List ℕ) where
       waits : Decides (waitAt b i) (WaitNumbers u (some w) × (sleeps (some w) ≡ true → n ≡ 0) × (false ≡ true → n ≡ 0) × (false ≡ true → p ≡ q))
       waits = decides-as (wait-law n _ _ _ _ _) (λ h. (h .0, h .1, (λ e. absurd (false≢true e)), (λ e. absurd (false≢true e)))) (λ h. (h .0, h .1))
 
-  task-law : (i : ℕ) → Decides (taskOk b i) (SoundTask u (taskShown b i))
-  unfolding taskOk taskShown storeShown
-  task-law i = decides-as
+  -- a task that is there
+  not-absent : (s : ℕ) (w : Wait) → eqb s 6 ≡ false → isAbsent (stateShown s w) ≡ false
+  not-absent s w e = status-cases s w (λ x. isAbsent x ≡ false) (λ _. refl) (λ _. refl) (λ _. refl) (λ _. refl) (λ _. refl) (λ d. absurd (eqb-false s 6 e d)) refl
+
+  present-law : (i : ℕ) → eqb (entry Layout.status b i) 6 ≡ false → Decides (presentOk b i) (SoundTask u (taskShown b i))
+  unfolding presentOk taskShown storeShown
+  present-law i e = decides-as
       (decides-and (decides-in (entry Layout.priority b i) (many b Layout.priorities)) (λ _. decides-and (decides-in (entry Layout.start b i) (many b Layout.priorities)) (λ _. decides-and (decides-le (entry Layout.wakeups b i) 15)
-      (λ _. decides-and (cell-law (entry Layout.code b i) (entry Layout.word b i)) (λ _. state-law i)))))
-      (λ h. record { priority = h .0; start = h .1 .0; wakeups = h .1 .1 .0; cell = h .1 .1 .1 .0; wait = h .1 .1 .1 .1 .0; sleeper = h .1 .1 .1 .1 .1; dormant = h .1 .1 .1 .1 .2; rest = h .1 .1 .1 .1 .3 })
-      (λ h. (h .priority, (h .start, (h .wakeups, (h .cell, (h .wait, h .sleeper, h .dormant, h .rest))))))
+      (λ _. decides-and (cell-law (entry Layout.code b i) (entry Layout.word b i)) (λ _. state-law i e)))))
+      (λ h. record {
+        priority = λ _. h .0;
+        start = λ _. h .1 .0;
+        wakeups = h .1 .1 .0;
+        cell = h .1 .1 .1 .0;
+        wait = h .1 .1 .1 .1 .0;
+        sleeper = h .1 .1 .1 .1 .1;
+        dormant = h .1 .1 .1 .1 .2;
+        rest = h .1 .1 .1 .1 .3;
+        absent = λ d. absurd (false≢true (sym (not-absent _ _ e) ∙ d));
+      })
+      (λ h. (h .priority (not-absent _ _ e), (h .start (not-absent _ _ e), (h .wakeups, (h .cell, (h .wait, h .sleeper, h .dormant, h .rest))))))
+
+  -- one that is not
+  ok-law : (c : ℕ) → Decides (eqb c 0) (codeOf c ≡ OK)
+  unfolding codeOf
+  ok-law c = go (eqb c 0) (eqb c 1) (eqb c 2)
+    where
+      go : (x y z : Bool) → Decides x (cond x OK (cond y E-TMOUT (cond z E-RLWAI H-NUMBER)) ≡ OK)
+      go true y z = decides-yes refl
+      go false true z = decides-no (λ e. omega (arith, ap codeKept e))
+      go false false true = decides-no (λ e. omega (arith, ap codeKept e))
+      go false false false = decides-no (λ e. omega (arith, ap codeKept e))
+
+  vacant-law : (i : ℕ) → eqb (entry Layout.status b i) 6 ≡ true → Decides (vacantOk b i) (SoundTask u (taskShown b i))
+  unfolding vacantOk taskShown stateShown
+  vacant-law i e = rw (eqb-true (entry Layout.status b i) 6 e) (decides-as
+      (decides-and (decides-eq (entry Layout.priority b i) 0) (λ _. decides-and (decides-eq (entry Layout.start b i) 0) (λ _. decides-and (decides-eq (entry Layout.wakeups b i) 0)
+      (λ _. decides-and (ok-law (entry Layout.code b i)) (λ _. decides-eq (entry Layout.word b i) 0)))))
+      (λ h. record {
+        priority = λ d. absurd (false≢true (sym d));
+        start = λ d. absurd (false≢true (sym d));
+        wakeups = omega (arith, h .1 .1 .0);
+        cell = inl (h .1 .1 .1 .0, omega (arith, h .1 .1 .1 .1));
+        wait = tt;
+        sleeper = λ d. absurd (false≢true d);
+        dormant = λ d. absurd (false≢true d);
+        rest = λ d. absurd (false≢true d);
+        absent = λ d. (h .0, h .1 .0, h .1 .1 .0, h .1 .1 .1 .0, h .1 .1 .1 .1);
+      })
+      (λ h. let v = h .absent refl in (v .0, (v .1, (v .2, (v .3, v .4))))))
+
+  task-law : (i : ℕ) → Decides (taskOk b i) (SoundTask u (taskShown b i))
+  unfolding taskOk
+  task-law i = go (eqb (entry Layout.status b i) 6) refl
+    where
+      go : (t : Bool) → eqb (entry Layout.status b i) 6 ≡ t → Decides (cond t (vacantOk b i) (presentOk b i)) (SoundTask u (taskShown b i))
+      go true e = vacant-law i e
+      go false e = present-law i e
 
 -- ---- tables
 
@@ -186,14 +238,15 @@ freed-shown : (s : ℕ) (w : Wait) → isFreed (stateShown s w) ≡ (eqb s 1 || 
 unfolding stateShown
 freed-shown s w = elim (ℕ-discrete s 1) [
   | yes e ↦ rw e
-  | no n ↦ elim (ℕ-discrete s 4) [ yes e ↦ rw e | no m ↦ rw (ne-eqb s 1 n, ne-eqb s 4 m) (other (eqb s 0) (eqb s 3) (eqb s 5)) ]
+  | no n ↦ elim (ℕ-discrete s 4) [ yes e ↦ rw e | no m ↦ rw (ne-eqb s 1 n, ne-eqb s 4 m) (other (eqb s 0) (eqb s 3) (eqb s 5) (eqb s 6)) ]
 ]
   where
-    other : (x y z : Bool) → isFreed (cond x dormant (cond y (waiting w) (cond z (waiting-suspended w) (waiting noWait)))) ≡ false
-    other true y z = refl
-    other false true z = refl
-    other false false true = refl
-    other false false false = refl
+    other : (x y z a : Bool) → isFreed (cond x dormant (cond y (waiting w) (cond z (waiting-suspended w) (cond a absent (waiting noWait))))) ≡ false
+    other true y z a = refl
+    other false true z a = refl
+    other false false true a = refl
+    other false false false true = refl
+    other false false false false = refl
 
 module _ (b : List ℕ) where
   abbrev tasks : List Task

@@ -94,3 +94,11 @@ pool-full b p {k} {m} ek em f h = elim (ℕ-discrete k maxBlocks) [
 pub interrupted-by : (b : List ℕ) {t s : ℕ} {r : Bool} → t ≢ 0 → within t (many b Layout.tasks) ≡ true → s ≡ entry Layout.status b t → r ≡ (eqb s 1 || eqb s 4) → r ≡ interruptedOk b t
 unfolding interruptedOk
 interrupted-by b {t} ne w e h = rw (ne-eqb t 0 ne, w, ← e) h
+
+-- a word that is or is not a number
+module _ {r x : ℕ} (e : r ≡ x) (n : ℕ) where
+  pub is-it : r ≡ n → eqb x n ≡ true
+  is-it h = eq-eqb x n (sym e ∙ h)
+
+  pub is-not : r ≢ n → eqb x n ≡ false
+  is-not h = ne-eqb x n (λ d. h (e ∙ d))

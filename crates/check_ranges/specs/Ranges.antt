@@ -56,10 +56,18 @@ stateOk b i =
     cond (eqb (entry Layout.status b i) 0) (restOk b i) (cond (eqb (entry Layout.status b i) 1) true (cond (eqb (entry Layout.status b i) 3) (waitAt b i)
     (cond (eqb (entry Layout.status b i) 4) true (cond (eqb (entry Layout.status b i) 5) (waitAt b i) false))))
 
-unfoldable pub taskOk : List ℕ → ℕ → Bool
-taskOk b i =
+-- a task that is there
+unfoldable pub presentOk : List ℕ → ℕ → Bool
+presentOk b i =
     within (entry Layout.priority b i) (many b Layout.priorities) && (within (entry Layout.start b i) (many b Layout.priorities) && (leb (entry Layout.wakeups b i) 15
     && (cellOk (entry Layout.code b i) (entry Layout.word b i) && stateOk b i)))
+
+-- one that is not
+unfoldable pub vacantOk : List ℕ → ℕ → Bool
+vacantOk b i = eqb (entry Layout.priority b i) 0 && (eqb (entry Layout.start b i) 0 && (eqb (entry Layout.wakeups b i) 0 && (eqb (entry Layout.code b i) 0 && eqb (entry Layout.word b i) 0)))
+
+unfoldable pub taskOk : List ℕ → ℕ → Bool
+taskOk b i = cond (eqb (entry Layout.status b i) 6) (vacantOk b i) (presentOk b i)
 
 abbrev pub semaphoreOk : List ℕ → ℕ → Bool
 semaphoreOk b i = leb (entry Layout.semaphore b i) 65535

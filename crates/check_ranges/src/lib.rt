@@ -1,6 +1,7 @@
 // The first part of the check of a memory: numbers lie in their ranges. Each task, object and message that the counts name is looked at once,
 // the interrupted task once more.
 use memory_columns::ASLEEP;
+use memory_columns::ABSENT;
 use memory_columns::CELL_OK;
 use memory_columns::CELL_RLWAI;
 use memory_columns::CELL_TMOUT;
@@ -180,8 +181,9 @@ fn state_ok(words: &[u32; STATE_WORDS], t: u32) -> bool
     }
 }
 
-fn task_ok(words: &[u32; STATE_WORDS], t: u32) -> bool
-    ensures { λ r. ⌜ r ≡ Ranges.taskOk (now (words .entry)) t ⌝ }
+// A task that is there.
+fn present_ok(words: &[u32; STATE_WORDS], t: u32) -> bool
+    ensures { λ r. ⌜ r ≡ Ranges.presentOk (now (words .entry)) t ⌝ }
 {
     let most = system(words, PRIORITIES);
     if !within(priority(words, t), most) {
@@ -197,6 +199,35 @@ fn task_ok(words: &[u32; STATE_WORDS], t: u32) -> bool
         return false;
     }
     state_ok(words, t)
+}
+
+// One that is not: no priority, no wake-ups, cell 0 and 0.
+fn vacant_ok(words: &[u32; STATE_WORDS], t: u32) -> bool
+    ensures { λ r. ⌜ r ≡ Ranges.vacantOk (now (words .entry)) t ⌝ }
+{
+    if priority(words, t) != 0 {
+        return false;
+    }
+    if start(words, t) != 0 {
+        return false;
+    }
+    if wakeups(words, t) != 0 {
+        return false;
+    }
+    if code(words, t) != CELL_OK {
+        return false;
+    }
+    word(words, t) == 0
+}
+
+fn task_ok(words: &[u32; STATE_WORDS], t: u32) -> bool
+    ensures { λ r. ⌜ r ≡ Ranges.taskOk (now (words .entry)) t ⌝ }
+{
+    if status(words, t) == ABSENT {
+        vacant_ok(words, t)
+    } else {
+        present_ok(words, t)
+    }
 }
 
 fn tasks_ok(words: &[u32; STATE_WORDS], n: u32) -> bool

@@ -124,7 +124,7 @@ module _ (b msgs : List ℕ) (R : Ranges b msgs) (P : Option Wait → Type 0) (n
   state-law : (s : ℕ) (w : Wait) (t : Bool) → (WaitNumbers u (some w) → Decides t (P (some w))) → WaitNumbers u (waitOf (stateShown s w))
       → Decides (cond (eqb s 3 || eqb s 5) t true) (P (waitOf (stateShown s w)))
   state-law s w t f = status-cases s w (λ x. WaitNumbers u (waitOf x) → Decides (cond (eqb s 3 || eqb s 5) t true) (P (waitOf x)))
-      (λ e h. rw e (decides-yes none-waits)) (λ e h. rw e (decides-yes none-waits)) (λ e h. rw e (f h)) (λ e h. rw e (decides-yes none-waits)) (λ e h. rw e (f h)) (λ h. absurd (omega (arith, h .0)))
+      (λ e h. rw e (decides-yes none-waits)) (λ e h. rw e (decides-yes none-waits)) (λ e h. rw e (f h)) (λ e h. rw e (decides-yes none-waits)) (λ e h. rw e (f h)) (λ e h. rw e (decides-yes none-waits)) (λ h. absurd (omega (arith, h .0)))
 
   pub waiter-law : (i : ℕ) → In i (tasksShown b) → Decides (unservedOk b i) (P (waitOf (taskShown b i .state)))
   unfolding unservedOk taskShown

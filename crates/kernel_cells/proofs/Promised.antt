@@ -1,22 +1,25 @@
 -- What is read of a memory, and of its running task, from the verdict on it. Assumes nothing.
-use mathlib.Core.Bool.{Bool, true, false, true≢false}
+use mathlib.Core.Bool.{Bool, true, false, _||_, true≢false}
 use mathlib.Core.List.{List}
 use mathlib.Core.Logic.{_↔_}
-use mathlib.Core.Path.{_≡_, refl, sym, _∙_}
+use mathlib.Core.Path.{_≡_, refl, sym, ap, _∙_}
 use Prim.Native.Nat.{ℕ}
 use lib.IntN.{ℤ}
+use lib.Dec.{eqb}
 use lib.ListN.{length}
+use borrow.Author.Tests.{eq-eqb, ne-eqb}
 use Rattle.rules.specs.Codes.{E-NOEXS, number}
 use Rattle.rules.specs.Breach.{breach}
 use Rattle.rules.specs.Events.{nat, outside}
 use Rattle.rules.specs.Answers.{readCell}
-use Rattle.rules.specs.State.{task, nobody}
+use Rattle.rules.specs.State.{Task, task, nobody, isAbsent}
 use Rattle.rules.proofs.Ids.{of-ids, length-ids}
 use Rattle.rules.proofs.Waits.{in-by}
 use Rattle.memory_columns.specs.Layout as Layout
 use Rattle.memory_columns.specs.Layout.{entry}
 use Rattle.memory_picture.specs.Picture.{taskShown, tasksShown, bodyShown, viewShown, Accepted}
 use Rattle.memory_running.specs.Running.{runningOf}
+use Rattle.call_words.proofs.Tasks.{absent-read}
 use Rattle.kernel_cells.specs.Promises.{kept, Reads, Runs}
 use Rattle.memory_running.proofs.Running.{running-law}
 
@@ -45,10 +48,22 @@ module _ {b msgs : List ℕ} {r : Bool} (law : (r ≡ true) ↔ Accepted b msgs)
         unfolding viewShown bodyShown
         at-id = of-ids (taskShown b) (tasksShown b) (nat a) nobody (rw en at (in-by a n (sym et ∙ e)))
 
-        pub readable : {k w : ℕ} {c : ℤ} → k ≡ entry Layout.code b (nat a) → c ≡ kept k → w ≡ entry Layout.word b (nat a) → Reads b msgs a c w
+        -- s: its status
+        module _ {s : ℕ} (es : s ≡ entry Layout.status b (nat a)) where
+          whether : isAbsent (task (viewShown b msgs .body) (nat a) .state) ≡ eqb (entry Layout.status b (nat a)) 6
+          whether = absent-read b msgs (nat a) (rw en at (in-by a n (sym et ∙ e)))
+
+          pub absent : s ≡ 6 → Reads b msgs a (number E-NOEXS) 0
+          unfolding readCell
+          absent z = record { sound = λ h. rw (count, sym et ∙ e, whether, eq-eqb _ 6 (sym es ∙ z)) (refl, refl); damaged = λ h. absurd (h (law .0 y)) }
+
+          present : (s ≡ 6 → ⊥) → isAbsent (taskShown b (nat a) .state) ≡ false
+          present z = ap (λ (x : Task). isAbsent (x .state)) (sym at-id) ∙ whether ∙ ne-eqb _ 6 (λ d. z (es ∙ d))
+
+        pub readable : {s : ℕ} → s ≡ entry Layout.status b (nat a) → (s ≡ 6 → ⊥) → {k w : ℕ} {c : ℤ} → k ≡ entry Layout.code b (nat a) → c ≡ kept k → w ≡ entry Layout.word b (nat a) → Reads b msgs a c w
         unfolding readCell taskShown
-        readable ek ec ew = record {
-          sound = λ h. rw (count, sym et ∙ e, at-id) (rw (← ek) ec, ew);
+        readable es z ek ec ew = record {
+          sound = λ h. rw (count, sym et ∙ e, at-id, present es z) (rw (← ek) ec, ew);
           damaged = λ h. absurd (h (law .0 y));
         }
 

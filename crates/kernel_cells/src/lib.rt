@@ -8,12 +8,14 @@ use call_words::named;
 use check_damage::H_NUMBER;
 use check_damage::first_breach;
 use check_state::accepts;
+use memory_columns::ABSENT;
 use memory_columns::CELL_OK;
 use memory_columns::CELL_RLWAI;
 use memory_columns::CELL_TMOUT;
 use memory_columns::STATE_WORDS;
 use memory_columns::TASKS;
 use memory_columns::code;
+use memory_columns::status;
 use memory_columns::system;
 use memory_columns::word;
 use memory_running::running_task;
@@ -40,7 +42,7 @@ fn code_of(kept: u32) -> i32
     }
 }
 
-// The cell of a task: the code of what is broken if the state is damaged, then E_NOEXS for a bad id, each with word 0.
+// The cell of a task: the code of what is broken if the state is damaged, then E_NOEXS for a bad id or a task that is not there, each with word 0.
 pub fn cell(words: &[u32; STATE_WORDS], messages: &[u32; 256], task: i32) -> Reading
     ensures { λ r. ⌜ Reads (now (words .entry)) (now (messages .entry)) task (r .code) (r .word) ⌝ }
 {
@@ -53,6 +55,12 @@ pub fn cell(words: &[u32; STATE_WORDS], messages: &[u32; 256], task: i32) -> Rea
     }
     let t = named(task);
     if is_outside(t, system(words, TASKS)) {
+        return Reading {
+            code: E_NOEXS,
+            word: 0,
+        };
+    }
+    if status(words, t) == ABSENT {
         return Reading {
             code: E_NOEXS,
             word: 0,

@@ -9,7 +9,7 @@ use lib.Dec.{eqb}
 use lib.ListN.{length, replicate, length-replicate, length-map}
 use borrow.Author.Tests.{le-leb}
 use Rattle.rules.specs.Ids.{of, from, ids, In}
-use Rattle.rules.specs.State.{pool, Task, Body, task, nobody}
+use Rattle.rules.specs.State.{pool, Task, Body, task, nobody, isAbsent}
 use Rattle.rules.specs.Setup.{wordAt, Entry, Read, got, refused, Setup, setup}
 use Rattle.rules.specs.Acts.{Act, start, mark, after}
 use Rattle.rules.specs.Places.{awaits, tabulate}
@@ -19,7 +19,8 @@ use Rattle.rules.proofs.Ids.{of-replicate}
 use Rattle.rules.proofs.Sizes.{SameSizes, sizes-tasks, sizes-after}
 use Rattle.rules.proofs.Keeps.{NoneAt}
 use Rattle.rules.proofs.Queues.{sound-act, body-act}
-use Rattle.rules.proofs.Accepted.{GoodSetup, setup-good, idle-sound}
+use Rattle.rules.proofs.Accepted.{GoodSetup, setup-good, idle-sound, all-there}
+use Rattle.rules.proofs.Calls.{AllThere, start-there}
 use Rattle.setup.specs.declared.Plan.{Plan}
 use Rattle.setup.specs.declared.Judged.{Judged}
 use Rattle.setup.specs.declared.Judged.the-variants.{Bad, Good}
@@ -62,12 +63,12 @@ module _ (msgs : List ℕ) where
   holds-as : {b c : List ℕ} {v w : View} → b ≡ c → v ≡ w → Holds c msgs w → Holds b msgs v
   holds-as {b} {c} {v} {w} e f H = subst (λ (x : List ℕ). Holds x msgs v) (sym e) (subst (λ (y : View). Holds c msgs y) (sym f) H)
 
-  start-holds : (i : ℕ) (b : List ℕ) (v : View) → Holds b msgs v → In i (length (v .body .tasks)) → Holds (started i b) msgs (act (start i) v)
+  start-holds : (i : ℕ) (b : List ℕ) (v : View) → Holds b msgs v → In i (length (v .body .tasks)) → isAbsent (task (v .body) i .state) ≡ false → Holds (started i b) msgs (act (start i) v)
   unfolding performed performedMarks viewShown
-  start-holds i b v H h =
-      let S : Shows (started i b) msgs (act (start i) (viewShown b msgs)) = perform-law (start i) b msgs (H .accepted) (rw (← H .view) at h) in
+  start-holds i b v H h t =
+      let S : Shows (started i b) msgs (act (start i) (viewShown b msgs)) = perform-law (start i) b msgs (H .accepted) (rw (← H .view) at h, rw (← H .view) at t) in
       let e : viewShown (started i b) msgs ≡ act (start i) v = S .view ∙ ap (act (start i)) (H .view) in
-      record { accepted = record { whole = S .whole; sound = rw (S .view) (sound-act (start i) (viewShown b msgs) (H .accepted .sound) tt) }; view = e }
+      record { accepted = record { whole = S .whole; sound = rw (S .view) (sound-act (start i) (viewShown b msgs) (H .accepted .sound) (λ r. rw (← H .view) at t)) }; view = e }
 
   -- a block is freed, where nobody waits on a pool
   abbrev NobodyWaits : View → Type 0
@@ -136,11 +137,11 @@ module _ (msgs : List ℕ) where
           (rw y at (z .0), z .1, rw y at (z .2) ∙ sym (K .sizes .blocks (suc p + suc j - 1)))
 
   -- a task is started or not
-  one-holds : (t : Bool) (i : ℕ) (b : List ℕ) (v : View) → Holds b msgs v → In i (length (v .body .tasks))
-      → Holds (cond t (started i b) b) msgs (acts (cond t (start i ∷ []) []) v) × (length (acts (cond t (start i ∷ []) []) v .body .tasks) ≡ length (v .body .tasks))
+  one-holds : (t : Bool) (i : ℕ) (b : List ℕ) (v : View) → Holds b msgs v → AllThere (v .body) → In i (length (v .body .tasks))
+      → Holds (cond t (started i b) b) msgs (acts (cond t (start i ∷ []) []) v) × (length (acts (cond t (start i ∷ []) []) v .body .tasks) ≡ length (v .body .tasks)) × AllThere (acts (cond t (start i ∷ []) []) v .body)
   unfolding acts
-  one-holds true i b v H h = (start-holds i b v H h, rw (body-act (start i) v) (sizes-after (start i) (v .body) .tasks))
-  one-holds false i b v H h = (H, refl)
+  one-holds true i b v H a h = (start-holds i b v H h (a i h), rw (body-act (start i) v) (sizes-after (start i) (v .body) .tasks), subst AllThere (sym (body-act (start i) v)) (start-there i (v .body) a))
+  one-holds false i b v H a h = (H, refl, a)
 
   starts-are : (i : ℕ) (x : Entry) (l : List Entry) (v : View) → acts (starts i (x ∷ l)) v ≡ acts (starts (suc i) l) (acts (cond (x .started) (start i ∷ []) []) v)
   unfolding starts acts
@@ -155,14 +156,14 @@ module _ (msgs : List ℕ) where
   begun-is s at i b t e = ap (λ (x : Bool). cond x (started i b) b) (sym e)
 
   -- the tasks from id i on, whose entries are l
-  turns-hold : (s : List ℕ) (at : ℕ) (l : List Entry) (i : ℕ) (b : List ℕ) (v : View) → Holds b msgs v
+  turns-hold : (s : List ℕ) (at : ℕ) (l : List Entry) (i : ℕ) (b : List ℕ) (v : View) → Holds b msgs v → AllThere (v .body)
       → ((j : ℕ) (d : Entry) → In j (length l) → of l j d .started ≡ eqb (wordAt s (at + (8 * (i + j - 1 - 1) + 4))) 1)
       → 1 ≤ i → i + length l ≡ suc (length (v .body .tasks)) → Holds (inTurn (begun s at) (length l) i b) msgs (acts (starts i l) v)
-  turns-hold s at [] i b v H f r e = unfold inTurn starts acts in H
-  turns-hold s at (x ∷ l) i b v H f r e =
-      let o = one-holds (x .started) i b v H (r, omega arith) in
+  turns-hold s at [] i b v H a f r e = unfold inTurn starts acts in H
+  turns-hold s at (x ∷ l) i b v H a f r e =
+      let o = one-holds (x .started) i b v H a (r, omega arith) in
       holds-as (turn-one (begun s at) (length l) i b ∙ ap (inTurn (begun s at) (length l) (suc i)) (begun-is s at i b (x .started) says)) (starts-are i x l v)
-      (turns-hold s at l (suc i) (cond (x .started) (started i b) b) (acts (cond (x .started) (start i ∷ []) []) v) (o .0) rest (omega arith) (omega (arith, o .1)))
+      (turns-hold s at l (suc i) (cond (x .started) (started i b) b) (acts (cond (x .started) (start i ∷ []) []) v) (o .0) (o .2) rest (omega arith) (omega (arith, o .1)))
     where
       says : x .started ≡ eqb (wordAt s (at + (8 * (i - 1) + 4))) 1
       says = f 1 x (omega arith, omega arith) ∙ ap (λ (n : ℕ). eqb (wordAt s (at + (8 * n + 4))) 1) (omega arith)
@@ -225,7 +226,7 @@ module _ (s : List ℕ) (u : Setup) (k : ℕ) (e : setup s ≡ got u k) (z : Lis
   unfolding fresh begins
   fresh-over =
       holds-as marks (ap (λ (n : ℕ). inTurn (begun s (plan .at .tasks)) n 1 freeWords) (S .tasks)) (acts-join (frees 1 (u .pools)) (starts 1 (u .tasks)) rested)
-      (turns-hold marks s (plan .at .tasks) (u .tasks) 1 freeWords (acts (frees 1 (u .pools)) rested) (freed-all .0)
+      (turns-hold marks s (plan .at .tasks) (u .tasks) 1 freeWords (acts (frees 1 (u .pools)) rested) (freed-all .0) there
       (λ j d h. ap (λ (x : Entry). x .started) (S .starts j d (h .0, omega (arith, h .1, S .tasks))) ∙ ap (λ (n : ℕ). eqb (wordAt s n) 1) (omega arith)) (omega arith) (omega (arith, idle-tasks u, freed-all .1 .sizes .tasks)))
     where
       S : PlanShows plan s u
@@ -243,6 +244,9 @@ module _ (s : List ℕ) (u : Setup) (k : ℕ) (e : setup s ≡ got u k) (z : Lis
       freed-all : Holds freeWords marks (acts (frees 1 (u .pools)) rested) × Kept marks rested (acts (frees 1 (u .pools)) rested)
       freed-all = subst (λ (n : ℕ). Holds (inTurn (freedPool s (plan .at .pools)) n 1 unstarted) marks (acts (frees 1 (u .pools)) rested) × Kept marks rested (acts (frees 1 (u .pools)) rested)) (sym (S .pools))
           (pools-hold marks s (plan .at .pools) (u .pools) 1 unstarted rested rests (idle-nobody u) (pools-are u G plan S) (omega arith) (omega (arith, idle-pools u)))
+
+      there : AllThere (acts (frees 1 (u .pools)) rested .body)
+      there i r = subst (λ (l : List Task). isAbsent (of l i nobody .state) ≡ false) (sym (freed-all .1 .tasks)) (all-there u i (subst (λ (l : List Task). In i (length l)) (freed-all .1 .tasks) r))
 
 pub fresh-held : (s : List ℕ) (u : Setup) (k : ℕ) → setup s ≡ got u k → Holds (freshWords s) (replicate maxMessages 0) (fresh u)
 unfolding freshWords laid

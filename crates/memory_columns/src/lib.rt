@@ -117,6 +117,8 @@ pub const SUSPEND: u32 = 4;
 
 pub const WAIT_SUSPEND: u32 = 5;
 
+pub const ABSENT: u32 = 6;
+
 // What a task waits for: a wake-up, a wake-up for so many ticks, or an object of a kind.
 pub const ASLEEP: u32 = 0;
 

@@ -11,7 +11,7 @@ use lib.ListN.{length, getD, set, length-set}
 use lib.Seq.{getD-set-same, getD-set-other}
 use borrow.Author.Tests.{eqb-true, eqb-false, le-leb}
 use Rattle.rules.specs.Ids.{ids, In}
-use Rattle.rules.specs.State.{semaphore, flag, mailbox, pool, Wait, asleep, timed, on, State, dormant, ready, suspended, waiting, waiting-suspended, Task}
+use Rattle.rules.specs.State.{semaphore, flag, mailbox, pool, Wait, asleep, timed, on, State, dormant, ready, suspended, absent, waiting, waiting-suspended, Task}
 use Rattle.rules.specs.Acts.{elapse, after, move, with-state, with-clock, older, clockAfter}
 use Rattle.rules.proofs.Ids.{map-ids, length-ids}
 use Rattle.memory_rings.proofs.Columns.{col-store, length-store}
@@ -68,7 +68,7 @@ shorter-other k o p m n e = rw e (go (eqb k 0) (eqb k 2) (eqb k 3) (eqb k 4) (eq
 -- the state of a task with one tick less, where it is timed
 older-shown : (s k o p m n : ℕ) → stateShown s (waitShown k o p m (cond (isTimed s k) (pred n) n)) ≡ older (stateShown s (waitShown k o p m n))
 unfolding stateShown
-older-shown s k o p m n = go (eqb s 0) (eqb s 1) (eqb s 3) (eqb s 4) (eqb s 5) (eqb k 1) refl
+older-shown s k o p m n = go (eqb s 0) (eqb s 1) (eqb s 3) (eqb s 4) (eqb s 5) (eqb s 6) (eqb k 1) refl
   where
     w : ℕ → Wait
     w n = waitShown k o p m n
@@ -77,16 +77,17 @@ older-shown s k o p m n = go (eqb s 0) (eqb s 1) (eqb s 3) (eqb s 4) (eqb s 5) (
     now true e = shorter-timed k o p m n e
     now false e = shorter-other k o p m n e
 
-    S : Bool → Bool → Bool → Bool → Bool → Wait → State
-    S a b c d e w = cond a dormant (cond b ready (cond c (waiting w) (cond d suspended (cond e (waiting-suspended w) (waiting noWait)))))
+    S : Bool → Bool → Bool → Bool → Bool → Bool → Wait → State
+    S a b c d e f w = cond a dormant (cond b ready (cond c (waiting w) (cond d suspended (cond e (waiting-suspended w) (cond f absent (waiting noWait))))))
 
-    go : (a b c d e t : Bool) → eqb k 1 ≡ t → S a b c d e (w (cond ((c || e) && t) (pred n) n)) ≡ older (S a b c d e (w n))
-    go true b c d e t h = refl
-    go false true c d e t h = refl
-    go false false true d e t h = ap waiting (now t h) ∙ sym (older-waiting (w n))
-    go false false false true e t h = refl
-    go false false false false true t h = ap waiting-suspended (now t h) ∙ sym (older-both (w n))
-    go false false false false false t h = refl
+    go : (a b c d e f t : Bool) → eqb k 1 ≡ t → S a b c d e f (w (cond ((c || e) && t) (pred n) n)) ≡ older (S a b c d e f (w n))
+    go true b c d e f t h = refl
+    go false true c d e f t h = refl
+    go false false true d e f t h = ap waiting (now t h) ∙ sym (older-waiting (w n))
+    go false false false true e f t h = refl
+    go false false false false true f t h = ap waiting-suspended (now t h) ∙ sym (older-both (w n))
+    go false false false false false true t h = refl
+    go false false false false false false t h = refl
 
 abbrev pub olderTask : Task → Task
 olderTask t = with-state (older (t .state)) t

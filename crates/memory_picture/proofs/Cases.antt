@@ -4,7 +4,7 @@ use mathlib.Core.Path.{_≡_, refl}
 use Prim.Native.Nat.{ℕ}
 use lib.Dec.{eqb}
 use borrow.Author.Tests.{eqb-true}
-use Rattle.rules.specs.State.{Kind, semaphore, flag, mailbox, pool, Wait, asleep, timed, on, State, dormant, ready, suspended, waiting, waiting-suspended}
+use Rattle.rules.specs.State.{Kind, semaphore, flag, mailbox, pool, Wait, asleep, timed, on, State, dormant, ready, suspended, absent, waiting, waiting-suspended}
 use Rattle.memory_picture.specs.Picture.{noWait, waitShown, stateShown, kindNumber}
 
 -- pattern and mode are a flag wait's alone
@@ -30,15 +30,16 @@ kind-cases k o p m t P f g h n = go (eqb k 0) (eqb k 1) (eqb k 2) (eqb k 3) (eqb
     go false false false false false false e0 e1 e2 e3 e4 e5 = n
 
 pub status-cases : (s : ℕ) (w : Wait) (P : State → Type 0) → (s ≡ 0 → P dormant) → (s ≡ 1 → P ready) → (s ≡ 3 → P (waiting w)) → (s ≡ 4 → P suspended) → (s ≡ 5 → P (waiting-suspended w))
-    → P (waiting noWait) → P (stateShown s w)
+    → (s ≡ 6 → P absent) → P (waiting noWait) → P (stateShown s w)
 unfolding stateShown
-status-cases s w P f0 f1 f3 f4 f5 n = go (eqb s 0) (eqb s 1) (eqb s 3) (eqb s 4) (eqb s 5) refl refl refl refl refl
+status-cases s w P f0 f1 f3 f4 f5 f6 n = go (eqb s 0) (eqb s 1) (eqb s 3) (eqb s 4) (eqb s 5) (eqb s 6) refl refl refl refl refl refl
   where
-    go : (t0 t1 t3 t4 t5 : Bool) → eqb s 0 ≡ t0 → eqb s 1 ≡ t1 → eqb s 3 ≡ t3 → eqb s 4 ≡ t4 → eqb s 5 ≡ t5
-        → P (cond t0 dormant (cond t1 ready (cond t3 (waiting w) (cond t4 suspended (cond t5 (waiting-suspended w) (waiting noWait))))))
-    go true t1 t3 t4 t5 e0 e1 e3 e4 e5 = f0 (eqb-true s 0 e0)
-    go false true t3 t4 t5 e0 e1 e3 e4 e5 = f1 (eqb-true s 1 e1)
-    go false false true t4 t5 e0 e1 e3 e4 e5 = f3 (eqb-true s 3 e3)
-    go false false false true t5 e0 e1 e3 e4 e5 = f4 (eqb-true s 4 e4)
-    go false false false false true e0 e1 e3 e4 e5 = f5 (eqb-true s 5 e5)
-    go false false false false false e0 e1 e3 e4 e5 = n
+    go : (t0 t1 t3 t4 t5 t6 : Bool) → eqb s 0 ≡ t0 → eqb s 1 ≡ t1 → eqb s 3 ≡ t3 → eqb s 4 ≡ t4 → eqb s 5 ≡ t5 → eqb s 6 ≡ t6
+        → P (cond t0 dormant (cond t1 ready (cond t3 (waiting w) (cond t4 suspended (cond t5 (waiting-suspended w) (cond t6 absent (waiting noWait)))))))
+    go true t1 t3 t4 t5 t6 e0 e1 e3 e4 e5 e6 = f0 (eqb-true s 0 e0)
+    go false true t3 t4 t5 t6 e0 e1 e3 e4 e5 e6 = f1 (eqb-true s 1 e1)
+    go false false true t4 t5 t6 e0 e1 e3 e4 e5 e6 = f3 (eqb-true s 3 e3)
+    go false false false true t5 t6 e0 e1 e3 e4 e5 e6 = f4 (eqb-true s 4 e4)
+    go false false false false true t6 e0 e1 e3 e4 e5 e6 = f5 (eqb-true s 5 e5)
+    go false false false false false true e0 e1 e3 e4 e5 e6 = f6 (eqb-true s 6 e6)
+    go false false false false false false e0 e1 e3 e4 e5 e6 = n

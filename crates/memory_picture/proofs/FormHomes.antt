@@ -11,7 +11,7 @@ use lib.Dec.{eqb, leb, lit≤}
 use lib.ListN.{length}
 use borrow.Author.Tests.{eq-eqb, eqb-true, le-leb, lt-leb}
 use Rattle.rules.specs.Ids.{of, In}
-use Rattle.rules.specs.State.{Kind, semaphore, flag, mailbox, pool, asleep, timed, on, State, dormant, ready, suspended, waiting, waiting-suspended, Store, Body, task, nobody, objects, waitOf, isReady}
+use Rattle.rules.specs.State.{Kind, semaphore, flag, mailbox, pool, asleep, timed, on, State, dormant, ready, suspended, absent, waiting, waiting-suspended, Store, Body, task, nobody, objects, waitOf, isAbsent, isReady}
 use Rattle.rules.specs.Places.{Place, readyAt, waiters, mail, freeIn, Sort, tasks, messages, blocks, sortAt, sameKind, awaits, lies, belongs, at, lineAt, Exists, population}
 use Rattle.rules.specs.View.{View}
 use Rattle.rules.specs.Sound.{Sizes, LiesWell, WaitNumbers, Known, Sound}
@@ -137,6 +137,7 @@ pub ready-home : (s : State) (p r : ℕ) → (isReady s && eqb p r) ≡ true →
 ready-home dormant p r e = absurd (false≢true e)
 ready-home ready p r e = ap (λ (n : ℕ). some (readyAt n)) (eqb-true p r e)
 ready-home suspended p r e = absurd (false≢true e)
+ready-home absent p r e = absurd (false≢true e)
 ready-home (waiting w) p r e = absurd (false≢true e)
 ready-home (waiting-suspended w) p r e = absurd (false≢true e)
 
@@ -147,6 +148,7 @@ pub wait-home : (s : State) (p : ℕ) (k : Kind) (o : ℕ) → awaits s k o ≡ 
 wait-home dormant p k o e = absurd (false≢true e)
 wait-home ready p k o e = absurd (false≢true e)
 wait-home suspended p k o e = absurd (false≢true e)
+wait-home absent p k o e = absurd (false≢true e)
 wait-home (waiting asleep) p k o e = absurd (false≢true e)
 wait-home (waiting (timed t)) p k o e = absurd (false≢true e)
 wait-home (waiting (on k′ o′ x m)) p k o e = ap (λ (q : Place). some q) (same-waiters k′ k o′ o e)
@@ -182,10 +184,11 @@ same-kind flag = refl
 same-kind mailbox = refl
 same-kind pool = refl
 
-pub task-holds : (u : Store) (s : State) (p : ℕ) → In p (u .priorities) → WaitNumbers u (waitOf s) → TaskHolds u s p (taskHome s p)
+pub task-holds : (u : Store) (s : State) (p : ℕ) → (isAbsent s ≡ false → In p (u .priorities)) → WaitNumbers u (waitOf s) → TaskHolds u s p (taskHome s p)
 task-holds u dormant p h w = tt
-task-holds u ready p h w = (h, eq-eqb p p refl)
+task-holds u ready p h w = (h refl, eq-eqb p p refl)
 task-holds u suspended p h w = tt
+task-holds u absent p h w = tt
 task-holds u (waiting asleep) p h w = tt
 task-holds u (waiting (timed t)) p h w = tt
 task-holds u (waiting (on k o x m)) p h w = (w .0, rw (same-kind k) (eq-eqb o o refl))

@@ -11,8 +11,8 @@ use lib.Dec.{eqb, lit<}
 use lib.ListN.{length}
 use lib.Pow.{pow-mono}
 use borrow.Author.Tests.{eq-eqb, ne-eqb}
-use Rattle.rules.specs.Ids.{once}
-use Rattle.rules.specs.State.{Kind, semaphore, flag, mailbox, pool, Wait, asleep, timed, on, State, dormant, ready, suspended, waiting, waiting-suspended, Cell, Task, Store, Handlers, no-handler, in-handler, depth, Body, nobody, objects, waitOf}
+use Rattle.rules.specs.Ids.{In, once}
+use Rattle.rules.specs.State.{Kind, semaphore, flag, mailbox, pool, Wait, asleep, timed, on, State, dormant, ready, suspended, absent, waiting, waiting-suspended, Cell, Task, Store, Handlers, no-handler, in-handler, depth, Body, nobody, objects, waitOf, isAbsent}
 use Rattle.rules.specs.Sound.{Sizes, LiesWell, CellNumbers, WishNumbers, WaitNumbers, SoundTask}
 use Rattle.memory_columns.specs.Layout.{maxObjects, maxBlocks}
 use Rattle.memory_picture.specs.Picture.{codeOf, waitShown, stateShown, messageShown, bitsOf, poolShown, openShown, maskOf, kindNumber}
@@ -38,6 +38,7 @@ unfolding stateShown
 back-state u dormant h = refl
 back-state u ready h = refl
 back-state u suspended h = refl
+back-state u absent h = refl
 back-state u (waiting w) h = ap waiting (back-wait u w h)
 back-state u (waiting-suspended w) h = ap waiting-suspended (back-wait u w h)
 
@@ -104,6 +105,7 @@ status-small : (s : State) → statusNumber s < 2 ^ 32
 status-small dormant = lit< tt
 status-small ready = lit< tt
 status-small suspended = lit< tt
+status-small absent = lit< tt
 status-small (waiting w) = lit< tt
 status-small (waiting-suspended w) = lit< tt
 
@@ -161,14 +163,20 @@ module _ (b : Body) (z : Sizes b) where
   words-small dormant h = none-small
   words-small ready h = none-small
   words-small suspended h = none-small
+  words-small absent h = none-small
   words-small (waiting w) h = wait-small w h
   words-small (waiting-suspended w) h = wait-small w h
+
+  -- a priority, or none
+  rank-small : (n : ℕ) (t : Bool) → (t ≡ false → In n (b .store .priorities)) → (t ≡ true → n ≡ 0) → n < 2 ^ 32
+  rank-small n false f g = omega (arith, f refl .1, z .priorities .1)
+  rank-small n true f g = omega (arith, g refl)
 
   pub task-small : (t : Task) → SoundTask (b .store) t → Small t
   task-small t h = record {
     status = status-small (t .state);
-    priority = omega (arith, h .priority .1, z .priorities .1);
-    start = omega (arith, h .start .1, z .priorities .1);
+    priority = rank-small (t .priority) (isAbsent (t .state)) (h .priority) (λ e. h .absent e .0);
+    start = rank-small (t .start) (isAbsent (t .state)) (h .start) (λ e. h .absent e .1);
     wakeups = omega (arith, h .wakeups);
     code = code-small (t .cell) (h .cell);
     word = word-small (t .cell) (h .cell);

@@ -1,20 +1,22 @@
 -- Each act of the rules, done on a memory, keeps the links whole and takes the view that the memory shows to the view after the act.
 use mathlib.Core.List.{List}
 use Prim.Native.Nat.{ℕ}
-use Rattle.rules.specs.Acts.{Act, start, retire, rotate, regrade, wait, release, suspend, resume, wakeups, count, pattern, post, receive, mark, elapse, nest}
+use Rattle.rules.specs.Acts.{Act, start, retire, create, delete, rotate, regrade, wait, release, suspend, resume, wakeups, count, pattern, post, receive, mark, elapse, nest}
 use Rattle.rules.specs.View.{act}
 use Rattle.memory_picture.specs.Picture.{bodyShown, viewShown, Accepted, Shows}
 use Rattle.memory_picture.specs.Perform.{performed, performedMarks, Fit}
 use Rattle.memory_picture.proofs.Done.{Done, shows-done}
-use Rattle.memory_picture.proofs.TaskActs.{start-done, retire-done, rotate-done, regrade-done, wait-act-done, release-done, suspend-done, resume-done, wakeups-done}
+use Rattle.memory_picture.proofs.TaskActs.{start-done, retire-done, create-done, delete-done, rotate-done, regrade-done, wait-act-done, release-done, suspend-done, resume-done, wakeups-done}
 use Rattle.memory_picture.proofs.StoreActs.{count-done, pattern-done, post-done, receive-done, mark-done}
 use Rattle.memory_picture.proofs.Ages.{elapse-done}
 use Rattle.memory_picture.proofs.HandlerActs.{nest-done}
 
 act-done : (a : Act) (b msgs : List ℕ) → Accepted b msgs → Fit (bodyShown b msgs) a → Done a b msgs (performed a b) (performedMarks a msgs)
 unfolding performed performedMarks bodyShown
-act-done (start i) b msgs A f = start-done b msgs A i f
+act-done (start i) b msgs A f = start-done b msgs A i (f .0) (f .1)
 act-done (retire i) b msgs A f = retire-done b msgs A i f
+act-done (create i p) b msgs A f = create-done b msgs A i f p
+act-done (delete i) b msgs A f = delete-done b msgs A i f
 act-done (rotate i) b msgs A f = rotate-done b msgs A i (f .0) (f .1)
 act-done (regrade i p) b msgs A f = regrade-done b msgs A i (f .0) p (f .1)
 act-done (wait i w) b msgs A f = wait-act-done b msgs A i (f .0) w (f .1)

@@ -9,8 +9,8 @@ use lib.ListN.{length, getD, set}
 use lib.Seq.{set-getD}
 use borrow.Author.Tests.{eqb-true}
 use Rattle.rules.specs.Ids.{of, put, In}
-use Rattle.rules.specs.State.{Kind, semaphore, flag, mailbox, pool, Wait, asleep, timed, on, State, dormant, ready, suspended, waiting, waiting-suspended, Task, Store, task, nobody, objects, waitOf, isReady}
-use Rattle.rules.specs.Acts.{start, retire, rotate, regrade, wait, release, suspend, resume, wakeups, after, move, with-state, with-priority, with-wakeups, haltedMove, resumedMove, releasedMove, regradedMove}
+use Rattle.rules.specs.State.{Kind, semaphore, flag, mailbox, pool, Wait, asleep, timed, on, State, dormant, ready, suspended, absent, waiting, waiting-suspended, Task, Store, task, nobody, objects, waitOf, isAbsent, isReady}
+use Rattle.rules.specs.Acts.{start, retire, create, delete, rotate, regrade, wait, release, suspend, resume, wakeups, after, move, with-state, with-priority, with-wakeups, haltedMove, resumedMove, releasedMove, regradedMove}
 use Rattle.rules.specs.Acts as Acts
 use Rattle.rules.specs.Places.{Place, readyAt, waiters, mail, freeIn, aTask}
 use Rattle.rules.proofs.Fits.{stands}
@@ -22,7 +22,7 @@ use Rattle.memory_rings.proofs.Columns.{col-store}
 use Rattle.memory_columns.specs.Layout as Layout
 use Rattle.memory_columns.specs.Layout.{stateWords}
 use Rattle.memory_columns.specs.Layout.{entry}
-use Rattle.memory_tasks.specs.Moves.{awaiting, rotated, started, readied, retired, regraded, halted, resumed, released, slept, waited}
+use Rattle.memory_tasks.specs.Moves.{awaiting, rotated, started, readied, retired, ranked, created, deleted, regraded, halted, resumed, released, slept, waited}
 use Rattle.memory_picture.specs.Picture.{codeOf, noWait, waitShown, stateShown, taskShown, storeShown, bodyShown, kindNumber, Accepted}
 use Rattle.memory_picture.specs.Perform.{codeKept, put-to-wait}
 use Rattle.memory_queues.proofs.Relinks.{put-at}
@@ -39,24 +39,27 @@ data Status (s : ℕ) : Type 0 where
   is-waiting : s ≡ 3 → Status s
   is-suspended : s ≡ 4 → Status s
   is-both : s ≡ 5 → Status s
+  is-absent : s ≡ 6 → Status s
 
 status-of : (u : Store) (s : ℕ) (w : Wait) → WaitNumbers u (waitOf (stateShown s w)) → Status s
 unfolding stateShown
-status-of u s w = go (eqb s 0) (eqb s 1) (eqb s 3) (eqb s 4) (eqb s 5) refl refl refl refl refl
+status-of u s w = go (eqb s 0) (eqb s 1) (eqb s 3) (eqb s 4) (eqb s 5) (eqb s 6) refl refl refl refl refl refl
   where
-    go : (a b c d e : Bool) → eqb s 0 ≡ a → eqb s 1 ≡ b → eqb s 3 ≡ c → eqb s 4 ≡ d → eqb s 5 ≡ e
-        → WaitNumbers u (waitOf (cond a dormant (cond b ready (cond c (waiting w) (cond d suspended (cond e (waiting-suspended w) (waiting noWait))))))) → Status s
-    go true b c d e p q r x y h = is-dormant (eqb-true s 0 p)
-    go false true c d e p q r x y h = is-ready (eqb-true s 1 q)
-    go false false true d e p q r x y h = is-waiting (eqb-true s 3 r)
-    go false false false true e p q r x y h = is-suspended (eqb-true s 4 x)
-    go false false false false true p q r x y h = is-both (eqb-true s 5 y)
-    go false false false false false p q r x y h = absurd (omega (arith, h .0))
+    go : (a b c d e f : Bool) → eqb s 0 ≡ a → eqb s 1 ≡ b → eqb s 3 ≡ c → eqb s 4 ≡ d → eqb s 5 ≡ e → eqb s 6 ≡ f
+        → WaitNumbers u (waitOf (cond a dormant (cond b ready (cond c (waiting w) (cond d suspended (cond e (waiting-suspended w) (cond f absent (waiting noWait)))))))) → Status s
+    go true b c d e f p q r x y z h = is-dormant (eqb-true s 0 p)
+    go false true c d e f p q r x y z h = is-ready (eqb-true s 1 q)
+    go false false true d e f p q r x y z h = is-waiting (eqb-true s 3 r)
+    go false false false true e f p q r x y z h = is-suspended (eqb-true s 4 x)
+    go false false false false true f p q r x y z h = is-both (eqb-true s 5 y)
+    go false false false false false true p q r x y z h = is-absent (eqb-true s 6 z)
+    go false false false false false false p q r x y z h = absurd (omega (arith, h .0))
 
 only-ready : (s : State) → isReady s ≡ true → s ≡ ready
 only-ready dormant e = absurd (false≢true e)
 only-ready ready e = refl
 only-ready suspended e = absurd (false≢true e)
+only-ready absent e = absurd (false≢true e)
 only-ready (waiting w) e = absurd (false≢true e)
 only-ready (waiting-suspended w) e = absurd (false≢true e)
 
@@ -85,21 +88,36 @@ module _ (b msgs : List ℕ) (A : Accepted b msgs) (t : ℕ) (h : In t (length (
   written : (p v : ℕ) → getD (set (col p (Layout.status .width) b) t v) t 0 ≡ cond (leb (p + Layout.status .width) stateWords) v (getD (set (col p (Layout.status .width) b) t v) t 0)
   written p v = put-at b size p (Layout.status .width) t v (low b msgs A t h)
 
-  pub start-done : Done (start t) b msgs (started t b) msgs
+  pub start-done : isAbsent (task (bodyShown b msgs) t .state) ≡ false → Done (start t) b msgs (started t b) msgs
   unfolding started readied after move taskShown stateShown codeOf
-  start-done = ready-done b msgs A t h (start t) Acts.started refl _
+  start-done e = ready-done b msgs A t h (start t) Acts.started refl _
       (touched-put Layout.status 1 refl (touched-put Layout.word 0 refl (touched-put Layout.code 0 refl (touched-put Layout.priority _ refl (untouched size)))))
-      (simp (col-store, written)) refl refl (sound-before b msgs A t h .start)
+      (simp (col-store, written)) refl refl (sound-before b msgs A t h .start (subst (λ (x : Task). isAbsent (x .state) ≡ false) (before b msgs A t h) e))
 
   pub retire-done : Done (retire t) b msgs (retired t b) msgs
   unfolding retired after move taskShown stateShown
   retire-done = leave-done b msgs A t h (retire t) Acts.retired refl _
       (touched-put Layout.wakeups 0 refl (touched-put Layout.priority _ refl (touched-put Layout.status 0 refl (untouched size)))) (simp (col-store, written)) refl
 
+  pub create-done : (p : ℕ) → Done (create t p) b msgs (created t p b) msgs
+  unfolding created ranked after move taskShown stateShown
+  create-done p = leave-done b msgs A t h (create t p) (Acts.created p) refl _
+      (touched-put Layout.wakeups 0 refl (touched-put Layout.start p refl (touched-put Layout.priority p refl (touched-put Layout.status 0 refl (untouched size)))))
+      (simp (col-store, written)) refl
+
+  pub delete-done : Done (delete t) b msgs (deleted t b) msgs
+  unfolding deleted ranked after move taskShown stateShown codeOf
+  delete-done = leave-done b msgs A t h (delete t) (λ x. nobody) refl _
+      (touched-put Layout.word 0 refl (touched-put Layout.code 0 refl (touched-put Layout.wakeups 0 refl (touched-put Layout.start 0 refl (touched-put Layout.priority 0 refl (touched-put Layout.status 6 refl (untouched size)))))))
+      (simp (col-store, written)) refl
+
   pub rotate-done : isReady (task (bodyShown b msgs) t .state) ≡ true → Done (rotate t) b msgs (rotated t b) msgs
   unfolding after move
   rotate-done r = ready-done b msgs A t h (rotate t) (λ x. x) (λ z. record { tasks = put-same (bodyShown b msgs .tasks) t nobody z; store = bodyShown b msgs .store; handlers = bodyShown b msgs .handlers }) b (untouched size) refl refl
-      (only-ready _ (subst (λ (x : Task). isReady (x .state) ≡ true) (before b msgs A t h) r)) (sound-before b msgs A t h .priority)
+      (is-ready-now) (sound-before b msgs A t h .priority (ap isAbsent is-ready-now))
+    where
+      is-ready-now : taskShown b t .state ≡ ready
+      is-ready-now = only-ready _ (subst (λ (x : Task). isReady (x .state) ≡ true) (before b msgs A t h) r)
 
   pub wakeups-done : (n : ℕ) → Done (wakeups t n) b msgs (Layout.put Layout.wakeups t n b) msgs
   unfolding after move taskShown
@@ -143,6 +161,7 @@ module _ (b msgs : List ℕ) (A : Accepted b msgs) (t : ℕ) (h : In t (length (
       go (is-waiting e) = rw e (stay-done b msgs A t h (suspend t) F refl _ (touched-put Layout.status 5 refl (untouched size)) (simp (col-store, written, e)) (m 3 e))
       go (is-suspended e) = rw e (stay-done b msgs A t h (suspend t) F refl b (untouched size) (simp e) (m 4 e))
       go (is-both e) = rw e (stay-done b msgs A t h (suspend t) F refl b (untouched size) (simp e) (m 5 e))
+      go (is-absent e) = rw e (stay-done b msgs A t h (suspend t) F refl b (untouched size) (simp e) (m 6 e))
 
   pub resume-done : Done (resume t) b msgs (resumed t b) msgs
   unfolding resumed readied after move taskShown stateShown
@@ -159,8 +178,9 @@ module _ (b msgs : List ℕ) (A : Accepted b msgs) (t : ℕ) (h : In t (length (
       go (is-ready e) = rw e (stay-done b msgs A t h (resume t) F refl b (untouched size) (simp e) (m 1 e))
       go (is-waiting e) = rw e (stay-done b msgs A t h (resume t) F refl b (untouched size) (simp e) (m 3 e))
       go (is-suspended e) =
-          rw e (ready-done b msgs A t h (resume t) F refl _ (touched-put Layout.status 1 refl (untouched size)) (simp (col-store, written, e)) (m 4 e) (simp e) (sound-before b msgs A t h .priority))
+          rw e (ready-done b msgs A t h (resume t) F refl _ (touched-put Layout.status 1 refl (untouched size)) (simp (col-store, written, e)) (m 4 e) (simp e) (sound-before b msgs A t h .priority (simp e)))
       go (is-both e) = rw e (stay-done b msgs A t h (resume t) F refl _ (touched-put Layout.status 3 refl (untouched size)) (simp (col-store, written, e)) (m 5 e))
+      go (is-absent e) = rw e (stay-done b msgs A t h (resume t) F refl b (untouched size) (simp e) (m 6 e))
 
   pub release-done : (c : Code) (w : ℕ) → codeOf (codeKept c) ≡ c → Done (release t c w) b msgs (released t (codeKept c) w b) msgs
   unfolding released readied after move taskShown stateShown
@@ -177,10 +197,11 @@ module _ (b msgs : List ℕ) (A : Accepted b msgs) (t : ℕ) (h : In t (length (
       go (is-ready e) = rw e (stay-done b msgs A t h (release t c w) F refl b (untouched size) (simp e) (m 1 e))
       go (is-waiting e) =
           rw e (ready-done b msgs A t h (release t c w) F refl _ (touched-put Layout.status 1 refl (touched-put Layout.word w refl (touched-put Layout.code _ refl (untouched size))))
-          (simp (col-store, written, e, g)) (m 3 e) (simp e) (simp e (sound-before b msgs A t h .priority)))
+          (simp (col-store, written, e, g)) (m 3 e) (simp e) (simp e (sound-before b msgs A t h .priority (simp e))))
       go (is-suspended e) = rw e (stay-done b msgs A t h (release t c w) F refl b (untouched size) (simp e) (m 4 e))
       go (is-both e) =
           rw e (leave-done b msgs A t h (release t c w) F refl _ (touched-put Layout.status 4 refl (touched-put Layout.word w refl (touched-put Layout.code _ refl (untouched size)))) (simp (col-store, written, e, g)) (m 5 e))
+      go (is-absent e) = rw e (stay-done b msgs A t h (release t c w) F refl b (untouched size) (simp e) (m 6 e))
 
   pub regrade-done : (p : ℕ) → In p (storeShown b msgs .priorities) → Done (regrade t p) b msgs (regraded t p b) msgs
   unfolding regraded after move taskShown stateShown
@@ -201,6 +222,7 @@ module _ (b msgs : List ℕ) (A : Accepted b msgs) (t : ℕ) (h : In t (length (
       go (is-waiting e) = rw e (stay-done b msgs A t h (regrade t p) (with-priority p) refl _ T f (m 3 e))
       go (is-suspended e) = rw e (stay-done b msgs A t h (regrade t p) (with-priority p) refl _ T f (m 4 e))
       go (is-both e) = rw e (stay-done b msgs A t h (regrade t p) (with-priority p) refl _ T f (m 5 e))
+      go (is-absent e) = rw e (stay-done b msgs A t h (regrade t p) (with-priority p) refl _ T f (m 6 e))
 
   -- ---- the waits
 

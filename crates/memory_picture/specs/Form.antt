@@ -7,7 +7,7 @@ use Prim.Native.Nat.{ℕ, zero, suc, _+_, _-_, _*_, _/_, _%_, _^_, _<_}
 use lib.Dec.{eqb, leb}
 use lib.ListN.{length, getD}
 use Rattle.rules.specs.Ids.{of, from, ids}
-use Rattle.rules.specs.State.{semaphore, flag, mailbox, pool, Wait, asleep, timed, on, State, dormant, ready, suspended, waiting, waiting-suspended, depth, Body, task}
+use Rattle.rules.specs.State.{semaphore, flag, mailbox, pool, Wait, asleep, timed, on, State, dormant, ready, suspended, absent, waiting, waiting-suspended, depth, Body, task}
 use Rattle.rules.specs.Places.{Place, readyAt, waiters, mail, freeIn, Sort, tasks, messages, blocks, sortAt, lineAt}
 use Rattle.rules.specs.View.{View}
 use Rattle.memory_rings.specs.Rings.{All, headOf}
@@ -28,6 +28,7 @@ abbrev pub statusNumber : State → ℕ
 statusNumber dormant = 0
 statusNumber ready = 1
 statusNumber suspended = 4
+statusNumber absent = 6
 statusNumber (waiting w) = 3
 statusNumber (waiting-suspended w) = 5
 
@@ -51,6 +52,7 @@ abbrev pub wordsOf : State → WaitWords
 wordsOf dormant = noWords
 wordsOf ready = noWords
 wordsOf suspended = noWords
+wordsOf absent = noWords
 wordsOf (waiting w) = waitWords w
 wordsOf (waiting-suspended w) = waitWords w
 
@@ -72,6 +74,7 @@ abbrev pub taskHome : State → ℕ → Option Place
 taskHome dormant p = none
 taskHome ready p = some (readyAt p)
 taskHome suspended p = none
+taskHome absent p = none
 taskHome (waiting w) p = waitHome w
 taskHome (waiting-suspended w) p = waitHome w
 

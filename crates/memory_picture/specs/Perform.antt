@@ -6,15 +6,15 @@ use mathlib.Core.Path.{_≡_}
 use Prim.Native.Nat.{ℕ}
 use lib.ListN.{length}
 use Rattle.rules.specs.Ids.{of, put, In}
-use Rattle.rules.specs.Codes.{Code, OK, WAITS, H-NUMBER, H-QUEUE, H-SERVED, H-TWICE, H-FREE, H-CALL, H-PAR, E-NOEXS, E-TPRI, E-ILTIME, E-CTX, E-SELF, E-DMT, H-NODMT, H-SUS, E-NOSUS, E-NOWAI, E-QOVR, H-POLL, H-MSG, H-NEST, H-ILBLK, E-TMOUT, E-RLWAI}
-use Rattle.rules.specs.State.{Wait, asleep, timed, on, Handlers, no-handler, in-handler, depth, Body, task, isReady}
-use Rattle.rules.specs.Acts.{Act, start, retire, rotate, regrade, wait, release, suspend, resume, wakeups, count, pattern, post, receive, mark, elapse, nest}
+use Rattle.rules.specs.Codes.{Code, OK, WAITS, H-NUMBER, H-QUEUE, H-SERVED, H-TWICE, H-FREE, H-CALL, H-PAR, E-NOEXS, E-TPRI, E-ILTIME, E-CTX, E-SELF, E-DMT, H-NODMT, H-SUS, E-NOSUS, E-NOWAI, E-QOVR, H-POLL, H-MSG, H-NEST, H-EXIST, H-ILBLK, E-TMOUT, E-RLWAI}
+use Rattle.rules.specs.State.{Wait, asleep, timed, on, Handlers, no-handler, in-handler, depth, Body, task, isAbsent, isReady}
+use Rattle.rules.specs.Acts.{Act, start, retire, create, delete, rotate, regrade, wait, release, suspend, resume, wakeups, count, pattern, post, receive, mark, elapse, nest}
 use Rattle.rules.specs.Objects.{laid}
 use Rattle.rules.specs.Sound.{WaitNumbers}
 use Rattle.memory_columns.specs.Layout as Layout
 use Rattle.memory_columns.specs.declared.Rings.the-variants.{Messages}
 use Rattle.memory_queues.specs.Moves.{mailAnchor, linked, unlinked}
-use Rattle.memory_tasks.specs.Moves.{rotated, started, retired, regraded, halted, resumed, released, slept, waited}
+use Rattle.memory_tasks.specs.Moves.{rotated, started, retired, created, deleted, regraded, halted, resumed, released, slept, waited}
 use Rattle.memory_objects.specs.Moves.{marked, elapsed, nested}
 use Rattle.memory_picture.specs.Picture.{codeOf, kindNumber}
 
@@ -45,6 +45,7 @@ codeKept E-QOVR = 3
 codeKept H-POLL = 3
 codeKept H-MSG = 3
 codeKept H-NEST = 3
+codeKept H-EXIST = 3
 codeKept H-ILBLK = 3
 
 -- task i put into a wait
@@ -62,6 +63,8 @@ interruptedKept (in-handler n i) = i
 unfoldable pub performed : Act → List ℕ → List ℕ
 performed (start i) b = started i b
 performed (retire i) b = retired i b
+performed (create i p) b = created i p b
+performed (delete i) b = deleted i b
 performed (rotate i) b = rotated i b
 performed (regrade i p) b = regraded i p b
 performed (wait i w) b = put-to-wait i w b
@@ -81,6 +84,8 @@ performed (nest h) b = nested (depth h) (interruptedKept h) b
 unfoldable pub performedMarks : Act → List ℕ → List ℕ
 performedMarks (start i) m = m
 performedMarks (retire i) m = m
+performedMarks (create i p) m = m
+performedMarks (delete i) m = m
 performedMarks (rotate i) m = m
 performedMarks (regrade i p) m = m
 performedMarks (wait i w) m = m
@@ -98,8 +103,11 @@ performedMarks (nest h) m = m
 
 -- what an act names is there
 abbrev pub Fit : Body → Act → Type 0
-Fit b (start i) = In i (length (b .tasks))
+-- a task that is started is there
+Fit b (start i) = In i (length (b .tasks)) × (isAbsent (task b i .state) ≡ false)
 Fit b (retire i) = In i (length (b .tasks))
+Fit b (create i p) = In i (length (b .tasks))
+Fit b (delete i) = In i (length (b .tasks))
 -- only a ready task is moved in a ready queue
 Fit b (rotate i) = In i (length (b .tasks)) × (isReady (task b i .state) ≡ true)
 Fit b (regrade i p) = In i (length (b .tasks)) × In p (b .store .priorities)

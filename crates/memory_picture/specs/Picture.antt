@@ -9,7 +9,7 @@ use lib.Dec.{eqb}
 use lib.ListN.{length}
 use Rattle.rules.specs.Ids.{of, ids, once}
 use Rattle.rules.specs.Codes.{Code, OK, H-NUMBER, E-TMOUT, E-RLWAI}
-use Rattle.rules.specs.State.{Kind, semaphore, flag, mailbox, pool, Wait, asleep, timed, on, State, dormant, ready, suspended, waiting, waiting-suspended, Task, Store, Handlers, no-handler, in-handler, Body}
+use Rattle.rules.specs.State.{Kind, semaphore, flag, mailbox, pool, Wait, asleep, timed, on, State, dormant, ready, suspended, absent, waiting, waiting-suspended, Task, Store, Handlers, no-handler, in-handler, Body}
 use Rattle.rules.specs.Places.{Place, readyAt, waiters, mail, freeIn, Sort, tasks, messages, blocks, sortAt, Exists, tabulate}
 use Rattle.rules.specs.View.{View}
 use Rattle.rules.specs.Sound.{Sound}
@@ -35,7 +35,7 @@ waitShown k o p m t =
     (cond (eqb k 4) (on mailbox o 0 0) (cond (eqb k 5) (on pool o 0 0) noWait)))))
 
 unfoldable pub stateShown : ℕ → Wait → State
-stateShown s w = cond (eqb s 0) dormant (cond (eqb s 1) ready (cond (eqb s 3) (waiting w) (cond (eqb s 4) suspended (cond (eqb s 5) (waiting-suspended w) (waiting noWait)))))
+stateShown s w = cond (eqb s 0) dormant (cond (eqb s 1) ready (cond (eqb s 3) (waiting w) (cond (eqb s 4) suspended (cond (eqb s 5) (waiting-suspended w) (cond (eqb s 6) absent (waiting noWait))))))
 
 unfoldable pub taskShown : List ℕ → ℕ → Task
 taskShown b i = record {

@@ -1,5 +1,5 @@
 -- What each act on a task does to the words, for any words. The numbers of states are those of tsk_sts (0 DORMANT, 1 READY, 3 WAIT,
--- 4 SUSPEND, 5 WAIT-SUSPEND; 2, RUN, is not kept). The kinds of a wait: 0 asleep, 1 timed, 2 semaphore, 3 flag, 4 mailbox, 5 pool.
+-- 4 SUSPEND, 5 WAIT-SUSPEND; 2, RUN, is not kept), and 6 of one that is not there. The kinds of a wait: 0 asleep, 1 timed, 2 semaphore, 3 flag, 4 mailbox, 5 pool.
 use mathlib.Core.Bool.{cond}
 use mathlib.Core.List.{List}
 use Prim.Native.Nat.{ℕ}
@@ -23,6 +23,16 @@ started t b = readied t (celled t 0 0 (put priority t (entry start b t) b))
 
 unfoldable pub retired : ℕ → List ℕ → List ℕ
 retired t b = unqueued t (put wakeups t 0 (put priority t (entry start b t) (put status t 0 b)))
+
+-- status and priority, also as the starting priority; no wake-ups
+unfoldable pub ranked : ℕ → ℕ → ℕ → List ℕ → List ℕ
+ranked t s p b = put wakeups t 0 (put start t p (put priority t p (put status t s b)))
+
+unfoldable pub created : ℕ → ℕ → List ℕ → List ℕ
+created t p b = unqueued t (ranked t 0 p b)
+
+unfoldable pub deleted : ℕ → List ℕ → List ℕ
+deleted t b = unqueued t (celled t 0 0 (ranked t 6 0 b))
 
 unfoldable pub regraded : ℕ → ℕ → List ℕ → List ℕ
 regraded t p b = cond (eqb (entry status b t) 1) (rotated t (put priority t p b)) (put priority t p b)

@@ -1,4 +1,5 @@
 // The acts on tasks. Each is an act of the rules (specs/Acts.antt of `rules`), done on the memory.
+use memory_columns::ABSENT;
 use memory_columns::CELL_OK;
 use memory_columns::DORMANT;
 use memory_columns::READY;
@@ -12,6 +13,7 @@ use memory_columns::set_kind;
 use memory_columns::set_mode;
 use memory_columns::set_object;
 use memory_columns::set_priority;
+use memory_columns::set_start;
 use memory_columns::set_status;
 use memory_columns::set_ticks;
 use memory_columns::set_wakeups;
@@ -24,7 +26,7 @@ use memory_queues::push;
 use memory_queues::ready_anchor;
 use memory_queues::wait_anchor;
 ghost use mathlib.Core.Path.{_≡_};
-ghost use Rattle.memory_tasks.specs.Moves.{celled, rotated, readied, started, retired, regraded, halted, resumed, released, awaiting, slept, waited};
+ghost use Rattle.memory_tasks.specs.Moves.{celled, rotated, readied, started, retired, ranked, created, deleted, regraded, halted, resumed, released, awaiting, slept, waited};
 
 // Writes the cell of task t.
 fn write_cell(words: &mut [u32; STATE_WORDS], t: u32, code: u32, word: u32)
@@ -69,6 +71,33 @@ pub fn retire(words: &mut [u32; STATE_WORDS], t: u32)
     set_status(words, t, DORMANT);
     set_priority(words, t, p);
     set_wakeups(words, t, 0);
+    leave(words, t);
+}
+
+// Task t has that status, priority p, also as its starting priority, and no wake-ups.
+fn write_task(words: &mut [u32; STATE_WORDS], t: u32, status: u32, p: u32)
+    ensures { λ _. ⌜ now (words .exit) ≡ ranked t status p (now (words .entry)) ⌝ }
+{
+    set_status(words, t, status);
+    set_priority(words, t, p);
+    set_start(words, t, p);
+    set_wakeups(words, t, 0);
+}
+
+// Task t is made: dormant, with starting priority p.
+pub fn create(words: &mut [u32; STATE_WORDS], t: u32, p: u32)
+    ensures { λ _. ⌜ now (words .exit) ≡ created t p (now (words .entry)) ⌝ }
+{
+    write_task(words, t, DORMANT, p);
+    leave(words, t);
+}
+
+// Task t is deleted: it leaves its queue and has no priority, no wake-ups, cell 0 and 0.
+pub fn delete(words: &mut [u32; STATE_WORDS], t: u32)
+    ensures { λ _. ⌜ now (words .exit) ≡ deleted t (now (words .entry)) ⌝ }
+{
+    write_task(words, t, ABSENT, 0);
+    write_cell(words, t, CELL_OK, 0);
     leave(words, t);
 }
 

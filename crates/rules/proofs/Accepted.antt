@@ -1,6 +1,6 @@
 -- What a setup that is accepted says, and that its idle state is sound. A fact about the reader is a predicate on what is read, carried
 -- from read to read (`reads-then`); a refused read has nothing to show. Assumes nothing.
-use mathlib.Core.Bool.{Bool, true, false, cond}
+use mathlib.Core.Bool.{Bool, true, false, cond, false≢true}
 use mathlib.Core.List.{List, [], _∷_, map}
 use mathlib.Core.Logic.{inl}
 use mathlib.Core.Option.{Option, none}
@@ -14,7 +14,7 @@ use borrow.Author.Tests.{leb-true}
 use Rattle.rules.specs.Ids.{of, In, once, times}
 use Rattle.rules.specs.Setup.{Fault, S1, S2, S3, S4, Read, got, refused, and-then, wordAt, Range, to, within, readWord, Section, priorities, sections, readEntry, readEntries, readSection, readSections, Entry, Setup, setupOf, readSetup, at-end, setup, taskEntry, wordOf}
 pub use Rattle.rules.specs.Setup.{GoodSetup}
-use Rattle.rules.specs.State.{dormant, nobody}
+use Rattle.rules.specs.State.{nobody, task, waitOf, isAbsent, isReady}
 use Rattle.rules.specs.Places.{Place, readyAt, waiters, mail, freeIn, belongs, tabulate}
 use Rattle.rules.specs.Sound.{SoundTask, SoundBody, AllUnserved, Sound}
 use Rattle.rules.specs.Kernel.{idleTask, idle}
@@ -185,9 +185,10 @@ setup-whole s u i e = from-read _ (setup s) u i e (setup-reads s) .1
 
 -- ---- the idle state
 
-idle-state : (l : List Entry) (i : ℕ) → getD (map idleTask l) i nobody .state ≡ dormant
-idle-state [] i = refl
-idle-state (x ∷ l) zero = refl
+-- nobody is ready and nobody waits
+idle-state : (l : List Entry) (i : ℕ) → (isReady (getD (map idleTask l) i nobody .state) ≡ false) × (waitOf (getD (map idleTask l) i nobody .state) ≡ none)
+idle-state [] i = (refl, refl)
+idle-state (x ∷ l) zero = (refl, refl)
 idle-state (x ∷ l) (suc i) = idle-state l i
 
 all-out : (l : List ℕ) (p k : ℕ) → of (of (map (λ n. replicate n false) l) p []) k false ≡ false
@@ -200,24 +201,36 @@ all-out (n ∷ l) (suc (suc p)) (suc k) = all-out l (suc p) (suc k)
 pub nobody-belongs : (u : Setup) (q : Place) (i : ℕ) → belongs (idle u) q i ≡ false
 unfolding belongs idle
 nobody-belongs u (readyAt p) zero = refl
-nobody-belongs u (readyAt p) (suc i) = rw (idle-state (u .tasks) i)
+nobody-belongs u (readyAt p) (suc i) = rw (idle-state (u .tasks) i .0)
 nobody-belongs u (waiters k o) zero = refl
-nobody-belongs u (waiters k o) (suc i) = rw (idle-state (u .tasks) i)
+nobody-belongs u (waiters k o) (suc i) = rw (idle-state (u .tasks) i .1)
 nobody-belongs u (mail m) i = rw (of-replicate {A = Option ℕ} (u .messages) i none)
 nobody-belongs u (freeIn p) i = all-out (u .pools) p i
+
+entries-there : (l : List Entry) (i : ℕ) → In i (length (map idleTask l)) → isAbsent (of (map idleTask l) i nobody .state) ≡ false
+entries-there l zero r = absurd (omega (arith, r .0))
+entries-there [] (suc i) r = absurd (omega (arith, r .1))
+entries-there (x ∷ l) (suc zero) r = refl
+entries-there (x ∷ l) (suc (suc i)) r = entries-there l (suc i) (omega arith, omega (arith, r .1))
+
+-- all tasks of the setup exist
+pub all-there : (u : Setup) (i : ℕ) → In i (length (idle u .tasks)) → isAbsent (task (idle u) i .state) ≡ false
+unfolding idle
+all-there u i r = entries-there (u .tasks) i r
 
 module _ (u : Setup) (g : GoodSetup u) where
   idle-task : (e : Entry) → In (e .priority) (u .priorities) → SoundTask (idle u .store) (idleTask e)
   unfolding idle
   idle-task e h = record {
-    priority = h;
-    start = h;
+    priority = λ k. h;
+    start = λ k. h;
     wakeups = omega arith;
     cell = inl (refl, lit< tt);
     wait = tt;
     sleeper = λ k. refl;
     dormant = λ k. refl;
     rest = λ k. refl;
+    absent = λ k. absurd (false≢true k);
   }
 
   pub idle-sound : SoundBody (idle u)
@@ -246,7 +259,7 @@ module _ (u : Setup) (g : GoodSetup u) where
   idle-unserved : AllUnserved (idle u)
   unfolding idle
   idle-unserved zero r = tt
-  idle-unserved (suc i) r = rw (idle-state (u .tasks) i) tt
+  idle-unserved (suc i) r = rw (idle-state (u .tasks) i .1) tt
 
   -- before any block is freed and any task started: nothing stands in a line
   pub unstarted-sound : Sound (record { body = idle u; lines = tabulate (idle u .store) (λ q. []) })

@@ -14,17 +14,17 @@ use lib.ListN.{length, getD, set}
 use borrow.Author.Tests.{eqb-true, not-false}
 use Rattle.rules.specs.Ids.{of, put, ids, In, keep, once, times}
 use Rattle.rules.specs.Codes.{Code, OK, E-TMOUT, E-RLWAI, H-POLL, number}
-use Rattle.rules.specs.State.{Kind, semaphore, flag, mailbox, pool, Wait, asleep, timed, on, State, dormant, ready, suspended, waiting, waiting-suspended, Task, Body, task, nobody, objects, waitOf, wish, isDormant, isWaiting, isFreed, sleeps}
+use Rattle.rules.specs.State.{Kind, semaphore, flag, mailbox, pool, Wait, asleep, timed, on, State, dormant, ready, suspended, absent, waiting, waiting-suspended, Task, Body, task, nobody, objects, waitOf, wish, isDormant, isWaiting, isFreed, sleeps}
 use Rattle.rules.specs.Places.{waiters, freeIn, blocks, sameSort, aTask, belongs, sameKind, waitsOn, awaits}
 use Rattle.rules.specs.Events.{Event, tick, enter, exit, call, nat, outside}
-use Rattle.rules.specs.Acts.{Act, start, retire, rotate, regrade, wait, release, suspend, resume, wakeups, count, pattern, post, receive, mark, elapse, nest, change, started, retired, freed, releasedTask, halted, resumed, older, with-state, with-priority, with-wakeups, with-cell, after, afters, Move, stay, leave, last, move, releasedMove, haltedMove, resumedMove, regradedMove}
+use Rattle.rules.specs.Acts.{Act, start, retire, create, delete, rotate, regrade, wait, release, suspend, resume, wakeups, count, pattern, post, receive, mark, elapse, nest, change, started, retired, created, freed, releasedTask, halted, resumed, older, with-state, with-priority, with-wakeups, with-cell, after, afters, Move, stay, leave, last, move, releasedMove, haltedMove, resumedMove, regradedMove}
 use Rattle.rules.specs.View.{View, line, moved, act, acts}
 use Rattle.rules.specs.Verdicts.{Verdict, refuse, gives, done}
-use Rattle.rules.specs.Tasks.{stateOf, starting, sta-tsk, ext-tsk, ter-tsk, chg-pri, rot-rdq, rel-wai, sus-tsk, rsm-tsk, take-wakeup, slp-tsk, wai-tsk, waking, wup-tsk, can-wup, get-tid, tsk-sts}
+use Rattle.rules.specs.Tasks.{stateOf, starting, sta-tsk, ext-tsk, ter-tsk, chg-pri, rot-rdq, rel-wai, sus-tsk, rsm-tsk, take-wakeup, slp-tsk, wai-tsk, waking, wup-tsk, can-wup, get-tid, tsk-sts, cre-tsk, del-tsk, exd-tsk}
 use Rattle.rules.specs.Objects.{waits-on, to-first, obj-sts, met, left, serve-flag, sig-sem, take-sem, set-flg, clr-flg, take-flg, snd-msg, take-msg, blocksOf, take-blk, rel-blk}
 use Rattle.rules.specs.Time.{get-tim, ending, endings, timeout, ticked}
 use Rattle.rules.specs.Handling.{entered, exited}
-use Rattle.rules.specs.Rows.{staTsk, extTsk, terTsk, chgPri, rotRdq, relWai, susTsk, rsmTsk, slpTsk, waiTsk, wupTsk, canWup, sigSem, waiSem, preqSem, setFlg, clrFlg, waiFlg, polFlg, sndMsg, rcvMsg, prcvMsg, getBlk, pgetBlk, relBlk, getTid, tskSts, semSts, flgSts, mbxSts, mplSts, getTim}
+use Rattle.rules.specs.Rows.{staTsk, extTsk, terTsk, chgPri, rotRdq, relWai, susTsk, rsmTsk, slpTsk, waiTsk, wupTsk, canWup, sigSem, waiSem, preqSem, setFlg, clrFlg, waiFlg, polFlg, sndMsg, rcvMsg, prcvMsg, getBlk, pgetBlk, relBlk, getTid, tskSts, semSts, flgSts, mbxSts, mplSts, getTim, creTsk, delTsk, exdTsk}
 use Rattle.rules.specs.Table.{caller, handles, table, judge}
 use Rattle.rules.specs.Sound.{Sound}
 use Rattle.rules.specs.Answers.{answer}
@@ -79,6 +79,7 @@ released-pools c w t h p = go (t .state) refl
   where
     go : (s : State) → t .state ≡ s → awaits (releasedTask c w t .state) pool p ≡ awaits (t .state) pool p
     go dormant e = rw e
+    go absent e = rw e
     go ready e = rw e
     go suspended e = rw e
     go (waiting x) e = rw (h p) (rw e)
@@ -110,6 +111,8 @@ refused-empty c w t n = go (isWaiting (t .state)) refl
 abbrev Still-act : Body → Act → Type 0
 Still-act b (start i) = isDormant (task b i .state) ≡ true
 Still-act b (retire i) = Unit {0}
+Still-act b (create i p) = Unit {0}
+Still-act b (delete i) = Unit {0}
 Still-act b (rotate i) = Unit {0}
 Still-act b (regrade i p) = Unit {0}
 Still-act b (wait i w) = Unit {0}
@@ -133,6 +136,8 @@ act-empty : (a : Act) (b : Body) → Still-act b a → (i : ℕ) → Empty-hande
 unfolding after
 act-empty (start j) b d = changed started j b (λ t e. by-state t (started t) (λ p w. absurd (false≢true (sym (dormant-no-pool (t .state) (rw e d) p) ∙ w))))
 act-empty (retire j) b d = changed retired j b (λ t e. by-state t (retired t) (λ p w. refl))
+act-empty (create j n) b d = changed (created n) j b (λ t e. by-state t (created n t) (λ p w. refl))
+act-empty (delete j) b d = changed (λ t. nobody) j b (λ t e. by-state t nobody (λ p w. refl))
 act-empty (rotate j) b d = λ i. empty-same (task b i)
 act-empty (regrade j n) b d = changed (with-priority n) j b (λ t e. pools-empty t (with-priority n t) (λ p. refl))
 act-empty (wait j x) b d = changed (with-state (waiting x)) j b (λ t e. by-state t (with-state (waiting x) t) (λ p w. refl))
@@ -153,6 +158,8 @@ act-pools : (a : Act) (b : Body) → Still-act b a → after a b .store .pools �
 unfolding after
 act-pools (start j) b d = refl
 act-pools (retire j) b d = refl
+act-pools (create j n) b d = refl
+act-pools (delete j) b d = refl
 act-pools (rotate j) b d = refl
 act-pools (regrade j n) b d = refl
 act-pools (wait j x) b d = refl
@@ -184,6 +191,7 @@ elsewhere-moved c (last x) p l h = rw (h p) (append-nil _ ∙ keep-all l)
 
 released-elsewhere : (s : State) (i : ℕ) → Elsewhere (releasedMove s (aTask i))
 released-elsewhere dormant i = tt
+released-elsewhere absent i = tt
 released-elsewhere ready i = tt
 released-elsewhere suspended i = tt
 released-elsewhere (waiting w) i = λ p. refl
@@ -191,6 +199,7 @@ released-elsewhere (waiting-suspended w) i = λ p. refl
 
 halted-elsewhere : (s : State) (i : ℕ) → Elsewhere (haltedMove s (aTask i))
 halted-elsewhere dormant i = tt
+halted-elsewhere absent i = tt
 halted-elsewhere ready i = λ p. refl
 halted-elsewhere suspended i = tt
 halted-elsewhere (waiting w) i = tt
@@ -198,6 +207,7 @@ halted-elsewhere (waiting-suspended w) i = tt
 
 resumed-elsewhere : (s : State) (i : ℕ) → Elsewhere (resumedMove s (aTask i))
 resumed-elsewhere dormant i = tt
+resumed-elsewhere absent i = tt
 resumed-elsewhere ready i = tt
 resumed-elsewhere suspended i = λ p. refl
 resumed-elsewhere (waiting w) i = tt
@@ -205,6 +215,7 @@ resumed-elsewhere (waiting-suspended w) i = tt
 
 regraded-elsewhere : (s : State) (i : ℕ) → Elsewhere (regradedMove s (aTask i))
 regraded-elsewhere dormant i = tt
+regraded-elsewhere absent i = tt
 regraded-elsewhere ready i = λ p. refl
 regraded-elsewhere suspended i = tt
 regraded-elsewhere (waiting w) i = tt
@@ -214,6 +225,8 @@ act-elsewhere : (a : Act) (b : Body) → Still-act b a → (c : Body) → Elsewh
 unfolding move
 act-elsewhere (start j) b d c = λ p. refl
 act-elsewhere (retire j) b d c = λ p. refl
+act-elsewhere (create j n) b d c = λ p. refl
+act-elsewhere (delete j) b d c = λ p. refl
 act-elsewhere (rotate j) b d c = λ p. refl
 act-elsewhere (regrade j n) b d c = regraded-elsewhere (task c j .state) j
 act-elsewhere (wait j x) b d c = λ p. refl
@@ -448,6 +461,7 @@ handed-over t q j e p k = rw (waits-other (waitOf (t .state)) pool pool q p e) (
     go : (s : State) → t .state ≡ s → awaits s pool q ≡ true
         → (eqb q p && (isFreed (releasedTask OK j t .state) && (ok (releasedTask OK j t .cell .code) && eqb (releasedTask OK j t .cell .word) k))) ≡ (eqb q p && eqb j k)
     go dormant c w = absurd (false≢true w)
+    go absent c w = absurd (false≢true w)
     go ready c w = absurd (false≢true w)
     go suspended c w = absurd (false≢true w)
     go (waiting x) c w = rw c
@@ -526,7 +540,7 @@ module _ (v : View) (s : Sound v) (x a y z : ℤ) where
 
   module _ (h : Bool) (me : ℕ) where
     rows : AllRows Deals v h me 1 (table v me a y z)
-    unfolding table staTsk extTsk terTsk chgPri rotRdq relWai susTsk rsmTsk slpTsk waiTsk wupTsk canWup sigSem waiSem preqSem setFlg clrFlg waiFlg polFlg sndMsg rcvMsg prcvMsg getBlk pgetBlk relBlk getTid tskSts semSts flgSts mbxSts mplSts getTim starting sta-tsk ext-tsk ter-tsk chg-pri rot-rdq rel-wai sus-tsk rsm-tsk take-wakeup slp-tsk wai-tsk waking wup-tsk can-wup get-tid tsk-sts obj-sts sig-sem take-sem clr-flg take-flg snd-msg take-msg get-tim bad ok number
+    unfolding table staTsk extTsk terTsk chgPri rotRdq relWai susTsk rsmTsk slpTsk waiTsk wupTsk canWup sigSem waiSem preqSem setFlg clrFlg waiFlg polFlg sndMsg rcvMsg prcvMsg getBlk pgetBlk relBlk getTid tskSts semSts flgSts mbxSts mplSts getTim creTsk delTsk exdTsk starting sta-tsk ext-tsk ter-tsk chg-pri rot-rdq rel-wai sus-tsk rsm-tsk take-wakeup slp-tsk wai-tsk waking wup-tsk can-wup get-tid tsk-sts cre-tsk del-tsk exd-tsk obj-sts sig-sem take-sem clr-flg take-flg snd-msg take-msg get-tim bad ok number
     rows =
         (λ t. quiet refl refl refl (search calm depth 9))
         ⊗ (λ t. quiet refl refl refl (search calm depth 9))
@@ -553,6 +567,9 @@ module _ (v : View) (s : Sound v) (x a y z : ℤ) where
         ⊗ (λ t. takes refl refl (t .words .0) (waits-deal me pool a))
         ⊗ (λ t. takes refl refl (t .words .0) (no-way (pos 24) H-POLL refl))
         ⊗ (λ t. gives-back (t .words .0))
+        ⊗ (λ t. quiet refl refl refl (search calm depth 9))
+        ⊗ (λ t. quiet refl refl refl (search calm depth 9))
+        ⊗ (λ t. quiet refl refl refl (search calm depth 9))
         ⊗ (λ t. quiet refl refl refl (search calm depth 9))
         ⊗ (λ t. quiet refl refl refl (search calm depth 9))
         ⊗ (λ t. quiet refl refl refl (search calm depth 9))

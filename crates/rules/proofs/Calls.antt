@@ -16,25 +16,26 @@ use lib.ListN.{length}
 use borrow.Author.Tests.{eqb-true, eqb-false, eq-eqb, ne-eqb, leb-false, not-false}
 use Rattle.rules.specs.Ids.{of, from, ids, In, once, times}
 use Rattle.rules.specs.Codes.{Code, OK, E-TMOUT}
-use Rattle.rules.specs.State.{Kind, semaphore, flag, mailbox, pool, Wait, on, State, dormant, ready, suspended, waiting, waiting-suspended, Task, no-handler, depth, Body, task, nobody, objects, waitOf, isDormant, isWaiting, sleeps, wish}
+use Rattle.rules.specs.State.{Kind, semaphore, flag, mailbox, pool, Wait, on, State, dormant, ready, suspended, absent, waiting, waiting-suspended, Task, no-handler, depth, Body, task, nobody, objects, waitOf, isDormant, isAbsent, isReady, isWaiting, sleeps, wish}
 use Rattle.rules.specs.Places.{waiters, mail, freeIn, belongs, awaits, lies}
 use Rattle.rules.specs.Setup.{Entry, Setup}
 use Rattle.rules.specs.Events.{Event, tick, enter, exit, call, Word, Words, nat, bits, outside, above}
-use Rattle.rules.specs.Acts.{Act, start, wait, release, wakeups, mark, elapse, after, freed, releasedTask, with-state, with-cell}
+use Rattle.rules.specs.Acts.{Act, start, wait, release, wakeups, mark, elapse, after, started, freed, releasedTask, with-state, with-cell}
 use Rattle.rules.specs.View.{View, line, act, acts}
 use Rattle.rules.specs.Verdicts.{Verdict, waits}
-use Rattle.rules.specs.Tasks.{stateOf, starting, sta-tsk, ext-tsk, ter-tsk, chg-pri, rot-rdq, rel-wai, sus-tsk, rsm-tsk, take-wakeup, slp-tsk, wai-for, wai-tsk, waking, wup-tsk, can-wup, get-tid, tsk-sts}
+use Rattle.rules.specs.Tasks.{stateOf, starting, sta-tsk, ext-tsk, ter-tsk, chg-pri, rot-rdq, rel-wai, sus-tsk, rsm-tsk, take-wakeup, slp-tsk, wai-for, wai-tsk, waking, wup-tsk, can-wup, get-tid, tsk-sts, cre-tsk, del-tsk, exd-tsk}
 use Rattle.rules.specs.Objects.{to-first, obj-sts, countOf, sig-sem, take-sem, patternOf, met, left, serve-flag, set-flg, clr-flg, take-flg, snd-msg, take-msg, blocksOf, free, take-blk, rel-blk}
 use Rattle.rules.specs.Time.{get-tim, ending, endings, timeout, ticked}
 use Rattle.rules.specs.Handling.{entered, exited}
-use Rattle.rules.specs.Rows.{staTsk, extTsk, terTsk, chgPri, rotRdq, relWai, susTsk, rsmTsk, slpTsk, waiTsk, wupTsk, canWup, sigSem, waiSem, preqSem, setFlg, clrFlg, waiFlg, polFlg, sndMsg, rcvMsg, prcvMsg, getBlk, pgetBlk, relBlk, getTid, tskSts, semSts, flgSts, mbxSts, mplSts, getTim}
+use Rattle.rules.specs.Rows.{staTsk, extTsk, terTsk, chgPri, rotRdq, relWai, susTsk, rsmTsk, slpTsk, waiTsk, wupTsk, canWup, sigSem, waiSem, preqSem, setFlg, clrFlg, waiFlg, polFlg, sndMsg, rcvMsg, prcvMsg, getBlk, pgetBlk, relBlk, getTid, tskSts, semSts, flgSts, mbxSts, mplSts, getTim, creTsk, delTsk, exdTsk}
 use Rattle.rules.specs.Table.{table, caller, handles, judge}
 use Rattle.rules.specs.Sound.{WishNumbers, WaitNumbers, anyLies, would-serve, Unserved, AllUnserved, SoundBody, Sound}
 use Rattle.rules.specs.Kernel.{frees, starts, begins, next}
-use Rattle.rules.proofs.Ids.{of-put-other, put-either, inside, tested, times-keep, times-ids}
+use Rattle.rules.proofs.Ids.{of-put-other, put-all, put-either, inside, tested, times-keep, times-ids}
 use Rattle.rules.proofs.Keeps.{NoneAt, Asks, Pre, asks-waits}
 use Rattle.rules.proofs.Queues.{sound-act, body-act, empty-belongs, none-waits, belongs-stands}
-use Rattle.rules.proofs.Handling.{calls-alone, inner-fits, outer-fits}
+use Rattle.rules.proofs.Handling.{calls-alone, caller-ready, inner-fits, outer-fits}
+use Rattle.rules.proofs.States.{there-by}
 use Rattle.rules.proofs.Waits.{in-by, waits-asks}
 use Rattle.rules.proofs.Judge.{_⊗_, AllRows, OnActs, on-acts, acts-check, acts-choose, acts-first, acts-count, acts-call}
 
@@ -49,34 +50,42 @@ unfolding acts
 sound-acts [] v h k = h
 sound-acts (a ∷ l) v h k = sound-acts l (act a v) (sound-act a v h (k .0)) (rw (body-act a v) (k .1))
 
--- the fresh state's starts need nothing
-pub starts-steps : (b : Body) (i : ℕ) (l : List Entry) → Steps b (starts i l)
+-- all tasks are there
+abbrev pub AllThere : Body → Type 0
+AllThere b = (i : ℕ) → In i (length (b .tasks)) → isAbsent (task b i .state) ≡ false
+
+pub start-there : (k : ℕ) (b : Body) → AllThere b → AllThere (after (start k) b)
+unfolding after
+start-there k b h = put-all (λ t. isAbsent (t .state) ≡ false) (b .tasks) k (started (task b k)) nobody h (λ r. refl)
+
+-- the fresh state's starts need nothing else
+pub starts-steps : (b : Body) (i : ℕ) (l : List Entry) → AllThere b → Steps b (starts i l)
 unfolding starts
-starts-steps b i [] = tt
-starts-steps b i (e ∷ l) = go (e .started) (starts-steps (after (start i) b) (suc i) l) (starts-steps b (suc i) l)
+starts-steps b i [] h = tt
+starts-steps b i (e ∷ l) h = go (e .started) (starts-steps (after (start i) b) (suc i) l (start-there i b h)) (starts-steps b (suc i) l h)
   where
     go : (t : Bool) → Steps (after (start i) b) (starts (suc i) l) → Steps b (starts (suc i) l) → Steps b (cond t (start i ∷ starts (suc i) l) (starts (suc i) l))
-    go true p q = (tt, p)
+    go true p q = (h i, p)
     go false p q = q
 
--- where nobody waits on a pool, blocks may be freed
-abbrev NoneWait : Body → Type 0
-NoneWait b = (q : ℕ) → NoneAt b pool q
+-- where nobody waits on a pool, blocks may be freed; all tasks are there
+abbrev Unstarted : Body → Type 0
+Unstarted b = ((q : ℕ) → NoneAt b pool q) × AllThere b
 
-marks-steps : (b : Body) (p j n : ℕ) (r m : List Act) → NoneWait b → ((c : Body) → NoneWait c → Steps c (r ++ m)) → Steps b (map (λ k. mark p k true) (from j n) ++ r ++ m)
+marks-steps : (b : Body) (p j n : ℕ) (r m : List Act) → Unstarted b → ((c : Body) → Unstarted c → Steps c (r ++ m)) → Steps b (map (λ k. mark p k true) (from j n) ++ r ++ m)
 unfolding after
 marks-steps b p j zero r m h g = g b h
-marks-steps b p j (suc n) r m h g = (inr (h p), marks-steps (after (mark p j true) b) p (suc j) n r m h g)
+marks-steps b p j (suc n) r m h g = (inr (h .0 p), marks-steps (after (mark p j true) b) p (suc j) n r m h g)
 
-frees-steps : (b : Body) (p : ℕ) (l : List ℕ) (m : List Act) → NoneWait b → ((c : Body) → Steps c m) → Steps b (frees p l ++ m)
+frees-steps : (b : Body) (p : ℕ) (l : List ℕ) (m : List Act) → Unstarted b → ((c : Body) → Unstarted c → Steps c m) → Steps b (frees p l ++ m)
 unfolding frees ids
-frees-steps b p [] m h g = g b
+frees-steps b p [] m h g = g b h
 frees-steps b p (n ∷ l) m h g = marks-steps b p 1 n (frees (suc p) l) m h (λ c k. frees-steps c (suc p) l m k g)
 
--- the fresh state's acts need only that nobody waits on a pool
-pub begins-steps : (b : Body) (u : Setup) → NoneWait b → Steps b (begins u)
+-- the fresh state's acts need no more
+pub begins-steps : (b : Body) (u : Setup) → Unstarted b → Steps b (begins u)
 unfolding begins
-begins-steps b u h = frees-steps b 1 (u .pools) (starts 1 (u .tasks)) h (λ c. starts-steps c 1 (u .tasks))
+begins-steps b u h = frees-steps b 1 (u .pools) (starts 1 (u .tasks)) h (λ c k. starts-steps c 1 (u .tasks) (k .1))
 
 -- ---- verdicts whose acts find what they need
 
@@ -122,11 +131,11 @@ module _ (b : Body) (h : SoundBody b) where
   wakeups-few i = elim (inside (b .tasks) i nobody) [ inl r ↦ h .tasks i r .wakeups | inr e ↦ rw e (omega arith) ]
 
   -- with a wake-up stored, a task neither sleeps nor is dormant
-  stored-awake : (i k : ℕ) → task b i .wakeups ≡ suc k → (isDormant (task b i .state) ≡ true → ⊥) × (sleeps (waitOf (task b i .state)) ≡ true → ⊥)
+  stored-awake : (i k : ℕ) → task b i .wakeups ≡ suc k → (isDormant (task b i .state) ≡ true → ⊥) × (sleeps (waitOf (task b i .state)) ≡ true → ⊥) × (isAbsent (task b i .state) ≡ true → ⊥)
   stored-awake i k e = go (inside (b .tasks) i nobody)
     where
-      go : In i (length (b .tasks)) ⊎ (task b i ≡ nobody) → (isDormant (task b i .state) ≡ true → ⊥) × (sleeps (waitOf (task b i .state)) ≡ true → ⊥)
-      go (inl r) = (λ d. omega (arith, h .tasks i r .dormant d), λ s. omega (arith, h .tasks i r .sleeper s))
+      go : In i (length (b .tasks)) ⊎ (task b i ≡ nobody) → (isDormant (task b i .state) ≡ true → ⊥) × (sleeps (waitOf (task b i .state)) ≡ true → ⊥) × (isAbsent (task b i .state) ≡ true → ⊥)
+      go (inl r) = (λ d. omega (arith, h .tasks i r .dormant d), λ s. omega (arith, h .tasks i r .sleeper s), λ x. omega (arith, h .tasks i r .absent x .2))
       go (inr z) = let d : 0 ≡ suc k = ap (λ (t : Task). t .wakeups) (sym z) ∙ e in absurd (omega arith)
 
 -- ---- pools and mailboxes
@@ -202,6 +211,7 @@ left-small h k r = go (leb 2 k)
 
 freed-waits : (s : State) → waitOf (cond (isWaiting s) (freed s) s) ≡ none
 freed-waits dormant = refl
+freed-waits absent = refl
 freed-waits ready = refl
 freed-waits suspended = refl
 freed-waits (waiting w) = refl
@@ -325,23 +335,23 @@ module _ (v : View) (h : Sound v) where
 
   starting-fine : (i : ℕ) → Fine b (starting b i)
   unfolding starting
-  starting-fine i = acts-check _ tt (λ e. on-acts (tt, tt))
+  starting-fine i = acts-check _ tt (λ e. on-acts (λ r. there-by isDormant refl (task b i .state) (not-false _ e), tt))
 
   sta-fine : (a : ℤ) → Fine b (sta-tsk v a)
   unfolding sta-tsk
   sta-fine a = starting-fine (nat a)
 
-  ext-fine : (me : ℕ) → b .handlers ≡ no-handler → Fine b (ext-tsk me)
+  ext-fine : (me : ℕ) → b .handlers ≡ no-handler → isAbsent (task b me .state) ≡ false → Fine b (ext-tsk me)
   unfolding ext-tsk
-  ext-fine me z = on-acts (z, tt)
+  ext-fine me z x = on-acts ((z, x), tt)
 
-  ter-fine : (a : ℤ) → b .handlers ≡ no-handler → Fine b (ter-tsk a)
+  ter-fine : (a : ℤ) → b .handlers ≡ no-handler → isAbsent (stateOf v a) ≡ false → Fine b (ter-tsk a)
   unfolding ter-tsk
-  ter-fine a z = on-acts (z, tt)
+  ter-fine a z x = on-acts ((z, x), tt)
 
-  chg-fine : (a p : ℤ) → In (nat p) (b .store .priorities) → isDormant (stateOf v a) ≡ false → Fine b (chg-pri a p)
+  chg-fine : (a p : ℤ) → In (nat p) (b .store .priorities) → isDormant (stateOf v a) ≡ false → isAbsent (stateOf v a) ≡ false → Fine b (chg-pri a p)
   unfolding chg-pri
-  chg-fine a p r d = on-acts ((r, d), tt)
+  chg-fine a p r d x = on-acts ((r, d, x), tt)
 
   rot-fine : (a : ℤ) → Fine b (rot-rdq v a)
   unfolding rot-rdq
@@ -362,35 +372,47 @@ module _ (v : View) (h : Sound v) where
   -- a sleeper has no wake-up stored
   wakeup-fine : (me : ℕ) (r : Verdict) → (task b me .wakeups ≡ 0 → Fine b r) → Fine b (take-wakeup v me r)
   unfolding take-wakeup
-  wakeup-fine me r f = acts-count f (λ k e. on-acts ((omega (arith, wakeups-few b s me), λ t. absurd (stored-awake b s me k e .0 t), λ t. absurd (stored-awake b s me k e .1 t)), tt))
+  wakeup-fine me r f = acts-count f (λ k e. on-acts ((omega (arith, wakeups-few b s me), λ t. absurd (stored-awake b s me k e .0 t), λ t. absurd (stored-awake b s me k e .1 t), λ t. absurd (stored-awake b s me k e .2 t)), tt))
 
-  slp-fine : (me : ℕ) → b .handlers ≡ no-handler → Fine b (slp-tsk v me)
+  slp-fine : (me : ℕ) → b .handlers ≡ no-handler → isAbsent (task b me .state) ≡ false → Fine b (slp-tsk v me)
   unfolding slp-tsk
-  slp-fine me z = wakeup-fine me _ (λ e. on-acts ((z, λ r. (tt, tt, λ t. e)), tt))
+  slp-fine me z x = wakeup-fine me _ (λ e. on-acts ((z, λ r. (tt, tt, λ t. e, x)), tt))
 
-  for-fine : (me : ℕ) (a : ℤ) → b .handlers ≡ no-handler → Word a → task b me .wakeups ≡ 0 → Fine b (wai-for me a)
+  for-fine : (me : ℕ) (a : ℤ) → b .handlers ≡ no-handler → isAbsent (task b me .state) ≡ false → Word a → task b me .wakeups ≡ 0 → Fine b (wai-for me a)
   unfolding wai-for
-  for-fine me (pos zero) z w e = on-acts tt
-  for-fine me (pos (suc t)) z w e = on-acts ((z, λ r. ((omega arith, omega arith), tt, λ t. e)), tt)
-  for-fine me (negsuc t) z w e = on-acts ((z, λ r. (tt, tt, λ t. e)), tt)
+  for-fine me (pos zero) z x w e = on-acts tt
+  for-fine me (pos (suc t)) z x w e = on-acts ((z, λ r. ((omega arith, omega arith), tt, λ t. e, x)), tt)
+  for-fine me (negsuc t) z x w e = on-acts ((z, λ r. (tt, tt, λ t. e, x)), tt)
 
-  wai-fine : (me : ℕ) (a : ℤ) → b .handlers ≡ no-handler → Word a → Fine b (wai-tsk v me a)
+  wai-fine : (me : ℕ) (a : ℤ) → b .handlers ≡ no-handler → isAbsent (task b me .state) ≡ false → Word a → Fine b (wai-tsk v me a)
   unfolding wai-tsk
-  wai-fine me a z w = wakeup-fine me _ (for-fine me a z w)
+  wai-fine me a z x w = wakeup-fine me _ (for-fine me a z x w)
 
-  waking-fine : (i : ℕ) → isDormant (task b i .state) ≡ false → Fine b (waking b i)
+  waking-fine : (i : ℕ) → isDormant (task b i .state) ≡ false → isAbsent (task b i .state) ≡ false → Fine b (waking b i)
   unfolding waking
-  waking-fine i d =
+  waking-fine i d n =
       acts-choose (λ t. on-acts (inl (refl, lit< tt), tt))
-      (λ t. acts-check _ tt (λ k. on-acts ((omega (arith, leb-false 15 (task b i .wakeups) k), λ x. absurd (false≢true (sym d ∙ x)), λ x. absurd (false≢true (sym t ∙ x))), tt)))
+      (λ t. acts-check _ tt (λ k. on-acts ((omega (arith, leb-false 15 (task b i .wakeups) k), λ x. absurd (false≢true (sym d ∙ x)), λ x. absurd (false≢true (sym t ∙ x)), λ x. absurd (false≢true (sym n ∙ x))), tt)))
 
-  wup-fine : (a : ℤ) → isDormant (stateOf v a) ≡ false → Fine b (wup-tsk v a)
+  wup-fine : (a : ℤ) → isDormant (stateOf v a) ≡ false → isAbsent (stateOf v a) ≡ false → Fine b (wup-tsk v a)
   unfolding wup-tsk
-  wup-fine a d = waking-fine (nat a) d
+  wup-fine a d n = waking-fine (nat a) d n
 
   can-fine : (a : ℤ) → Fine b (can-wup v a)
   unfolding can-wup
-  can-fine a = on-acts ((omega arith, λ x. refl, λ x. refl), tt)
+  can-fine a = on-acts ((omega arith, λ x. refl, λ x. refl, λ x. refl), tt)
+
+  cre-fine : (a p : ℤ) → b .handlers ≡ no-handler → In (nat p) (b .store .priorities) → Fine b (cre-tsk v a p)
+  unfolding cre-tsk
+  cre-fine a p z r = acts-check _ tt (λ e. on-acts ((z, r), tt))
+
+  del-fine : (a : ℤ) → b .handlers ≡ no-handler → Fine b (del-tsk v a)
+  unfolding del-tsk
+  del-fine a z = acts-check _ tt (λ e. on-acts (z, tt))
+
+  exd-fine : (me : ℕ) → b .handlers ≡ no-handler → Fine b (exd-tsk me)
+  unfolding exd-tsk
+  exd-fine me z = on-acts (z, tt)
 
 -- ---- the calls on objects
 
@@ -405,9 +427,9 @@ module _ (v : View) (h : Sound v) (a : ℤ) where
   first-fine k w r i z f = acts-first (λ e. f (none-waits v h k (nat a) i e)) (λ x m e. on-acts (inl (refl, z), tt))
 
   -- a caller whom the object would not serve may wait on it
-  waits-fine : (me : ℕ) (k : Kind) (p m : ℕ) → v .body .handlers ≡ no-handler → There k → WishNumbers k p m → would-serve (v .body .store) k (nat a) p m ≡ false
+  waits-fine : (me : ℕ) (k : Kind) (p m : ℕ) → v .body .handlers ≡ no-handler → isAbsent (task (v .body) me .state) ≡ false → There k → WishNumbers k p m → would-serve (v .body .store) k (nat a) p m ≡ false
       → Fine (v .body) (waits me (on k (nat a) p m))
-  waits-fine me k p m z i w n = on-acts ((z, λ r. ((i, w), n, λ t. absurd (false≢true t))), tt)
+  waits-fine me k p m z x i w n = on-acts ((z, λ r. ((i, w), n, λ t. absurd (false≢true t), x)), tt)
 
   sig-fine : There semaphore → Fine (v .body) (sig-sem v a)
   unfolding sig-sem
@@ -478,6 +500,10 @@ module _ (v : View) (h : Sound v) (x : Bool) (a p c : ℤ) (wa : Word a) (wp : W
   alone : eqb me 0 ≡ false → v .body .handlers ≡ no-handler
   alone = calls-alone v x
 
+  -- the caller is there
+  there : eqb me 0 ≡ false → isAbsent (task (v .body) me .state) ≡ false
+  there e = there-by isReady refl (task (v .body) me .state) (caller-ready v x e h)
+
   here : (k : Kind) → outside a (objects (v .body .store) k) ≡ false → In (nat a) (objects (v .body .store) k)
   here k e = in-by a (objects (v .body .store) k) e
 
@@ -485,31 +511,31 @@ module _ (v : View) (h : Sound v) (x : Bool) (a p c : ℤ) (wa : Word a) (wp : W
   wish-well z m = (eqb-false (bits p) 0 z, bits-small p wp, mode-small c m)
 
   all-rows : AllRows (λ n r. Fine (v .body) r) v (handles v x) me 1 (table v me a p c)
-  unfolding table staTsk extTsk terTsk chgPri rotRdq relWai susTsk rsmTsk slpTsk waiTsk wupTsk canWup sigSem waiSem preqSem setFlg clrFlg waiFlg polFlg sndMsg rcvMsg prcvMsg getBlk pgetBlk relBlk getTid tskSts semSts flgSts mbxSts mplSts getTim get-tid tsk-sts obj-sts get-tim
+  unfolding table staTsk extTsk terTsk chgPri rotRdq relWai susTsk rsmTsk slpTsk waiTsk wupTsk canWup sigSem waiSem preqSem setFlg clrFlg waiFlg polFlg sndMsg rcvMsg prcvMsg getBlk pgetBlk relBlk getTid tskSts semSts flgSts mbxSts mplSts getTim creTsk delTsk exdTsk get-tid tsk-sts cre-tsk del-tsk exd-tsk obj-sts get-tim
   all-rows =
       (λ t. sta-fine v h a)
-      ⊗ (λ t. ext-fine v h me (alone (t .context)))
-      ⊗ (λ t. ter-fine v h a (alone (t .context)))
-      ⊗ (λ t. chg-fine v h a p (in-by p _ (t .words .1 .0)) (t .dormant))
+      ⊗ (λ t. ext-fine v h me (alone (t .context)) (there (t .context)))
+      ⊗ (λ t. ter-fine v h a (alone (t .context)) (t .there))
+      ⊗ (λ t. chg-fine v h a p (in-by p _ (t .words .1 .0)) (t .dormant) (t .there))
       ⊗ (λ t. rot-fine v h a)
       ⊗ (λ t. rel-fine v h a)
       ⊗ (λ t. sus-fine v h a)
       ⊗ (λ t. rsm-fine v h a)
-      ⊗ (λ t. slp-fine v h me (alone (t .context)))
-      ⊗ (λ t. wai-fine v h me a (alone (t .context)) wa)
-      ⊗ (λ t. wup-fine v h a (t .dormant))
+      ⊗ (λ t. slp-fine v h me (alone (t .context)) (there (t .context)))
+      ⊗ (λ t. wai-fine v h me a (alone (t .context)) (there (t .context)) wa)
+      ⊗ (λ t. wup-fine v h a (t .dormant) (t .there))
       ⊗ (λ t. can-fine v h a)
       ⊗ (λ t. sig-fine v h a (here semaphore (t .words .0)))
-      ⊗ (λ t. sem-fine v h a _ (here semaphore (t .words .0)) (λ z. waits-fine v h a me semaphore 0 0 (alone (t .context)) (here semaphore (t .words .0)) (refl, refl) (ap not (eq-eqb _ 0 z))))
+      ⊗ (λ t. sem-fine v h a _ (here semaphore (t .words .0)) (λ z. waits-fine v h a me semaphore 0 0 (alone (t .context)) (there (t .context)) (here semaphore (t .words .0)) (refl, refl) (ap not (eq-eqb _ 0 z))))
       ⊗ (λ t. sem-fine v h a _ (here semaphore (t .words .0)) (λ z. on-acts tt))
       ⊗ (λ t. set-fine v h a p wp (here flag (t .words .0)))
       ⊗ (λ t. clr-fine v h a p (here flag (t .words .0)))
-      ⊗ (λ t. flg-fine v h a p c _ (here flag (t .words .0)) (λ u. waits-fine v h a me flag (bits p) (nat c) (alone (t .context)) (here flag (t .words .0)) (wish-well (t .words .1 .0) (t .words .1 .1 .0)) u))
+      ⊗ (λ t. flg-fine v h a p c _ (here flag (t .words .0)) (λ u. waits-fine v h a me flag (bits p) (nat c) (alone (t .context)) (there (t .context)) (here flag (t .words .0)) (wish-well (t .words .1 .0) (t .words .1 .1 .0)) u))
       ⊗ (λ t. flg-fine v h a p c _ (here flag (t .words .0)) (λ u. on-acts tt))
       ⊗ (λ t. snd-fine v h a p wp (here mailbox (t .words .0)))
-      ⊗ (λ t. msg-fine v h a _ (here mailbox (t .words .0)) (λ n. waits-fine v h a me mailbox 0 0 (alone (t .context)) (here mailbox (t .words .0)) (refl, refl) n))
+      ⊗ (λ t. msg-fine v h a _ (here mailbox (t .words .0)) (λ n. waits-fine v h a me mailbox 0 0 (alone (t .context)) (there (t .context)) (here mailbox (t .words .0)) (refl, refl) n))
       ⊗ (λ t. msg-fine v h a _ (here mailbox (t .words .0)) (λ n. on-acts tt))
-      ⊗ (λ t. blk-fine v h a _ (here pool (t .words .0)) (λ z. waits-fine v h a me pool 0 0 (alone (t .context)) (here pool (t .words .0)) (refl, refl) (ap not (eq-eqb _ 0 z))))
+      ⊗ (λ t. blk-fine v h a _ (here pool (t .words .0)) (λ z. waits-fine v h a me pool 0 0 (alone (t .context)) (there (t .context)) (here pool (t .words .0)) (refl, refl) (ap not (eq-eqb _ 0 z))))
       ⊗ (λ t. blk-fine v h a _ (here pool (t .words .0)) (λ z. on-acts tt))
       ⊗ (λ t. ret-fine v h a p wp (here pool (t .words .0)))
       ⊗ (λ t. on-acts tt)
@@ -519,6 +545,9 @@ module _ (v : View) (h : Sound v) (x : Bool) (a p c : ℤ) (wa : Word a) (wp : W
       ⊗ (λ t. on-acts tt)
       ⊗ (λ t. on-acts tt)
       ⊗ (λ t. on-acts tt)
+      ⊗ (λ t. cre-fine v h a p (alone (t .context)) (in-by p _ (t .words .1 .0)))
+      ⊗ (λ t. del-fine v h a (alone (t .context)))
+      ⊗ (λ t. exd-fine v h me (alone (t .context)))
       ⊗ tt
 
 -- ---- handlers

@@ -9,8 +9,8 @@ use native.Mathlib.Omega.{arith}
 use lib.ListN.{getD, set}
 use Rattle.rules.specs.Ids.{of, put}
 use Rattle.rules.specs.Codes.{Code, OK, E-TMOUT, E-RLWAI}
-use Rattle.rules.specs.State.{State, dormant, ready, suspended, waiting, waiting-suspended, Task, Body, task, nobody, waitOf, wish, isDormant, isWaiting, isFreed}
-use Rattle.rules.specs.Acts.{Act, start, retire, rotate, regrade, wait, release, suspend, resume, wakeups, count, pattern, post, receive, mark, elapse, nest, change, started, retired, freed, releasedTask, halted, resumed, older, with-state, with-priority, with-wakeups, after, afters}
+use Rattle.rules.specs.State.{State, dormant, ready, suspended, absent, waiting, waiting-suspended, Task, Body, task, nobody, waitOf, wish, isDormant, isAbsent, isWaiting, isFreed}
+use Rattle.rules.specs.Acts.{Act, start, retire, create, delete, rotate, regrade, wait, release, suspend, resume, wakeups, count, pattern, post, receive, mark, elapse, nest, change, started, retired, created, freed, releasedTask, halted, resumed, older, with-state, with-priority, with-wakeups, after, afters}
 use Rattle.rules.specs.View.{View, act, acts}
 use Rattle.rules.specs.Objects.{met, left, serve-flag}
 use Rattle.rules.specs.Time.{timeout}
@@ -51,10 +51,10 @@ unfolding acts act afters
 body-acts [] v = refl
 body-acts (a ∷ l) v = body-acts l (act a v)
 
--- ---- the cell is as it was, or the task was released or started
+-- ---- the cell is as it was, or the task was released or started, or is not there after
 
 abbrev pub Kept : Task → Task → Type 0
-Kept t u = (u .cell ≡ t .cell) ⊎ (isFresh (t .state) (u .state) ≡ true)
+Kept t u = (u .cell ≡ t .cell) ⊎ ((isFresh (t .state) (u .state) ≡ true) ⊎ (isAbsent (u .state) ≡ true))
 
 kept-same : (t : Task) → Kept t t
 kept-same t = inl refl
@@ -75,7 +75,7 @@ mild-then {u} (let-go x y) (let-go x′ y′) = absurd (false≢true (sym (waiti
 
 mild-kept : {t u : Task} → Mild t u → Kept t u
 mild-kept (untouched a b c) = inl a
-mild-kept {t} {u} (let-go x y) = inr (rw (x, y))
+mild-kept {t} {u} (let-go x y) = inr (inl (rw (x, y)))
 
 released-mild : (c : Code) (w : ℕ) (t : Task) → Mild t (releasedTask c w t)
 released-mild c w t = go (t .state) refl
@@ -88,6 +88,7 @@ released-mild c w t = go (t .state) refl
 
     go : (s : State) → t .state ≡ s → Mild t (releasedTask c w t)
     go dormant e = as-was (rw e)
+    go absent e = as-was (rw e)
     go ready e = as-was (rw e)
     go suspended e = as-was (rw e)
     go (waiting x) e = gone (rw e) (rw e)
@@ -143,6 +144,7 @@ tick-gentle (i ∷ l) = (releases i E-TMOUT 0 timeout-whole, tick-gentle l)
 
 start-fresh : (s : State) → isDormant s ≡ true → isFresh s ready ≡ true
 start-fresh dormant e = refl
+start-fresh absent e = absurd (false≢true e)
 start-fresh ready e = absurd (false≢true e)
 start-fresh suspended e = absurd (false≢true e)
 start-fresh (waiting w) e = absurd (false≢true e)
@@ -152,6 +154,8 @@ start-fresh (waiting-suspended w) e = absurd (false≢true e)
 abbrev pub Careful : Body → Act → Type 0
 Careful b (start i) = isDormant (task b i .state) ≡ true
 Careful b (retire i) = Unit {0}
+Careful b (create i p) = Unit {0}
+Careful b (delete i) = Unit {0}
 Careful b (rotate i) = Unit {0}
 Careful b (regrade i p) = Unit {0}
 Careful b (wait i w) = Unit {0}
@@ -174,8 +178,10 @@ module _ (b : Body) (f : Task → Task) (j : ℕ) where
 
 act-kept : (a : Act) (b : Body) → Careful b a → (i : ℕ) → Kept (task b i) (task (after a b) i)
 unfolding after
-act-kept (start j) b d i = change-each Kept kept-same started j b (λ t e. inr (start-fresh (t .state) (rw e d))) i
+act-kept (start j) b d i = change-each Kept kept-same started j b (λ t e. inr (inl (start-fresh (t .state) (rw e d)))) i
 act-kept (retire j) b d i = changed b retired j (λ t. refl) i
+act-kept (create j p) b d i = changed b (created p) j (λ t. refl) i
+act-kept (delete j) b d i = change-each Kept kept-same (λ t. nobody) j b (λ t e. inr (inr refl)) i
 act-kept (rotate j) b d i = inl refl
 act-kept (regrade j p) b d i = changed b (with-priority p) j (λ t. refl) i
 act-kept (wait j w) b d i = changed b (with-state (waiting w)) j (λ t. refl) i
@@ -204,6 +210,8 @@ handlers-after : (a : Act) (b : Body) → Careful b a → after a b .handlers �
 unfolding after
 handlers-after (start j) b d = refl
 handlers-after (retire j) b d = refl
+handlers-after (create j p) b d = refl
+handlers-after (delete j) b d = refl
 handlers-after (rotate j) b d = refl
 handlers-after (regrade j p) b d = refl
 handlers-after (wait j w) b d = refl

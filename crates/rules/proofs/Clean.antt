@@ -14,11 +14,11 @@ use Rattle.rules.specs.Events.{Event, tick, enter, exit, call}
 use Rattle.rules.specs.Acts.{Act, nest}
 use Rattle.rules.specs.View.{View}
 use Rattle.rules.specs.Verdicts.{Verdict, refuse, gives, done, waits, check, choose, onFirst, onCount}
-use Rattle.rules.specs.Tasks.{starting, sta-tsk, ext-tsk, ter-tsk, chg-pri, rot-rdq, rel-wai, sus-tsk, rsm-tsk, take-wakeup, slp-tsk, wai-for, wai-tsk, waking, wup-tsk, can-wup, get-tid, tsk-sts}
+use Rattle.rules.specs.Tasks.{starting, sta-tsk, ext-tsk, ter-tsk, chg-pri, rot-rdq, rel-wai, sus-tsk, rsm-tsk, take-wakeup, slp-tsk, wai-for, wai-tsk, waking, wup-tsk, can-wup, get-tid, tsk-sts, cre-tsk, del-tsk, exd-tsk}
 use Rattle.rules.specs.Objects.{to-first, obj-sts, sig-sem, take-sem, set-flg, clr-flg, take-flg, snd-msg, take-msg, take-blk, rel-blk}
 use Rattle.rules.specs.Time.{get-tim, ticked, endings}
 use Rattle.rules.specs.Handling.{entered, exited}
-use Rattle.rules.specs.Rows.{Row, staTsk, extTsk, terTsk, chgPri, rotRdq, relWai, susTsk, rsmTsk, slpTsk, waiTsk, wupTsk, canWup, sigSem, waiSem, preqSem, setFlg, clrFlg, waiFlg, polFlg, sndMsg, rcvMsg, prcvMsg, getBlk, pgetBlk, relBlk, getTid, tskSts, semSts, flgSts, mbxSts, mplSts, getTim}
+use Rattle.rules.specs.Rows.{Row, staTsk, extTsk, terTsk, chgPri, rotRdq, relWai, susTsk, rsmTsk, slpTsk, waiTsk, wupTsk, canWup, sigSem, waiSem, preqSem, setFlg, clrFlg, waiFlg, polFlg, sndMsg, rcvMsg, prcvMsg, getBlk, pgetBlk, relBlk, getTid, tskSts, semSts, flgSts, mbxSts, mplSts, getTim, creTsk, delTsk, exdTsk}
 use Rattle.rules.specs.Table.{caller, handles, table, judge}
 use Rattle.rules.proofs.Judge.{_⊗_, bad, bad-not-damage, AllRows, by-call}
 use Rattle.rules.proofs.Cells.{Careful-list, nothing, one, several, flag-gentle, tick-gentle}
@@ -73,9 +73,12 @@ all-rows b v h me k [] g = tt
 all-rows b v h me k (r ∷ l) g = (λ t. g .0, all-rows b v h me (suc k) l (g .1))
 
 rules : (v : View) (me : ℕ) (a b c : ℤ) → Rules (v .body) (table v me a b c)
-unfolding table staTsk extTsk terTsk chgPri rotRdq relWai susTsk rsmTsk slpTsk waiTsk wupTsk canWup sigSem waiSem preqSem setFlg clrFlg waiFlg polFlg sndMsg rcvMsg prcvMsg getBlk pgetBlk relBlk getTid tskSts semSts flgSts mbxSts mplSts getTim starting sta-tsk ext-tsk ter-tsk chg-pri rot-rdq rel-wai sus-tsk rsm-tsk take-wakeup slp-tsk wai-tsk waking wup-tsk can-wup get-tid tsk-sts to-first obj-sts sig-sem take-sem set-flg clr-flg take-flg snd-msg take-msg take-blk rel-blk get-tim bad
+unfolding table staTsk extTsk terTsk chgPri rotRdq relWai susTsk rsmTsk slpTsk waiTsk wupTsk canWup sigSem waiSem preqSem setFlg clrFlg waiFlg polFlg sndMsg rcvMsg prcvMsg getBlk pgetBlk relBlk getTid tskSts semSts flgSts mbxSts mplSts getTim creTsk delTsk exdTsk starting sta-tsk ext-tsk ter-tsk chg-pri rot-rdq rel-wai sus-tsk rsm-tsk take-wakeup slp-tsk wai-tsk waking wup-tsk can-wup get-tid tsk-sts cre-tsk del-tsk exd-tsk to-first obj-sts sig-sem take-sem set-flg clr-flg take-flg snd-msg take-msg take-blk rel-blk get-tim bad
 rules v me a b c =
     (search clean depth 9)
+    ⊗ (search clean depth 9)
+    ⊗ (search clean depth 9)
+    ⊗ (search clean depth 9)
     ⊗ (search clean depth 9)
     ⊗ (search clean depth 9)
     ⊗ (search clean depth 9)

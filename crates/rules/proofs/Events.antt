@@ -13,7 +13,7 @@ use Rattle.rules.specs.State.{pool}
 use Rattle.rules.specs.Places.{waiters, belongs}
 use Rattle.rules.specs.Kernel.{begins, fresh, next, served, damaged, guarded, event, guardedCell, cell}
 use Rattle.rules.specs.Runs.{states}
-use Rattle.rules.proofs.Accepted.{setup-good, nobody-belongs, unstarted-sound}
+use Rattle.rules.proofs.Accepted.{setup-good, nobody-belongs, all-there, unstarted-sound}
 use Rattle.rules.proofs.Calls.{sound-acts, sound-next, begins-steps}
 
 -- on a sound state an event is served, on any other it is told what is broken
@@ -57,4 +57,4 @@ sound-states v (e ∷ l) s w = sound-states (event v e .next) l (sound-event v e
 -- the fresh state of an accepted setup is sound
 pub fresh-sound : (s : List ℕ) (u : Setup) (i : ℕ) → setup s ≡ got u i → Sound (fresh u)
 unfolding fresh belongs
-fresh-sound s u i e = sound-acts (begins u) _ (unstarted-sound u (setup-good s u i e)) (begins-steps _ u (λ q j. nobody-belongs u (waiters pool q) j))
+fresh-sound s u i e = sound-acts (begins u) _ (unstarted-sound u (setup-good s u i e)) (begins-steps _ u (λ q j. nobody-belongs u (waiters pool q) j, all-there u))

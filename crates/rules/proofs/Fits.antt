@@ -7,9 +7,9 @@ use Prim.Native.Nat.{ℕ}
 use lib.Dec.{eqb}
 use Rattle.rules.specs.Ids.{of, put, In}
 use Rattle.rules.specs.Codes.{Code}
-use Rattle.rules.specs.State.{Kind, Wait, State, dormant, ready, suspended, waiting, waiting-suspended, Task, Body, task, nobody, isReady, isWaiting}
+use Rattle.rules.specs.State.{Kind, Wait, State, dormant, ready, suspended, absent, waiting, waiting-suspended, Task, Body, task, nobody, isReady, isWaiting}
 use Rattle.rules.specs.Places.{Place, readyAt, waiters, mail, freeIn, Sort, tasks, messages, blocks, aTask, aMessage, aBlock, item, same, population, many, belongs, awaits, lies}
-use Rattle.rules.specs.Acts.{Act, start, retire, rotate, regrade, wait, release, suspend, resume, wakeups, count, pattern, post, receive, mark, elapse, nest, after, Move, stay, leave, last, move, change, started, retired, releasedTask, halted, resumed, older, with-state, with-priority, with-wakeups, releasedMove, haltedMove, resumedMove, regradedMove, markedMove}
+use Rattle.rules.specs.Acts.{Act, start, retire, create, delete, rotate, regrade, wait, release, suspend, resume, wakeups, count, pattern, post, receive, mark, elapse, nest, after, Move, stay, leave, last, move, change, started, retired, created, releasedTask, halted, resumed, older, with-state, with-priority, with-wakeups, releasedMove, haltedMove, resumedMove, regradedMove, markedMove}
 use Rattle.rules.proofs.Sizes.{sizes-after}
 use Rattle.rules.proofs.States.{older-same}
 use Rattle.rules.proofs.Ids.{of-put-other, of-put-test, of-put-change, put-empty, put-gone, of-map, tested}
@@ -76,6 +76,7 @@ regraded-place p t e (freeIn n) = refl
 
 regrade-fits : (i p : ℕ) (b : Body) (s : State) → task b i .state ≡ s → Fits b (change (with-priority p) i b) (regradedMove s (aTask i))
 regrade-fits i p b dormant e = change-stay (with-priority p) i b (regraded-place p (task b i) (rw e))
+regrade-fits i p b absent e = change-stay (with-priority p) i b (regraded-place p (task b i) (rw e))
 regrade-fits i p b ready e = change-last (with-priority p) i b
 regrade-fits i p b suspended e = change-stay (with-priority p) i b (regraded-place p (task b i) (rw e))
 regrade-fits i p b (waiting w) e = change-stay (with-priority p) i b (regraded-place p (task b i) (rw e))
@@ -90,6 +91,7 @@ released-nowhere c w t x e = nowhere _ (rw e) (λ k o. rw e)
 
 release-fits : (i : ℕ) (c : Code) (w : ℕ) (b : Body) (s : State) → task b i .state ≡ s → Fits b (change (releasedTask c w) i b) (releasedMove s (aTask i))
 release-fits i c w b dormant e = change-stay (releasedTask c w) i b (unreleased c w (task b i) (rw e))
+release-fits i c w b absent e = change-stay (releasedTask c w) i b (unreleased c w (task b i) (rw e))
 release-fits i c w b ready e = change-stay (releasedTask c w) i b (unreleased c w (task b i) (rw e))
 release-fits i c w b suspended e = change-stay (releasedTask c w) i b (unreleased c w (task b i) (rw e))
 release-fits i c w b (waiting x) e = change-last (releasedTask c w) i b
@@ -106,6 +108,7 @@ module _ (f : State → State) (i : ℕ) (b : Body) where
 
 suspend-fits : (i : ℕ) (b : Body) (s : State) → task b i .state ≡ s → Fits b (change (λ t. with-state (halted (t .state)) t) i b) (haltedMove s (aTask i))
 suspend-fits i b dormant e = state-stay halted i b (λ k o. rw e) (rw e)
+suspend-fits i b absent e = state-stay halted i b (λ k o. rw e) (rw e)
 suspend-fits i b ready e = change-leave (λ t. with-state (halted (t .state)) t) i b (nowhere _ (rw e) (λ k o. rw e))
 suspend-fits i b suspended e = state-stay halted i b (λ k o. rw e) (rw e)
 suspend-fits i b (waiting w) e = state-stay halted i b (λ k o. rw e) (rw e)
@@ -113,6 +116,7 @@ suspend-fits i b (waiting-suspended w) e = state-stay halted i b (λ k o. rw e) 
 
 resume-fits : (i : ℕ) (b : Body) (s : State) → task b i .state ≡ s → Fits b (change (λ t. with-state (resumed (t .state)) t) i b) (resumedMove s (aTask i))
 resume-fits i b dormant e = state-stay resumed i b (λ k o. rw e) (rw e)
+resume-fits i b absent e = state-stay resumed i b (λ k o. rw e) (rw e)
 resume-fits i b ready e = state-stay resumed i b (λ k o. rw e) (rw e)
 resume-fits i b suspended e = change-last (λ t. with-state (resumed (t .state)) t) i b
 resume-fits i b (waiting w) e = state-stay resumed i b (λ k o. rw e) (rw e)
@@ -184,6 +188,8 @@ pub fits : (a : Act) (b : Body) → Fits b (after a b) (move b a)
 unfolding after move
 fits (start i) b = change-last started i b
 fits (retire i) b = change-leave retired i b (nowhere _ refl (λ k o. refl))
+fits (create i p) b = change-leave (created p) i b (nowhere _ refl (λ k o. refl))
+fits (delete i) b = change-leave (λ t. nobody) i b (nowhere _ refl (λ k o. refl))
 fits (rotate i) b = λ q j e. refl
 fits (regrade i p) b = regrade-fits i p b (task b i .state) refl
 fits (wait i w) b = change-last (with-state (waiting w)) i b

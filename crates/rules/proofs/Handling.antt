@@ -8,7 +8,7 @@ use Prim.Native.Nat.{ℕ, zero, suc, _<_}
 use native.Mathlib.Omega.{arith}
 use lib.Dec.{eqb}
 use borrow.Author.Tests.{eq-eqb}
-use Rattle.rules.specs.State.{State, dormant, ready, suspended, waiting, waiting-suspended, Task, Handlers, no-handler, in-handler, depth, isOpen, task, isReady, isFreed}
+use Rattle.rules.specs.State.{State, dormant, ready, suspended, waiting, waiting-suspended, absent, Task, Handlers, no-handler, in-handler, depth, isOpen, task, isReady, isFreed}
 use Rattle.rules.specs.View.{View, head, reported, running}
 use Rattle.rules.specs.Table.{caller}
 use Rattle.rules.specs.Handling.{inner, outer}
@@ -45,6 +45,7 @@ module _ (v : View) (h : Bool) (e : eqb (caller v h) 0 ≡ false) where
 
 ready-freed : (s : State) → isReady s ≡ true → isFreed s ≡ true
 ready-freed dormant e = absurd (false≢true e)
+ready-freed absent e = absurd (false≢true e)
 ready-freed ready e = refl
 ready-freed suspended e = refl
 ready-freed (waiting w) e = absurd (false≢true e)

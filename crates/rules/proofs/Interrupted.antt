@@ -9,7 +9,7 @@ use lib.IntN.{ℤ, pos, negsuc}
 use borrow.Author.Tests.{eq-eqb, ne-eqb, lt-leb}
 use Rattle.rules.specs.Ids.{keep}
 use Rattle.rules.specs.Codes.{Code, OK, H-CALL, E-CTX, H-NEST}
-use Rattle.rules.specs.State.{State, dormant, ready, suspended, waiting, waiting-suspended, Handlers, no-handler, in-handler, depth, isOpen, Body, task, isReady, isSuspended, isFreed}
+use Rattle.rules.specs.State.{State, dormant, ready, suspended, waiting, waiting-suspended, absent, Handlers, no-handler, in-handler, depth, isOpen, Body, task, isReady, isSuspended, isFreed}
 use Rattle.rules.specs.Places.{Place, readyAt, waiters, mail, freeIn, belongs, tabulate}
 use Rattle.rules.specs.Events.{Event, tick, enter, exit, call, eventOf, AllWords}
 use Rattle.rules.specs.Acts.{Act, rotate, wait, release, pattern, elapse, nest, with-handlers, after, afters, Move, stay, leave, last, move}
@@ -333,6 +333,7 @@ entry-at-fifteen v z = rw z
 freed-number : (s : State) → isFreed s ≡ true → stateNumber s true ≡ cond (isSuspended s) 4 2
 unfolding stateNumber
 freed-number dormant e = absurd (false≢true e)
+freed-number absent e = absurd (false≢true e)
 freed-number ready e = refl
 freed-number suspended e = refl
 freed-number (waiting w) e = absurd (false≢true e)
@@ -341,6 +342,7 @@ freed-number (waiting-suspended w) e = absurd (false≢true e)
 ready-number : (s : State) → isReady s ≡ true → stateNumber s false ≡ 1
 unfolding stateNumber
 ready-number dormant e = absurd (false≢true e)
+ready-number absent e = absurd (false≢true e)
 ready-number ready e = refl
 ready-number suspended e = absurd (false≢true e)
 ready-number (waiting w) e = absurd (false≢true e)

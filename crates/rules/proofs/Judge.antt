@@ -9,15 +9,15 @@ use native.Mathlib.Nat.{add-zero}
 use lib.Dec.{eqb}
 use lib.IntN.{ℤ, pos, negsuc}
 use borrow.Author.Tests.{not-true}
-use Rattle.rules.specs.Codes.{Code, H-CALL, number, inDamage, tellsDamage}
+use Rattle.rules.specs.Codes.{Code, H-CALL, number, negative, refuses, inDamage, tellsDamage}
 use Rattle.rules.specs.State.{Wait}
 use Rattle.rules.specs.Events.{call}
 use Rattle.rules.specs.Acts.{Act, wait}
 use Rattle.rules.specs.View.{View}
 use Rattle.rules.specs.Verdicts.{Verdict, refuse, check, choose, onFirst, onCount}
 use Rattle.rules.specs.Tasks.{wai-for}
-use Rattle.rules.specs.Rows.{Refusal, Row, staTsk, extTsk, terTsk, chgPri, rotRdq, relWai, susTsk, rsmTsk, slpTsk, waiTsk, wupTsk, canWup, sigSem, waiSem, preqSem, setFlg, clrFlg, waiFlg, polFlg, sndMsg, rcvMsg, prcvMsg, getBlk, pgetBlk, relBlk, getTid, tskSts, semSts, flgSts, mbxSts, mplSts, getTim}
-use Rattle.rules.specs.Table.{refusals, misplaced, names-self, names-dormant, judged, table, handler, caller, handles, looked-up, entry, numbered, called, judge}
+use Rattle.rules.specs.Rows.{Refusal, Row, staTsk, extTsk, terTsk, chgPri, rotRdq, relWai, susTsk, rsmTsk, slpTsk, waiTsk, wupTsk, canWup, sigSem, waiSem, preqSem, setFlg, clrFlg, waiFlg, polFlg, sndMsg, rcvMsg, prcvMsg, getBlk, pgetBlk, relBlk, getTid, tskSts, semSts, flgSts, mbxSts, mplSts, getTim, creTsk, delTsk, exdTsk}
+use Rattle.rules.specs.Table.{refusals, misplaced, names-absent, names-self, names-dormant, judged, table, handler, caller, handles, looked-up, entry, numbered, called, judge}
 use Rattle.rules.specs.Blocks.{is, ok}
 use Rattle.rules.proofs.Waits.{both-true}
 
@@ -45,6 +45,15 @@ bad-not-ok c = go (number c)
     go (pos n) e = absurd (false≢true e)
     go (negsuc n) e = refl
 
+-- and refuses
+pub bad-refuses : (c : Code) → bad c ≡ true → refuses c ≡ true
+unfolding bad refuses
+bad-refuses c = go (number c)
+  where
+    go : (n : ℤ) → isBad n ≡ true → negative n ≡ true
+    go (pos n) e = absurd (false≢true e)
+    go (negsuc n) e = refl
+
 -- and tells no damage
 pub bad-not-damage : (c : Code) → bad c ≡ true → tellsDamage c ≡ false
 unfolding bad tellsDamage
@@ -63,7 +72,7 @@ rows-bad [] = true
 rows-bad (r ∷ l) = all-bad (r .words) && rows-bad l
 
 table-bad : (v : View) (me : ℕ) (a b c : ℤ) → rows-bad (table v me a b c) ≡ true
-unfolding table staTsk extTsk terTsk chgPri rotRdq relWai susTsk rsmTsk slpTsk waiTsk wupTsk canWup sigSem waiSem preqSem setFlg clrFlg waiFlg polFlg sndMsg rcvMsg prcvMsg getBlk pgetBlk relBlk getTid tskSts semSts flgSts mbxSts mplSts getTim bad
+unfolding table staTsk extTsk terTsk chgPri rotRdq relWai susTsk rsmTsk slpTsk waiTsk wupTsk canWup sigSem waiSem preqSem setFlg clrFlg waiFlg polFlg sndMsg rcvMsg prcvMsg getBlk pgetBlk relBlk getTid tskSts semSts flgSts mbxSts mplSts getTim creTsk delTsk exdTsk bad
 table-bad v me a b c = refl
 
 -- ---- the tests that a row has passed
@@ -76,6 +85,7 @@ Passed (x ∷ l) = (x .applies ≡ false) × Passed l
 pub record Passes (v : View) (h : Bool) (me : ℕ) (r : Row) : Type 0 where
   pub words : Passed (r .words)
   pub context : misplaced (r .context) h me ≡ false
+  pub there : names-absent (v .body) (r .target) ≡ false
   pub self : names-self (r .target) me ≡ false
   pub dormant : names-dormant (v .body) (r .target) ≡ false
 
@@ -114,7 +124,7 @@ module _ (P : ℤ → Verdict → Type 0) (no-way : (n : ℤ) (c : Code) → bad
     unfolding judged bad
     by-row k r b g =
         by-refusals (pos k) (r .words) _ b
-        (λ p. by-refusals (pos k) _ (r .rule) refl (λ q. g (record { words = p; context = q .0; self = q .1 .0; dormant = q .1 .1 .0 })))
+        (λ p. by-refusals (pos k) _ (r .rule) refl (λ q. g (record { words = p; context = q .0; there = q .1 .0; self = q .1 .1 .0; dormant = q .1 .1 .1 .0 })))
 
     by-entry : (k n : ℕ) (l : List Row) → rows-bad l ≡ true → AllRows P v h me k l → P (pos (k + n)) (looked-up v h me (entry l n))
     unfolding looked-up bad

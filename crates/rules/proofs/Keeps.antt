@@ -13,9 +13,9 @@ use lib.ListN.{length, length-map, set}
 use borrow.Author.Tests.{eqb-true, eqb-false, eq-eqb, not-false}
 use Rattle.rules.specs.Ids.{of, put, In}
 use Rattle.rules.specs.Codes.{Code}
-use Rattle.rules.specs.State.{Kind, semaphore, flag, mailbox, pool, Wait, asleep, timed, on, State, dormant, ready, suspended, waiting, waiting-suspended, Cell, Task, Store, Handlers, no-handler, in-handler, Body, task, nobody, objects, waitOf, isDormant, isWaiting, isFreed, sleeps}
+use Rattle.rules.specs.State.{Kind, semaphore, flag, mailbox, pool, Wait, asleep, timed, on, State, dormant, ready, suspended, absent, waiting, waiting-suspended, Cell, Task, Store, Handlers, no-handler, in-handler, Body, task, nobody, objects, waitOf, isDormant, isAbsent, isWaiting, isFreed, sleeps}
 use Rattle.rules.specs.Places.{sameKind, waitsOn, awaits, lies}
-use Rattle.rules.specs.Acts.{Act, start, retire, rotate, regrade, wait, release, suspend, resume, wakeups, count, pattern, post, receive, mark, elapse, nest, with-state, with-priority, with-wakeups, with-cell, with-semaphores, with-flags, with-messages, with-pools, with-clock, with-tasks, with-store, change, started, retired, freed, releasedTask, halted, resumed, older, after}
+use Rattle.rules.specs.Acts.{Act, start, retire, create, delete, rotate, regrade, wait, release, suspend, resume, wakeups, count, pattern, post, receive, mark, elapse, nest, with-state, with-priority, with-wakeups, with-cell, with-semaphores, with-flags, with-messages, with-pools, with-clock, with-tasks, with-store, change, started, retired, created, freed, releasedTask, halted, resumed, older, after}
 use Rattle.rules.specs.Objects.{met, free}
 use Rattle.rules.specs.Time.{ending}
 use Rattle.rules.specs.Sound.{Sizes, LiesWell, StoreNumbers, CellNumbers, WaitNumbers, anyLies, would-serve, Unserved, AllUnserved, SoundTask, HandlersFit, SoundBody}
@@ -36,16 +36,19 @@ abbrev pub Asks : Body → ℕ → Kind → ℕ → ℕ → ℕ → Type 0
 Asks b i k o p m = waitOf (task b i .state) ≡ some (on k o p m)
 
 abbrev pub Pre : Body → Act → Type 0
-Pre b (start i) = Unit {0}
-Pre b (retire i) = b .handlers ≡ no-handler
+Pre b (start i) = In i (length (b .tasks)) → isAbsent (task b i .state) ≡ false
+Pre b (retire i) = (b .handlers ≡ no-handler) × (isAbsent (task b i .state) ≡ false)
+Pre b (create i p) = (b .handlers ≡ no-handler) × In p (b .store .priorities)
+Pre b (delete i) = b .handlers ≡ no-handler
 Pre b (rotate i) = Unit {0}
-Pre b (regrade i p) = In p (b .store .priorities) × (isDormant (task b i .state) ≡ false)
+Pre b (regrade i p) = In p (b .store .priorities) × (isDormant (task b i .state) ≡ false) × (isAbsent (task b i .state) ≡ false)
 Pre b (wait i w) =
-    (b .handlers ≡ no-handler) × (In i (length (b .tasks)) → WaitNumbers (b .store) (some w) × Unserved (b .store) (some w) × (sleeps (some w) ≡ true → task b i .wakeups ≡ 0))
+    (b .handlers ≡ no-handler)
+    × (In i (length (b .tasks)) → WaitNumbers (b .store) (some w) × Unserved (b .store) (some w) × (sleeps (some w) ≡ true → task b i .wakeups ≡ 0) × (isAbsent (task b i .state) ≡ false))
 Pre b (release i c w) = CellNumbers (record { code = c; word = w })
 Pre b (suspend i) = Unit {0}
 Pre b (resume i) = Unit {0}
-Pre b (wakeups i n) = (n ≤ 15) × (isDormant (task b i .state) ≡ true → n ≡ 0) × (sleeps (waitOf (task b i .state)) ≡ true → n ≡ 0)
+Pre b (wakeups i n) = (n ≤ 15) × (isDormant (task b i .state) ≡ true → n ≡ 0) × (sleeps (waitOf (task b i .state)) ≡ true → n ≡ 0) × (isAbsent (task b i .state) ≡ true → n ≡ 0)
 Pre b (count s n) = (n ≤ 65535) × ((n ≡ 0) ⊎ NoneAt b semaphore s)
 Pre b (pattern f n) = (n < 2 ^ 32) × ((i p m : ℕ) → Asks b i flag f p m → met n p m ≡ false)
 Pre b (post j m) = In m (b .store .mailboxes) × NoneAt b mailbox m
@@ -59,29 +62,30 @@ Pre b (nest h) = HandlersFit (b .tasks) h
 module _ {u : Store} {t : Task} (g : SoundTask u t) where
   -- another state
   state-well : (s : State) → WaitNumbers u (waitOf s) → (sleeps (waitOf s) ≡ true → t .wakeups ≡ 0)
-      → (isDormant s ≡ true → isDormant (t .state) ≡ true) → SoundTask u (with-state s t)
-  state-well s w z d = record {
-    priority = g .priority;
-    start = g .start;
+      → (isDormant s ≡ true → isDormant (t .state) ≡ true) → isAbsent s ≡ isAbsent (t .state) → SoundTask u (with-state s t)
+  state-well s w z d x = record {
+    priority = λ e. g .priority (sym x ∙ e);
+    start = λ e. g .start (sym x ∙ e);
     wakeups = g .wakeups;
     cell = g .cell;
     wait = w;
     sleeper = z;
     dormant = λ e. g .dormant (d e);
     rest = λ e. g .rest (d e);
+    absent = λ e. g .absent (sym x ∙ e);
   }
 
   -- the same wait
-  same-well : (s : State) → waitOf s ≡ waitOf (t .state) → isDormant s ≡ isDormant (t .state) → SoundTask u (with-state s t)
-  same-well s e d = state-well s (rw e (g .wait)) (rw e (g .sleeper)) (rw d (λ x. x))
+  same-well : (s : State) → waitOf s ≡ waitOf (t .state) → isDormant s ≡ isDormant (t .state) → isAbsent s ≡ isAbsent (t .state) → SoundTask u (with-state s t)
+  same-well s e d x = state-well s (rw e (g .wait)) (rw e (g .sleeper)) (rw d (λ x. x)) x
 
   -- no wait
-  idle-well : (s : State) → waitOf s ≡ none → isDormant s ≡ false → SoundTask u (with-state s t)
-  idle-well s e d = state-well s (rw e tt) (rw e (λ x. absurd (false≢true x))) (rw d (λ x. absurd (false≢true x)))
+  idle-well : (s : State) → waitOf s ≡ none → isDormant s ≡ false → isAbsent s ≡ isAbsent (t .state) → SoundTask u (with-state s t)
+  idle-well s e d x = state-well s (rw e tt) (rw e (λ x. absurd (false≢true x))) (rw d (λ x. absurd (false≢true x))) x
 
-  priority-well : (p : ℕ) → In p (u .priorities) → isDormant (t .state) ≡ false → SoundTask u (with-priority p t)
-  priority-well p r d = record {
-    priority = r;
+  priority-well : (p : ℕ) → In p (u .priorities) → isDormant (t .state) ≡ false → isAbsent (t .state) ≡ false → SoundTask u (with-priority p t)
+  priority-well p r d x = record {
+    priority = λ e. r;
     start = g .start;
     wakeups = g .wakeups;
     cell = g .cell;
@@ -89,10 +93,11 @@ module _ {u : Store} {t : Task} (g : SoundTask u t) where
     sleeper = g .sleeper;
     dormant = g .dormant;
     rest = λ e. absurd (false≢true (sym d ∙ e));
+    absent = λ e. absurd (false≢true (sym x ∙ e));
   }
 
-  wakeups-well : (n : ℕ) → n ≤ 15 → (isDormant (t .state) ≡ true → n ≡ 0) → (sleeps (waitOf (t .state)) ≡ true → n ≡ 0) → SoundTask u (with-wakeups n t)
-  wakeups-well n k d z = record {
+  wakeups-well : (n : ℕ) → n ≤ 15 → (isDormant (t .state) ≡ true → n ≡ 0) → (sleeps (waitOf (t .state)) ≡ true → n ≡ 0) → (isAbsent (t .state) ≡ true → n ≡ 0) → SoundTask u (with-wakeups n t)
+  wakeups-well n k d z x = record {
     priority = g .priority;
     start = g .start;
     wakeups = k;
@@ -101,10 +106,11 @@ module _ {u : Store} {t : Task} (g : SoundTask u t) where
     sleeper = z;
     dormant = d;
     rest = g .rest;
+    absent = λ e. let v = g .absent e in (v .0, v .1, x e, v .3, v .4);
   }
 
-  cell-well : (c : Cell) → CellNumbers c → SoundTask u (with-cell c t)
-  cell-well c k = record {
+  cell-well : (c : Cell) → CellNumbers c → isAbsent (t .state) ≡ false → SoundTask u (with-cell c t)
+  cell-well c k x = record {
     priority = g .priority;
     start = g .start;
     wakeups = g .wakeups;
@@ -113,37 +119,69 @@ module _ {u : Store} {t : Task} (g : SoundTask u t) where
     sleeper = g .sleeper;
     dormant = g .dormant;
     rest = g .rest;
+    absent = λ e. absurd (false≢true (sym x ∙ e));
   }
 
-  started-well : SoundTask u (started t)
-  started-well = record {
-    priority = g .start;
-    start = g .start;
+  started-well : isAbsent (t .state) ≡ false → SoundTask u (started t)
+  started-well x = record {
+    priority = λ e. g .start x;
+    start = λ e. g .start x;
     wakeups = g .wakeups;
     cell = inl (refl, lit< tt);
     wait = tt;
     sleeper = λ e. absurd (false≢true e);
     dormant = λ e. absurd (false≢true e);
     rest = λ e. absurd (false≢true e);
+    absent = λ e. absurd (false≢true e);
   }
 
-  retired-well : SoundTask u (retired t)
-  retired-well = record {
-    priority = g .start;
-    start = g .start;
+  retired-well : isAbsent (t .state) ≡ false → SoundTask u (retired t)
+  retired-well x = record {
+    priority = λ e. g .start x;
+    start = λ e. g .start x;
     wakeups = omega arith;
     cell = g .cell;
     wait = tt;
     sleeper = λ e. refl;
     dormant = λ e. refl;
     rest = λ e. refl;
+    absent = λ e. absurd (false≢true e);
   }
+
+  created-well : (p : ℕ) → In p (u .priorities) → SoundTask u (created p t)
+  created-well p r = record {
+    priority = λ e. r;
+    start = λ e. r;
+    wakeups = omega arith;
+    cell = g .cell;
+    wait = tt;
+    sleeper = λ e. refl;
+    dormant = λ e. refl;
+    rest = λ e. refl;
+    absent = λ e. absurd (false≢true e);
+  }
+
+-- one that is not there
+gone-well : {u : Store} → SoundTask u nobody
+gone-well = record {
+  priority = λ e. absurd (false≢true (sym e));
+  start = λ e. absurd (false≢true (sym e));
+  wakeups = omega arith;
+  cell = inl (refl, lit< tt);
+  wait = tt;
+  sleeper = λ e. refl;
+  dormant = λ e. refl;
+  rest = λ e. refl;
+  absent = λ e. (refl, refl, refl, refl, refl);
+}
 
 released-well : {u : Store} (c : Code) (w : ℕ) (t : Task) → CellNumbers (record { code = c; word = w }) → SoundTask u t → SoundTask u (releasedTask c w t)
 released-well {u} c w t k g = go (isWaiting (t .state)) refl
   where
     go : (x : Bool) → isWaiting (t .state) ≡ x → SoundTask u (cond x (with-cell (record { code = c; word = w }) (with-state (freed (t .state)) t)) t)
-    go true e = cell-well (idle-well g (freed (t .state)) (freed-tells (t .state) e .0) (freed-tells (t .state) e .2)) _ k
+    go true e =
+        let f = freed-tells (t .state) e in
+        cell-well (idle-well g (freed (t .state)) (f .0) (f .2) (f .3 ∙ sym (waiting-tells (t .state) e .2))) _ k (f .3)
     go false e = g
 
 -- the setup's numbers stay
@@ -234,6 +272,7 @@ module _ (u w : Store) where
     sleeper = g .sleeper;
     dormant = g .dormant;
     rest = g .rest;
+    absent = g .absent;
   }
 
 sound-store : (b : Body) (w : Store) → SoundBody b → SameSizes b (with-store w b) → StoreNumbers w → SoundBody (with-store w b)
@@ -393,6 +432,7 @@ ticks-left t e h = go (eqb-false t 1 e)
 
 older-numbers : (u : Store) (s : State) → ending (waitOf s) ≡ false → WaitNumbers u (waitOf s) → WaitNumbers u (waitOf (older s))
 older-numbers u dormant e h = h
+older-numbers u absent e h = h
 older-numbers u ready e h = h
 older-numbers u suspended e h = h
 older-numbers u (waiting asleep) e h = h
@@ -404,6 +444,7 @@ older-numbers u (waiting-suspended (on k o p m)) e h = h
 
 older-unserved : (u : Store) (s : State) → Unserved u (waitOf s) → Unserved u (waitOf (older s))
 older-unserved u dormant h = h
+older-unserved u absent h = h
 older-unserved u ready h = h
 older-unserved u suspended h = h
 older-unserved u (waiting asleep) h = h
@@ -416,7 +457,7 @@ older-unserved u (waiting-suspended (on k o p m)) h = h
 older-well : (u : Store) (t : Task) → ending (waitOf (t .state)) ≡ false → SoundTask u t → SoundTask u (olderTask t)
 older-well u t e g =
     state-well g (older (t .state)) (older-numbers u (t .state) e (g .wait))
-    (rw (older-same (t .state) .sleeps) (g .sleeper)) (rw (older-same (t .state) .dormant) (λ x. x))
+    (rw (older-same (t .state) .sleeps) (g .sleeper)) (rw (older-same (t .state) .dormant) (λ x. x)) (older-same (t .state) .absent)
 
 older-sound : (b : Body) → SoundBody b → ((i : ℕ) → ending (waitOf (task b i .state)) ≡ false) → SoundBody (with-tasks (map olderTask (b .tasks)) b)
 older-sound b h e = record {
@@ -430,19 +471,21 @@ older-sound b h e = record {
 
 pub sound-after : (a : Act) (b : Body) → SoundBody b → Pre b a → SoundBody (after a b)
 unfolding after
-sound-after (start i) b h p = sound-change started i b h (inl (λ e. refl)) (λ r g. started-well g)
-sound-after (retire i) b h p = sound-change retired i b h (inr p) (λ r g. retired-well g)
+sound-after (start i) b h p = sound-change started i b h (inl (λ e. refl)) (λ r g. started-well g (p r))
+sound-after (retire i) b h p = sound-change retired i b h (inr (p .0)) (λ r g. retired-well g (p .1))
+sound-after (create i n) b h p = sound-change (created n) i b h (inr (p .0)) (λ r g. created-well g n (p .1))
+sound-after (delete i) b h p = sound-change (λ t. nobody) i b h (inr p) (λ r g. gone-well)
 sound-after (rotate i) b h p = h
-sound-after (regrade i n) b h p = sound-change (with-priority n) i b h (inl (λ e. e)) (λ r g. priority-well g n (p .0) (p .1))
-sound-after (wait i w) b h p = sound-change (with-state (waiting w)) i b h (inr (p .0)) (λ r g. state-well g (waiting w) (p .1 r .0) (p .1 r .2) (λ e. absurd (false≢true e)))
+sound-after (regrade i n) b h p = sound-change (with-priority n) i b h (inl (λ e. e)) (λ r g. priority-well g n (p .0) (p .1) (p .2))
+sound-after (wait i w) b h p = sound-change (with-state (waiting w)) i b h (inr (p .0)) (λ r g. state-well g (waiting w) (p .1 r .0) (p .1 r .2) (λ e. absurd (false≢true e)) (sym (p .1 r .3)))
 sound-after (release i c w) b h p = sound-change (releasedTask c w) i b h (inl (released-held c w (task b i))) (λ r g. released-well c w (task b i) p g)
 sound-after (suspend i) b h p =
     sound-change (λ t. with-state (halted (t .state)) t) i b h (inl (rw (halted-same (task b i .state) .2) (λ e. e)))
-    (λ r g. same-well g _ (halted-same (task b i .state) .0) (halted-same (task b i .state) .1))
+    (λ r g. same-well g _ (halted-same (task b i .state) .0) (halted-same (task b i .state) .1) (halted-same (task b i .state) .3))
 sound-after (resume i) b h p =
     sound-change (λ t. with-state (resumed (t .state)) t) i b h (inl (rw (resumed-same (task b i .state) .2) (λ e. e)))
-    (λ r g. same-well g _ (resumed-same (task b i .state) .0) (resumed-same (task b i .state) .1))
-sound-after (wakeups i n) b h p = sound-change (with-wakeups n) i b h (inl (λ e. e)) (λ r g. wakeups-well g n (p .0) (p .1) (p .2))
+    (λ r g. same-well g _ (resumed-same (task b i .state) .0) (resumed-same (task b i .state) .1) (resumed-same (task b i .state) .3))
+sound-after (wakeups i n) b h p = sound-change (with-wakeups n) i b h (inl (λ e. e)) (λ r g. wakeups-well g n (p .0) (p .1) (p .2) (p .3))
 sound-after (count s n) b h p = sound-store b _ h (sizes-after (count s n) b) (semaphores-numbers (b .store) (h .store) s n (p .0))
 sound-after (pattern f n) b h p = sound-store b _ h (sizes-after (pattern f n) b) (flags-numbers (b .store) (h .store) f n (p .0))
 sound-after (post j m) b h p = sound-store b _ h (sizes-after (post j m) b) (messages-numbers (b .store) (h .store) j (some m) (p .0))
@@ -474,6 +517,8 @@ pub unserved-after : (a : Act) (b : Body) → SoundBody b → AllUnserved b → 
 unfolding after
 unserved-after (start i) b s h p = unserved-change started i b h (λ r u. tt)
 unserved-after (retire i) b s h p = unserved-change retired i b h (λ r u. tt)
+unserved-after (create i n) b s h p = unserved-change (created n) i b h (λ r u. tt)
+unserved-after (delete i) b s h p = unserved-change (λ t. nobody) i b h (λ r u. tt)
 unserved-after (rotate i) b s h p = h
 unserved-after (regrade i n) b s h p = unserved-change (with-priority n) i b h (λ r u. u)
 unserved-after (wait i w) b s h p = unserved-change (with-state (waiting w)) i b h (λ r u. p .1 r .1)

@@ -25,6 +25,8 @@ pub mod Clean
 pub mod Breach
 pub mod Refused
 pub mod Interrupted
+pub mod Absent
+pub mod Deleted
 pub mod Broken
 pub mod OnlyBroken
 pub mod Agree

@@ -14,7 +14,7 @@ use lib.ListN.{length}
 use borrow.Author.Tests.{eqb-true, eqb-false, eq-eqb, ne-eqb}
 use Rattle.rules.specs.Ids.{In, keep, once, times, place}
 use Rattle.rules.specs.Codes.{Code, OK}
-use Rattle.rules.specs.State.{Kind, flag, State, dormant, ready, suspended, waiting, waiting-suspended, Body, task, nobody, objects, isReady}
+use Rattle.rules.specs.State.{Kind, flag, State, dormant, ready, suspended, waiting, waiting-suspended, absent, Body, task, nobody, objects, isReady}
 use Rattle.rules.specs.Places.{waiters, population, belongs, awaits}
 use Rattle.rules.specs.Events.{call, nat, bits}
 use Rattle.rules.specs.Acts.{Act, release, pattern}
@@ -178,6 +178,7 @@ once-few false = omega arith
 
 ready-waits : (s : State) (k : Kind) (o : ℕ) → isReady s ≡ true → awaits s k o ≡ false
 ready-waits dormant k o e = refl
+ready-waits absent k o e = refl
 ready-waits ready k o e = refl
 ready-waits suspended k o e = refl
 ready-waits (waiting w) k o e = absurd (false≢true e)

@@ -1,6 +1,6 @@
 -- Only an accepted rel_wai makes a cell E_RLWAI, and no event is answered with it: every other act leaves a cell alone or writes another
 -- code. Over runs: a cell reads E_RLWAI exactly if such a rel_wai was the task's last release or start. Assumes nothing.
-use mathlib.Core.Bool.{Bool, true, false, cond, false≢true}
+use mathlib.Core.Bool.{Bool, true, false, cond, _||_, false≢true}
 use mathlib.Core.List.{List, [], _∷_, _++_, map}
 use mathlib.Core.Logic.{_⊎_, inl, inr, _≢_, _↔_}
 use mathlib.Core.Path.{_≡_, refl, sym, ap, _∙_, subst}
@@ -13,18 +13,18 @@ use lib.ListN.{length}
 use borrow.Author.Tests.{ne-eqb}
 use Rattle.rules.specs.Ids.{of, from, ids, In}
 use Rattle.rules.specs.Codes.{Code, OK, E-NOEXS, E-NOWAI, E-RLWAI, number, tellsDamage}
-use Rattle.rules.specs.State.{Wait, State, dormant, ready, suspended, waiting, waiting-suspended, Cell, Task, Body, task, nobody, isDormant, isReady, isWaiting}
+use Rattle.rules.specs.State.{Wait, State, dormant, ready, suspended, absent, waiting, waiting-suspended, Cell, Task, Body, task, nobody, isDormant, isAbsent, isReady, isWaiting}
 use Rattle.rules.specs.Places.{tabulate}
 use Rattle.rules.specs.Setup.{got, Entry, Setup, setup}
 use Rattle.rules.specs.Events.{Event, tick, enter, exit, call, Words, AllWords, nat, outside}
-use Rattle.rules.specs.Acts.{Act, start, retire, rotate, regrade, wait, release, suspend, resume, wakeups, count, pattern, post, receive, mark, elapse, nest, change, started, retired, releasedTask, halted, resumed, older, with-state, with-priority, with-wakeups, after, afters}
+use Rattle.rules.specs.Acts.{Act, start, retire, create, delete, rotate, regrade, wait, release, suspend, resume, wakeups, count, pattern, post, receive, mark, elapse, nest, change, started, retired, created, releasedTask, halted, resumed, older, with-state, with-priority, with-wakeups, after, afters}
 use Rattle.rules.specs.View.{View}
 use Rattle.rules.specs.Verdicts.{Verdict, done}
-use Rattle.rules.specs.Tasks.{starting, sta-tsk, ext-tsk, ter-tsk, chg-pri, rot-rdq, rel-wai, sus-tsk, rsm-tsk, take-wakeup, slp-tsk, wai-tsk, waking, wup-tsk, can-wup, get-tid, tsk-sts}
+use Rattle.rules.specs.Tasks.{starting, sta-tsk, ext-tsk, ter-tsk, chg-pri, rot-rdq, rel-wai, sus-tsk, rsm-tsk, take-wakeup, slp-tsk, wai-tsk, waking, wup-tsk, can-wup, get-tid, tsk-sts, cre-tsk, del-tsk, exd-tsk}
 use Rattle.rules.specs.Objects.{to-first, obj-sts, sig-sem, take-sem, set-flg, clr-flg, take-flg, snd-msg, take-msg, take-blk, rel-blk}
 use Rattle.rules.specs.Time.{get-tim, endings, ticked}
 use Rattle.rules.specs.Handling.{entered, exited}
-use Rattle.rules.specs.Rows.{staTsk, extTsk, terTsk, chgPri, rotRdq, relWai, susTsk, rsmTsk, slpTsk, waiTsk, wupTsk, canWup, sigSem, waiSem, preqSem, setFlg, clrFlg, waiFlg, polFlg, sndMsg, rcvMsg, prcvMsg, getBlk, pgetBlk, relBlk, getTid, tskSts, semSts, flgSts, mbxSts, mplSts, getTim}
+use Rattle.rules.specs.Rows.{staTsk, extTsk, terTsk, chgPri, rotRdq, relWai, susTsk, rsmTsk, slpTsk, waiTsk, wupTsk, canWup, sigSem, waiSem, preqSem, setFlg, clrFlg, waiFlg, polFlg, sndMsg, rcvMsg, prcvMsg, getBlk, pgetBlk, relBlk, getTid, tskSts, semSts, flgSts, mbxSts, mplSts, getTim, creTsk, delTsk, exdTsk}
 use Rattle.rules.specs.Table.{caller, handles, table, judge}
 use Rattle.rules.specs.Sound.{CellNumbers, Sound}
 use Rattle.rules.specs.Check.{sound?}
@@ -47,11 +47,11 @@ use Rattle.rules.proofs.Broken.{tasks-next, stays, stays-broken}
 
 -- ---- a task that an act does not break off
 
--- the cell is not E_RLWAI, or it is as it was and the task was neither released nor started
+-- the cell is not E_RLWAI, or it is as it was and the task was neither released nor started nor deleted
 abbrev Whole : Task → Task → Type 0
 Whole t u = (u .cell .code ≢ E-RLWAI) ⊎ ((u .cell ≡ t .cell) × (isFresh (t .state) (u .state) ≡ false))
 
--- these changes of the state are neither a release nor a start
+-- these changes of the state are no release, no start and no deletion
 record Unfresh (s : State) : Type 0 where
   same : isFresh s s ≡ false
   retired : isFresh s dormant ≡ false
@@ -60,7 +60,8 @@ record Unfresh (s : State) : Type 0 where
   waits : (w : Wait) → isDormant s ≡ false → isFresh s (waiting w) ≡ false
 
 unfresh : (s : State) → Unfresh s
-unfresh dormant = record { same = refl; retired = refl; halted = refl; resumed = refl; waits = λ w e. absurd (false≢true (sym e)) }
+unfresh dormant = record { same = refl; retired = refl; halted = refl; resumed = refl; waits = λ w e. refl }
+unfresh absent = record { same = refl; retired = refl; halted = refl; resumed = refl; waits = λ w e. refl }
 unfresh ready = record { same = refl; retired = refl; halted = refl; resumed = refl; waits = λ w e. refl }
 unfresh suspended = record { same = refl; retired = refl; halted = refl; resumed = refl; waits = λ w e. refl }
 unfresh (waiting x) = record { same = refl; retired = refl; halted = refl; resumed = refl; waits = λ w e. refl }
@@ -94,7 +95,7 @@ released-spared c w n t = go (isWaiting (t .state)) refl
     go false e = rw e (spared-same t)
 
 older-spared : (t : Task) → Spared t (with-state (older (t .state)) t)
-older-spared t = left-alone refl (λ s. rw (older-same (t .state) .waiting, older-same (t .state) .dormant))
+older-spared t = left-alone refl (λ s. rw (older-same (t .state) .waiting, older-same (t .state) .dormant, older-same (t .state) .absent))
 
 gentle-spared : {a : Act} → Gentle a → (b : Body) (i : ℕ) → Spared (task b i) (task (after a b) i)
 unfolding after
@@ -113,6 +114,8 @@ list-spared (a ∷ l) g b i = spared-then (gentle-spared (g .0) b i) (list-spare
 abbrev Sparing : Body → Act → Type 0
 Sparing b (start i) = Unit {0}
 Sparing b (retire i) = Unit {0}
+Sparing b (create i p) = Unit {0}
+Sparing b (delete i) = Unit {0}
 Sparing b (rotate i) = Unit {0}
 Sparing b (regrade i p) = Unit {0}
 Sparing b (wait i w) = isDormant (task b i .state) ≡ false
@@ -137,6 +140,8 @@ act-whole : (a : Act) (b : Body) → Sparing b a → (i : ℕ) → Whole (task b
 unfolding after
 act-whole (start j) b d i = change-each Whole whole-same started j b (λ t e. inl served-whole) i
 act-whole (retire j) b d i = changed b retired j (λ t. refl) (λ t e. unfresh (t .state) .retired) i
+act-whole (create j p) b d i = changed b (created p) j (λ t. refl) (λ t e. unfresh (t .state) .retired) i
+act-whole (delete j) b d i = change-each Whole whole-same (λ t. nobody) j b (λ t e. inl served-whole) i
 act-whole (rotate j) b d i = whole-same (task b i)
 act-whole (regrade j p) b d i = changed b (with-priority p) j (λ t. refl) (λ t e. unfresh (t .state) .same) i
 act-whole (wait j w) b d i = changed b (with-state (waiting w)) j (λ t. refl) (λ t e. unfresh (t .state) .waits w (rw e d)) i
@@ -156,6 +161,7 @@ act-whole (nest h) b d i = whole-same (task b i)
 
 ready-awake : (s : State) → isReady s ≡ true → isDormant s ≡ false
 ready-awake dormant e = absurd (false≢true e)
+ready-awake absent e = absurd (false≢true e)
 ready-awake ready e = refl
 ready-awake suspended e = refl
 ready-awake (waiting w) e = refl
@@ -195,7 +201,7 @@ module _ (v : View) (s : Sound v) (a y z : ℤ) where
   rel-wai-spares = by-check (Spares (v .body) a) (λ n c e. inl (on-acts (whole-none (v .body)))) E-NOWAI (unfold bad in refl) (λ e. inr (refl, refl))
 
   rows : (h : Bool) → AllRows (Spares (v .body) a) v (handles v h) (caller v h) 1 (table v (caller v h) a y z)
-  unfolding table staTsk extTsk terTsk chgPri rotRdq relWai susTsk rsmTsk slpTsk waiTsk wupTsk canWup sigSem waiSem preqSem setFlg clrFlg waiFlg polFlg sndMsg rcvMsg prcvMsg getBlk pgetBlk relBlk getTid tskSts semSts flgSts mbxSts mplSts getTim starting sta-tsk ext-tsk ter-tsk chg-pri rot-rdq sus-tsk rsm-tsk take-wakeup slp-tsk wai-tsk waking wup-tsk can-wup get-tid tsk-sts to-first obj-sts sig-sem take-sem set-flg clr-flg take-flg snd-msg take-msg take-blk rel-blk get-tim
+  unfolding table staTsk extTsk terTsk chgPri rotRdq relWai susTsk rsmTsk slpTsk waiTsk wupTsk canWup sigSem waiSem preqSem setFlg clrFlg waiFlg polFlg sndMsg rcvMsg prcvMsg getBlk pgetBlk relBlk getTid tskSts semSts flgSts mbxSts mplSts getTim creTsk delTsk exdTsk starting sta-tsk ext-tsk ter-tsk chg-pri rot-rdq sus-tsk rsm-tsk take-wakeup slp-tsk wai-tsk waking wup-tsk can-wup get-tid tsk-sts cre-tsk del-tsk exd-tsk to-first obj-sts sig-sem take-sem set-flg clr-flg take-flg snd-msg take-msg take-blk rel-blk get-tim
   rows h =
       (λ t. inl (search sparing depth 9))
       ⊗ (λ t. inl (search sparing depth 9))
@@ -220,6 +226,9 @@ module _ (v : View) (s : Sound v) (a y z : ℤ) where
       ⊗ (λ t. inl (search (sparing, caller-awake v s h (t .context)) depth 9))
       ⊗ (λ t. inl (search sparing depth 9))
       ⊗ (λ t. inl (search (sparing, caller-awake v s h (t .context)) depth 9))
+      ⊗ (λ t. inl (search sparing depth 9))
+      ⊗ (λ t. inl (search sparing depth 9))
+      ⊗ (λ t. inl (search sparing depth 9))
       ⊗ (λ t. inl (search sparing depth 9))
       ⊗ (λ t. inl (search sparing depth 9))
       ⊗ (λ t. inl (search sparing depth 9))
@@ -292,18 +301,19 @@ plain-never-answered s e = judge-not-broken (viewOf s) e
 -- ---- runs
 
 -- a cell that reads E_RLWAI is that of a task that there is
-read-there : (b : Body) (a : ℤ) → readCell b a .code ≡ E-RLWAI → (a ≡ pos (nat a)) × (outside a (length (b .tasks)) ≡ false) × (task b (nat a) .cell .code ≡ E-RLWAI)
+read-there : (b : Body) (a : ℤ) → readCell b a .code ≡ E-RLWAI → (a ≡ pos (nat a)) × (outside a (length (b .tasks)) ≡ false) × (task b (nat a) .cell .code ≡ E-RLWAI) × (isAbsent (task b (nat a) .state) ≡ false)
 unfolding readCell
-read-there b a h = go (outside a (length (b .tasks))) refl h
+read-there b a h = go (outside a (length (b .tasks))) (isAbsent (task b (nat a) .state)) refl refl h
   where
     named : (a : ℤ) → In (nat a) (length (b .tasks)) → a ≡ pos (nat a)
     named (pos k) r = refl
     named (negsuc k) r = absurd (omega (arith, r .0))
 
-    go : (t : Bool) → outside a (length (b .tasks)) ≡ t → cond t (record { code = E-NOEXS; word = 0 }) (task b (nat a) .cell) .code ≡ E-RLWAI
-        → (a ≡ pos (nat a)) × (outside a (length (b .tasks)) ≡ false) × (task b (nat a) .cell .code ≡ E-RLWAI)
-    go true e h = absurd (let z : _≡_ {A = ℕ} 0 1 = cc in omega arith)
-    go false e h = (named a (in-by a _ e), e, h)
+    go : (t n : Bool) → outside a (length (b .tasks)) ≡ t → isAbsent (task b (nat a) .state) ≡ n → cond (t || n) (record { code = E-NOEXS; word = 0 }) (task b (nat a) .cell) .code ≡ E-RLWAI
+        → (a ≡ pos (nat a)) × (outside a (length (b .tasks)) ≡ false) × (task b (nat a) .cell .code ≡ E-RLWAI) × (isAbsent (task b (nat a) .state) ≡ false)
+    go true n e d h = absurd (let z : _≡_ {A = ℕ} 0 1 = cc in omega arith)
+    go false true e d h = absurd (let z : _≡_ {A = ℕ} 0 1 = cc in omega arith)
+    go false false e d h = (named a (in-by a _ e), e, h, d)
 
 -- what is read by id, at one event
 step : (v : View) (e : Event) (a : ℤ) → Sound v → Words e → cell (event v e .next) a .code ≡ E-RLWAI
@@ -319,14 +329,25 @@ step v e a s w h =
     u : Task
     u = task (event v e .next .body) (nat a)
 
-    go : (a ≡ pos (nat a)) × (outside a (length (event v e .next .body .tasks)) ≡ false) × (u .cell .code ≡ E-RLWAI)
+    go : (a ≡ pos (nat a)) × (outside a (length (event v e .next .body .tasks)) ≡ false) × (u .cell .code ≡ E-RLWAI) × (isAbsent (u .state) ≡ false)
         → BreaksOff (pos (nat a)) e (number (event v e .answer .code)) ⊎ ((u .cell ≡ t .cell) × (isFresh (t .state) (u .state) ≡ false))
         → BreaksOff a e (number (event v e .answer .code)) ⊎ ((cell v a .code ≡ E-RLWAI) × (isFresh (t .state) (u .state) ≡ false))
     go r (inl k) = inl (subst (λ (b : ℤ). BreaksOff b e (number (event v e .answer .code))) (sym (r .0)) k)
-    go r (inr k) = inr (rw (cell-reads v a s, inside) (ap (λ c. c .code) (sym (k .0)) ∙ r .2), k .1)
+    go r (inr k) = inr (rw (cell-reads v a s, inside, there) (was ∙ r .2), k .1)
       where
+        was : t .cell .code ≡ u .cell .code
+        was = ap (λ c. c .code) (sym (k .0))
+
         inside : outside a (length (v .body .tasks)) ≡ false
         inside = ap (λ (n : ℕ). outside a n) (sym (ap (λ (x : View). length (x .body .tasks)) (event-next v e s) ∙ tasks-next v e)) ∙ r .1
+
+        -- one that is not there has cell 0 and 0
+        there : isAbsent (t .state) ≡ false
+        there = side (isAbsent (t .state)) refl
+          where
+            side : (x : Bool) → isAbsent (t .state) ≡ x → x ≡ false
+            side false d = refl
+            side true d = absurd (served-whole (sym (s .body .tasks (nat a) (in-by a _ inside) .absent d .3) ∙ was ∙ r .2))
 
 since : (a : ℤ) (v : View) (l : List Event) → Sound v → AllWords l → cell (states v l) a .code ≡ E-RLWAI
     → BrokenOff a v l ⊎ ((cell v a .code ≡ E-RLWAI) × NeverFresh a v l)
@@ -351,7 +372,7 @@ cell-broken : (v : View) (a : ℤ) → Sound v → cell v a .code ≡ E-RLWAI �
 unfolding readCell
 cell-broken v a s h =
     let r = read-there (v .body) a (rw (cell-reads v a s) at h) in
-    cell-reads v a s ∙ rw (r .1) (go (task (v .body) (nat a) .cell) (r .2) (s .body .tasks (nat a) (in-by a _ (r .1)) .cell))
+    cell-reads v a s ∙ rw (r .1, r .3) (go (task (v .body) (nat a) .cell) (r .2) (s .body .tasks (nat a) (in-by a _ (r .1)) .cell))
   where
     go : (c : Cell) → c .code ≡ E-RLWAI → CellNumbers c → c ≡ broken
     go c e (inl k) = absurd (served-whole (sym (k .0) ∙ e))

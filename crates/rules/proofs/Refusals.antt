@@ -1,4 +1,4 @@
--- The order of the refusals, row by row: the first word that fails, then E_CTX, E_SELF, E_DMT, then the rule. Which calls are task-only.
+-- The order of the refusals, row by row: the first word that fails, then E_CTX, E_NOEXS, E_SELF, E_DMT, then the rule. Which calls are task-only.
 -- And a message that lies in a mailbox cannot be sent again. Assumes nothing.
 use mathlib.Core.Bool.{Bool, true, false}
 use mathlib.Core.List.{List, [], _∷_, map}
@@ -7,13 +7,13 @@ use mathlib.Core.Path.{_≡_, refl}
 use Prim.Native.Nat.{ℕ}
 use lib.IntN.{ℤ}
 use Rattle.rules.specs.Ids.{of}
-use Rattle.rules.specs.Codes.{E-CTX, E-SELF, E-DMT, H-MSG}
+use Rattle.rules.specs.Codes.{E-NOEXS, E-CTX, E-SELF, E-DMT, H-MSG}
 use Rattle.rules.specs.Events.{nat}
 use Rattle.rules.specs.View.{View}
 use Rattle.rules.specs.Verdicts.{Verdict, refuse, check}
 use Rattle.rules.specs.Objects.{snd-msg}
-use Rattle.rules.specs.Rows.{Refusal, T, both, Row, staTsk, extTsk, terTsk, chgPri, rotRdq, relWai, susTsk, rsmTsk, slpTsk, waiTsk, wupTsk, canWup, sigSem, waiSem, preqSem, setFlg, clrFlg, waiFlg, polFlg, sndMsg, rcvMsg, prcvMsg, getBlk, pgetBlk, relBlk, getTid, tskSts, semSts, flgSts, mbxSts, mplSts, getTim}
-use Rattle.rules.specs.Table.{refusals, misplaced, names-self, names-dormant, judged, table}
+use Rattle.rules.specs.Rows.{Refusal, T, both, Row, staTsk, extTsk, terTsk, chgPri, rotRdq, relWai, susTsk, rsmTsk, slpTsk, waiTsk, wupTsk, canWup, sigSem, waiSem, preqSem, setFlg, clrFlg, waiFlg, polFlg, sndMsg, rcvMsg, prcvMsg, getBlk, pgetBlk, relBlk, getTid, tskSts, semSts, flgSts, mbxSts, mplSts, getTim, creTsk, delTsk, exdTsk}
+use Rattle.rules.specs.Table.{refusals, misplaced, names-absent, names-self, names-dormant, judged, table}
 use Rattle.rules.proofs.Judge.{Passed, Passes}
 
 passed : (l : List Refusal) (r : Verdict) → Passed l → refusals l r ≡ r
@@ -31,26 +31,30 @@ module _ (v : View) (h : Bool) (me : ℕ) (r : Row) where
   unfolding judged refusals check
   context-decides p t = rw (passed (r .words) _ p, t)
 
-  pub self-decides : Passed (r .words) → misplaced (r .context) h me ≡ false → names-self (r .target) me ≡ true → judged v h me r ≡ refuse E-SELF
+  pub absent-decides : Passed (r .words) → misplaced (r .context) h me ≡ false → names-absent (v .body) (r .target) ≡ true → judged v h me r ≡ refuse E-NOEXS
   unfolding judged refusals check
-  self-decides p c t = rw (passed (r .words) _ p, c, t)
+  absent-decides p c t = rw (passed (r .words) _ p, c, t)
 
-  pub dormant-decides : Passed (r .words) → misplaced (r .context) h me ≡ false → names-self (r .target) me ≡ false → names-dormant (v .body) (r .target) ≡ true
-      → judged v h me r ≡ refuse E-DMT
+  pub self-decides : Passed (r .words) → misplaced (r .context) h me ≡ false → names-absent (v .body) (r .target) ≡ false → names-self (r .target) me ≡ true → judged v h me r ≡ refuse E-SELF
   unfolding judged refusals check
-  dormant-decides p c s t = rw (passed (r .words) _ p, c, s, t)
+  self-decides p c n t = rw (passed (r .words) _ p, c, n, t)
+
+  pub dormant-decides : Passed (r .words) → misplaced (r .context) h me ≡ false → names-absent (v .body) (r .target) ≡ false → names-self (r .target) me ≡ false
+      → names-dormant (v .body) (r .target) ≡ true → judged v h me r ≡ refuse E-DMT
+  unfolding judged refusals check
+  dormant-decides p c n s t = rw (passed (r .words) _ p, c, n, s, t)
 
   pub rule-decides : Passes v h me r → judged v h me r ≡ r .rule
   unfolding judged refusals check
-  rule-decides p = rw (passed (r .words) _ (p .words), p .context, p .self, p .dormant)
+  rule-decides p = rw (passed (r .words) _ (p .words), p .context, p .there, p .self, p .dormant)
 
--- the calls marked T are ext_tsk, ter_tsk, slp_tsk, wai_tsk and those that wait on an object
+-- the calls marked T are ext_tsk, ter_tsk, slp_tsk, wai_tsk, those that wait on an object, cre_tsk, del_tsk and exd_tsk
 pub contexts : (v : View) (me : ℕ) (a b c : ℤ)
     → map (λ r. r .context) (table v me a b c)
     ≡ both ∷ T ∷ T ∷ both ∷ both ∷ both ∷ both ∷ both ∷ T ∷ T ∷ both ∷ both
     ∷ both ∷ T ∷ both ∷ both ∷ both ∷ T ∷ both ∷ both ∷ T ∷ both ∷ T ∷ both ∷ both
-    ∷ both ∷ both ∷ both ∷ both ∷ both ∷ both ∷ both ∷ []
-unfolding table staTsk extTsk terTsk chgPri rotRdq relWai susTsk rsmTsk slpTsk waiTsk wupTsk canWup sigSem waiSem preqSem setFlg clrFlg waiFlg polFlg sndMsg rcvMsg prcvMsg getBlk pgetBlk relBlk getTid tskSts semSts flgSts mbxSts mplSts getTim
+    ∷ both ∷ both ∷ both ∷ both ∷ both ∷ both ∷ both ∷ T ∷ T ∷ T ∷ []
+unfolding table staTsk extTsk terTsk chgPri rotRdq relWai susTsk rsmTsk slpTsk waiTsk wupTsk canWup sigSem waiSem preqSem setFlg clrFlg waiFlg polFlg sndMsg rcvMsg prcvMsg getBlk pgetBlk relBlk getTid tskSts semSts flgSts mbxSts mplSts getTim creTsk delTsk exdTsk
 contexts v me a b c = refl
 
 pub lying-not-sent : (v : View) (a b : ℤ) (m : ℕ) → of (v .body .store .messages) (nat b) none ≡ some m → snd-msg v a b ≡ refuse H-MSG

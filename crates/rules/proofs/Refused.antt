@@ -7,7 +7,7 @@ use Prim.Native.Nat.{ℕ}
 use native.Mathlib.Omega.{arith}
 use lib.IntN.{pos, natAbs}
 use Rattle.rules.specs.Codes.{number, refuses, inDamage, tellsDamage}
-use Rattle.rules.specs.State.{State, dormant, ready, suspended, waiting, waiting-suspended, Task, Body}
+use Rattle.rules.specs.State.{State, dormant, ready, suspended, waiting, waiting-suspended, absent, Task, Body}
 use Rattle.rules.specs.Events.{Event}
 use Rattle.rules.specs.View.{View, running, acts}
 use Rattle.rules.specs.Verdicts.{Verdict}
@@ -24,6 +24,7 @@ use Rattle.rules.proofs.Breach.{breach-tells}
 
 pub released-none : (s : State) → isReleased s s ≡ false
 released-none dormant = refl
+released-none absent = refl
 released-none ready = refl
 released-none suspended = refl
 released-none (waiting w) = refl

@@ -13,17 +13,17 @@ use lib.ListN.{length, getD, set}
 use borrow.Author.Tests.{not-false}
 use Rattle.rules.specs.Ids.{of, put, ids, In, once, times}
 use Rattle.rules.specs.Codes.{Code, OK}
-use Rattle.rules.specs.State.{Kind, semaphore, flag, mailbox, pool, State, dormant, ready, suspended, waiting, waiting-suspended, Task, Handlers, Body, task, nobody, objects, waitOf, wish, isDormant, isWaiting, isFreed, sleeps}
+use Rattle.rules.specs.State.{Kind, semaphore, flag, mailbox, pool, State, dormant, ready, suspended, absent, waiting, waiting-suspended, Task, Handlers, Body, task, nobody, objects, waitOf, wish, isDormant, isWaiting, isFreed, sleeps}
 use Rattle.rules.specs.Places.{waiters, belongs, waitsOn, at, lineAt}
 use Rattle.rules.specs.Events.{Event, tick, enter, exit, call, nat, outside}
-use Rattle.rules.specs.Acts.{Act, start, retire, rotate, regrade, wait, release, suspend, resume, wakeups, count, pattern, post, receive, mark, elapse, nest, with-state, freed, halted, resumed, older, after, afters}
+use Rattle.rules.specs.Acts.{Act, start, retire, create, delete, rotate, regrade, wait, release, suspend, resume, wakeups, count, pattern, post, receive, mark, elapse, nest, with-state, freed, halted, resumed, older, after, afters}
 use Rattle.rules.specs.View.{View, line}
 use Rattle.rules.specs.Verdicts.{Verdict, waits}
-use Rattle.rules.specs.Tasks.{stateOf, starting, sta-tsk, ext-tsk, ter-tsk, chg-pri, rot-rdq, rel-wai, sus-tsk, rsm-tsk, take-wakeup, slp-tsk, wai-tsk, waking, wup-tsk, can-wup, get-tid, tsk-sts}
+use Rattle.rules.specs.Tasks.{stateOf, starting, sta-tsk, ext-tsk, ter-tsk, chg-pri, rot-rdq, rel-wai, sus-tsk, rsm-tsk, take-wakeup, slp-tsk, wai-tsk, waking, wup-tsk, can-wup, get-tid, tsk-sts, cre-tsk, del-tsk, exd-tsk}
 use Rattle.rules.specs.Objects.{to-first, obj-sts, met, left, serve-flag, sig-sem, take-sem, set-flg, clr-flg, take-flg, snd-msg, take-msg, take-blk, rel-blk}
 use Rattle.rules.specs.Time.{get-tim, ending, endings, timeout, ticked}
 use Rattle.rules.specs.Handling.{entered, exited}
-use Rattle.rules.specs.Rows.{staTsk, extTsk, terTsk, chgPri, rotRdq, relWai, susTsk, rsmTsk, slpTsk, waiTsk, wupTsk, canWup, sigSem, waiSem, preqSem, setFlg, clrFlg, waiFlg, polFlg, sndMsg, rcvMsg, prcvMsg, getBlk, pgetBlk, relBlk, getTid, tskSts, semSts, flgSts, mbxSts, mplSts, getTim}
+use Rattle.rules.specs.Rows.{staTsk, extTsk, terTsk, chgPri, rotRdq, relWai, susTsk, rsmTsk, slpTsk, waiTsk, wupTsk, canWup, sigSem, waiSem, preqSem, setFlg, clrFlg, waiFlg, polFlg, sndMsg, rcvMsg, prcvMsg, getBlk, pgetBlk, relBlk, getTid, tskSts, semSts, flgSts, mbxSts, mplSts, getTim, creTsk, delTsk, exdTsk}
 use Rattle.rules.specs.Table.{caller, handles, table, judge}
 use Rattle.rules.specs.Answers.{isReleased, releasedCount}
 use Rattle.rules.specs.Sound.{Sound}
@@ -41,6 +41,7 @@ use Rattle.rules.proofs.Judge.{_⊗_, AllRows, OnActs, on-acts, acts-ch
 
 unreleased : (s : State) → (isReleased s (halted s) ≡ false) × (isReleased s (resumed s) ≡ false) × (isDormant s ≡ true → isReleased s ready ≡ false)
 unreleased dormant = (refl, refl, λ e. refl)
+unreleased absent = (refl, refl, λ e. refl)
 unreleased ready = (refl, refl, λ e. refl)
 unreleased suspended = (refl, refl, λ e. refl)
 unreleased (waiting w) = (refl, refl, λ e. absurd (false≢true e))
@@ -68,6 +69,8 @@ act-unreleased : (a : Act) (b : Body) → isRelease a ≡ false → Careful b a 
 unfolding after
 act-unreleased (start j) b n d = unreleased-put (b .tasks) j _ (unreleased (task b j .state) .2 d)
 act-unreleased (retire j) b n d = unreleased-put (b .tasks) j _ (and-false (isWaiting (task b j .state)))
+act-unreleased (create j p) b n d = unreleased-put (b .tasks) j _ (and-false (isWaiting (task b j .state)))
+act-unreleased (delete j) b n d = unreleased-put (b .tasks) j _ (and-false (isWaiting (task b j .state)))
 act-unreleased (rotate j) b n d = none-released (b .tasks)
 act-unreleased (regrade j p) b n d = unreleased-put (b .tasks) j _ (released-none (task b j .state))
 act-unreleased (wait j w) b n d = unreleased-put (b .tasks) j _ (and-false (isWaiting (task b j .state)))
@@ -236,7 +239,7 @@ module _ (v : View) (s : Sound v) (a y z : ℤ) where
   set-counts o = on-acts (counted (v .body) _ (flag-frees (v .body) (v .body) (nat a) _ _ (waiters-come v s flag (nat a) (in-by a _ o))))
 
   rows : (h : Bool) (me : ℕ) → AllRows (λ n r. Counts (v .body) r) v h me 1 (table v me a y z)
-  unfolding table staTsk extTsk terTsk chgPri rotRdq relWai susTsk rsmTsk slpTsk waiTsk wupTsk canWup sigSem waiSem preqSem setFlg clrFlg waiFlg polFlg sndMsg rcvMsg prcvMsg getBlk pgetBlk relBlk getTid tskSts semSts flgSts mbxSts mplSts getTim starting sta-tsk ext-tsk ter-tsk chg-pri rot-rdq rel-wai sus-tsk rsm-tsk take-wakeup slp-tsk wai-tsk can-wup get-tid tsk-sts obj-sts sig-sem take-sem clr-flg take-flg snd-msg take-msg take-blk rel-blk get-tim
+  unfolding table staTsk extTsk terTsk chgPri rotRdq relWai susTsk rsmTsk slpTsk waiTsk wupTsk canWup sigSem waiSem preqSem setFlg clrFlg waiFlg polFlg sndMsg rcvMsg prcvMsg getBlk pgetBlk relBlk getTid tskSts semSts flgSts mbxSts mplSts getTim creTsk delTsk exdTsk starting sta-tsk ext-tsk ter-tsk chg-pri rot-rdq rel-wai sus-tsk rsm-tsk take-wakeup slp-tsk wai-tsk can-wup get-tid tsk-sts cre-tsk del-tsk exd-tsk obj-sts sig-sem take-sem clr-flg take-flg snd-msg take-msg take-blk rel-blk get-tim
   rows h me =
       (λ t. search counting depth 9)
       ⊗ (λ t. search counting depth 9)
@@ -263,6 +266,9 @@ module _ (v : View) (s : Sound v) (a y z : ℤ) where
       ⊗ (λ t. search counting depth 9)
       ⊗ (λ t. search counting depth 9)
       ⊗ (λ t. acts-check _ (count-none (v .body)) (λ e. counts-to-first pool a (nat y) _ (search counting depth 9)))
+      ⊗ (λ t. search counting depth 9)
+      ⊗ (λ t. search counting depth 9)
+      ⊗ (λ t. search counting depth 9)
       ⊗ (λ t. search counting depth 9)
       ⊗ (λ t. search counting depth 9)
       ⊗ (λ t. search counting depth 9)

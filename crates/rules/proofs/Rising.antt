@@ -25,7 +25,7 @@ use Rattle.rules.specs.Order.{Rising, Ordered, OneLine, Ready, Before, H
 use Rattle.rules.proofs.Ids.{Each, times-append, times-keep, has-keep, kept-passes, times-ids, times-head, times-tail}
 use Rattle.rules.proofs.Fits.{population-after, in-range}
 use Rattle.rules.proofs.Sorting.{all-has, times-byNumber}
-use Rattle.rules.proofs.States.{waits-by, waiting-tells}
+use Rattle.rules.proofs.States.{there-by, waits-by, waiting-tells}
 use Rattle.rules.proofs.Waits.{both-true, waits-asks}
 use Rattle.rules.proofs.Queues.{stands-known, stands-belongs}
 use Rattle.rules.proofs.Agree.{Numbers, numbers-act, numbers-unstarted, number-body, number-other, number-new, queue-act, queue-unstarted}
@@ -266,7 +266,7 @@ module _ (s : Plain) (g : Sound (viewOf s)) (o : Ordered s) (z : s .body .handle
 
   ready-rank : (j : ℕ) → Ready s j → In (rank j) (s .body .store .priorities)
   unfolding viewOf
-  ready-rank j r = g .body .tasks j (ready-id j r) .priority
+  ready-rank j r = g .body .tasks j (ready-id j r) .priority (there-by isReady refl (task (s .body) j .state) r)
 
   abbrev found : List ℕ
   found = nonempty (map queue (from 1 (s .body .store .priorities)))

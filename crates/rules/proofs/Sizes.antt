@@ -5,7 +5,7 @@ use Prim.Native.Nat.{ℕ}
 use lib.ListN.{length, length-map}
 use Rattle.rules.specs.Ids.{of}
 use Rattle.rules.specs.State.{Kind, semaphore, flag, mailbox, pool, Task, Store, Body, objects}
-use Rattle.rules.specs.Acts.{Act, start, retire, rotate, regrade, wait, release, suspend, resume, wakeups, count, pattern, post, receive, mark, elapse, nest, with-clock, with-tasks, with-store, after, afters}
+use Rattle.rules.specs.Acts.{Act, start, retire, create, delete, rotate, regrade, wait, release, suspend, resume, wakeups, count, pattern, post, receive, mark, elapse, nest, with-clock, with-tasks, with-store, after, afters}
 use Rattle.rules.proofs.Ids.{length-put, of-put-test}
 
 pub record SameSizes (b c : Body) : Type 0 where
@@ -47,6 +47,8 @@ pub sizes-after : (a : Act) (b : Body) → SameSizes b (after a b)
 unfolding after
 sizes-after (start i) b = sizes-tasks b _ (length-put (b .tasks) i _)
 sizes-after (retire i) b = sizes-tasks b _ (length-put (b .tasks) i _)
+sizes-after (create i p) b = sizes-tasks b _ (length-put (b .tasks) i _)
+sizes-after (delete i) b = sizes-tasks b _ (length-put (b .tasks) i _)
 sizes-after (rotate i) b = sizes-tasks b (b .tasks) refl
 sizes-after (regrade i p) b = sizes-tasks b _ (length-put (b .tasks) i _)
 sizes-after (wait i w) b = sizes-tasks b _ (length-put (b .tasks) i _)

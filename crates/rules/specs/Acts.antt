@@ -5,13 +5,16 @@ use mathlib.Core.Option.{Option, none, some}
 use Prim.Native.Nat.{ℕ, suc, pred, _%_, _^_}
 use Rattle.rules.specs.Ids.{of, put}
 use Rattle.rules.specs.Codes.{Code, OK}
-use Rattle.rules.specs.State.{Wait, asleep, timed, on, State, dormant, ready, suspended, waiting, waiting-suspended, Cell, Task, Store, Handlers, Body, task, isWaiting}
+use Rattle.rules.specs.State.{Wait, asleep, timed, on, State, dormant, ready, suspended, absent, waiting, waiting-suspended, Cell, Task, Store, Handlers, Body, task, nobody, isWaiting}
 use Rattle.rules.specs.Places.{Item, aTask, aMessage, aBlock}
 
 pub data Act : Type 0 where
   -- task i: started, sent dormant, given priority p, moved behind the others of its ready queue
   start retire rotate : ℕ → Act
   regrade : ℕ → ℕ → Act
+  -- made, dormant at priority p; deleted
+  create : ℕ → ℕ → Act
+  delete : ℕ → Act
   -- put into a wait, and released from one with a code and a word
   wait : ℕ → Wait → Act
   release : ℕ → Code → ℕ → Act
@@ -82,9 +85,14 @@ started t = record { state = ready; priority = t .start; start = t .start; wakeu
 abbrev pub retired : Task → Task
 retired t = record { state = dormant; priority = t .start; start = t .start; wakeups = 0; cell = t .cell }
 
+-- Dormant, with a starting priority. The cell stays: that of a task that is not there is 0 and 0.
+abbrev pub created : ℕ → Task → Task
+created p t = record { state = dormant; priority = p; start = p; wakeups = 0; cell = t .cell }
+
 -- A released task in WAIT is made ready, one in WAIT-SUSPEND becomes SUSPEND.
 abbrev pub freed : State → State
 freed dormant = dormant
+freed absent = absent
 freed ready = ready
 freed suspended = suspended
 freed (waiting w) = ready
@@ -97,6 +105,7 @@ releasedTask c w t = cond (isWaiting (t .state)) (with-cell (record { code = c; 
 -- A READY or RUN task becomes SUSPEND, a waiting one WAIT-SUSPEND.
 abbrev pub halted : State → State
 halted dormant = dormant
+halted absent = absent
 halted ready = suspended
 halted suspended = suspended
 halted (waiting w) = waiting-suspended w
@@ -105,6 +114,7 @@ halted (waiting-suspended w) = waiting-suspended w
 -- SUSPEND is made ready, WAIT-SUSPEND becomes WAIT.
 abbrev pub resumed : State → State
 resumed dormant = dormant
+resumed absent = absent
 resumed ready = ready
 resumed suspended = ready
 resumed (waiting w) = waiting w
@@ -113,6 +123,7 @@ resumed (waiting-suspended w) = waiting w
 -- Each timed wait loses one, suspended or not.
 abbrev pub older : State → State
 older dormant = dormant
+older absent = absent
 older ready = ready
 older suspended = suspended
 older (waiting asleep) = waiting asleep
@@ -131,6 +142,8 @@ clockAfter n = suc n % 2 ^ 48
 unfoldable pub after : Act → Body → Body
 after (start i) b = change started i b
 after (retire i) b = change retired i b
+after (create i p) b = change (created p) i b
+after (delete i) b = change (λ t. nobody) i b
 after (rotate i) b = b
 after (regrade i p) b = change (with-priority p) i b
 after (wait i w) b = change (with-state (waiting w)) i b
@@ -158,6 +171,7 @@ pub data Move : Type 0 where
 
 abbrev pub releasedMove : State → Item → Move
 releasedMove dormant x = stay
+releasedMove absent x = stay
 releasedMove ready x = stay
 releasedMove suspended x = stay
 releasedMove (waiting w) x = last x
@@ -166,6 +180,7 @@ releasedMove (waiting-suspended w) x = leave x
 -- A READY or RUN task leaves its ready queue; a waiting task keeps its place.
 abbrev pub haltedMove : State → Item → Move
 haltedMove dormant x = stay
+haltedMove absent x = stay
 haltedMove ready x = leave x
 haltedMove suspended x = stay
 haltedMove (waiting w) x = stay
@@ -173,6 +188,7 @@ haltedMove (waiting-suspended w) x = stay
 
 abbrev pub resumedMove : State → Item → Move
 resumedMove dormant x = stay
+resumedMove absent x = stay
 resumedMove ready x = stay
 resumedMove suspended x = last x
 resumedMove (waiting w) x = stay
@@ -181,6 +197,7 @@ resumedMove (waiting-suspended w) x = stay
 -- A READY or RUN task goes last in its queue, even at the same priority.
 abbrev pub regradedMove : State → Item → Move
 regradedMove dormant x = stay
+regradedMove absent x = stay
 regradedMove ready x = last x
 regradedMove suspended x = stay
 regradedMove (waiting w) x = stay
@@ -195,6 +212,8 @@ markedMove false x = leave x
 unfoldable pub move : Body → Act → Move
 move b (start i) = last (aTask i)
 move b (retire i) = leave (aTask i)
+move b (create i p) = leave (aTask i)
+move b (delete i) = leave (aTask i)
 move b (rotate i) = last (aTask i)
 move b (regrade i p) = regradedMove (task b i .state) (aTask i)
 move b (wait i w) = last (aTask i)

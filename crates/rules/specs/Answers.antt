@@ -1,12 +1,12 @@
 -- What comes back of an event, and the reading of a cell.
-use mathlib.Core.Bool.{Bool, cond, _&&_}
+use mathlib.Core.Bool.{Bool, cond, _&&_, _||_}
 use mathlib.Core.List.{List, [], _∷_}
 use Prim.Native.Nat.{ℕ, _+_}
 use lib.IntN.{ℤ, pos}
 use lib.ListN.{length}
 use Rattle.rules.specs.Ids.{once}
 use Rattle.rules.specs.Codes.{Code, E-NOEXS, number}
-use Rattle.rules.specs.State.{State, Cell, Task, Body, task, isWaiting, isFreed}
+use Rattle.rules.specs.State.{State, Cell, Task, Body, task, isAbsent, isWaiting, isFreed}
 use Rattle.rules.specs.Events.{nat, outside}
 use Rattle.rules.specs.View.{View, running}
 use Rattle.rules.specs.Verdicts.{Verdict}
@@ -37,6 +37,6 @@ answer r v w = record { code = r .code; w1 = r .w1; w2 = r .w2; runs = running w
 abbrev pub numbers : Answer → List ℤ
 numbers a = number (a .code) ∷ pos (a .w1) ∷ pos (a .w2) ∷ pos (a .runs) ∷ pos (a .released) ∷ []
 
--- A cell is read by task id: E_NOEXS for a bad id, with word 0.
+-- A cell is read by task id: E_NOEXS for a bad id and for a task that is not there, with word 0.
 unfoldable pub readCell : Body → ℤ → Cell
-readCell b a = cond (outside a (length (b .tasks))) (record { code = E-NOEXS; word = 0 }) (task b (nat a) .cell)
+readCell b a = cond (outside a (length (b .tasks)) || isAbsent (task b (nat a) .state)) (record { code = E-NOEXS; word = 0 }) (task b (nat a) .cell)

@@ -3,7 +3,7 @@ use mathlib.Core.Bool.{Bool, true, false, false≢true, Bool-discrete}
 use mathlib.Core.List.{List, [], _∷_}
 use mathlib.Core.Logic.{_⊎_, inl, inr}
 use mathlib.Core.Option.{Option, none, some}
-use mathlib.Core.Path.{_≡_, refl}
+use mathlib.Core.Path.{_≡_, refl, sym}
 use Prim.Native.Nat.{ℕ, zero, suc, _<_, _^_}
 use native.Mathlib.Decide.{decLe, decLt, ℕ-discrete}
 use native.Mathlib.Nat.{eq-or-lt-of-le}
@@ -11,9 +11,9 @@ use native.Mathlib.Omega.{arith}
 use lib.ListN.{length}
 use Rattle.rules.specs.Ids.{of, In, times}
 use Rattle.rules.specs.Codes.{OK, E-TMOUT, E-RLWAI, Code-discrete}
-use Rattle.rules.specs.State.{Kind, semaphore, flag, mailbox, pool, Wait, asleep, timed, on, Cell, Task, Store, Handlers, no-handler, in-handler, Body, task, objects, waitOf, isDormant, sleeps}
+use Rattle.rules.specs.State.{Kind, semaphore, flag, mailbox, pool, Wait, asleep, timed, on, Cell, Task, Store, Handlers, no-handler, in-handler, Body, task, objects, waitOf, isDormant, isAbsent, sleeps}
 use Rattle.rules.specs.Places.{Place, readyAt, waiters, mail, freeIn, many, at, Lines, Exists}
-use Rattle.rules.specs.Sound.{Sizes, LiesWell, StoreNumbers, CellNumbers, WishNumbers, WaitNumbers, Unserved, SoundTask, HandlersFit, SoundBody, Shape, Known, Queue, Sound}
+use Rattle.rules.specs.Sound.{Sizes, LiesWell, StoreNumbers, CellNumbers, WishNumbers, WaitNumbers, Unserved, Vacant, SoundTask, HandlersFit, SoundBody, Shape, Known, Queue, Sound}
 use Rattle.rules.specs.View.{View, line}
 
 module _ {A B : Type 0} where
@@ -40,6 +40,11 @@ module _ {A : Type 0} where
   if? true (yes a) = yes (λ e. a)
   if? true (no h) = no (λ f. h (f refl))
   if? false d = yes (λ e. absurd (false≢true e))
+
+  unfoldable pub unless? : (t : Bool) → Dec A → Dec (t ≡ false → A)
+  unless? false (yes a) = yes (λ e. a)
+  unless? false (no h) = no (λ f. h (f refl))
+  unless? true d = yes (λ e. absurd (false≢true (sym e)))
 
 -- over the ids 1 to n, and over the kinds
 module _ {P : ℕ → Type 0} where
@@ -118,16 +123,23 @@ wait? u (some asleep) = yes tt
 wait? u (some (timed t)) = in? t 2147483647
 wait? u (some (on k o p m)) = both? (in? o (objects u k)) (wish? k p m)
 
+unfoldable pub vacant? : (t : Task) → Dec (Vacant t)
+unfolding convert both? ℕ-discrete
+vacant? t =
+    convert (λ x. (x .0 .0, x .0 .1, x .1 .0, x .1 .1 .0, x .1 .1 .1)) (λ x. ((x .0, x .1), (x .2, (x .3, x .4))))
+    (both? (both? (ℕ-discrete (t .priority) 0) (ℕ-discrete (t .start) 0)) (both? (ℕ-discrete (t .wakeups) 0) (both? (Code-discrete (t .cell .code) OK) (ℕ-discrete (t .cell .word) 0))))
+
 unfoldable pub task? : (u : Store) (t : Task) → Dec (SoundTask u t)
-unfolding convert both? if? in? cell? wait? decLe ℕ-discrete
+unfolding convert both? if? unless? in? cell? wait? vacant? decLe ℕ-discrete
 task? u t =
-    convert (λ x. record { priority = x .0 .0; start = x .0 .1; wakeups = x .1 .0 .0; cell = x .1 .0 .1; wait = x .1 .1 .0; sleeper = x .1 .1 .1 .0; dormant = x .1 .1 .1 .1 .0; rest = x .1 .1 .1 .1 .1 })
-    (λ r. ((r .priority, r .start), ((r .wakeups, r .cell), (r .wait, (r .sleeper, (r .dormant, r .rest))))))
-    (both? (both? (in? (t .priority) (u .priorities)) (in? (t .start) (u .priorities)))
+    convert (λ x. record { priority = x .0 .0; start = x .0 .1; wakeups = x .1 .0 .0; cell = x .1 .0 .1; wait = x .1 .1 .0; sleeper = x .1 .1 .1 .0; dormant = x .1 .1 .1 .1 .0; rest = x .1 .1 .1 .1 .1 .0; absent = x .1 .1 .1 .1 .1 .1 })
+    (λ r. ((r .priority, r .start), ((r .wakeups, r .cell), (r .wait, (r .sleeper, (r .dormant, (r .rest, r .absent)))))))
+    (both? (both? (unless? (isAbsent (t .state)) (in? (t .priority) (u .priorities))) (unless? (isAbsent (t .state)) (in? (t .start) (u .priorities))))
     (both? (both? (decLe (t .wakeups) 15) (cell? (t .cell)))
     (both? (wait? u (waitOf (t .state)))
     (both? (if? (sleeps (waitOf (t .state))) (ℕ-discrete (t .wakeups) 0))
-    (both? (if? (isDormant (t .state)) (ℕ-discrete (t .wakeups) 0)) (if? (isDormant (t .state)) (ℕ-discrete (t .priority) (t .start))))))))
+    (both? (if? (isDormant (t .state)) (ℕ-discrete (t .wakeups) 0))
+    (both? (if? (isDormant (t .state)) (ℕ-discrete (t .priority) (t .start))) (if? (isAbsent (t .state)) (vacant? t))))))))
 
 unfoldable pub handlers? : (l : List Task) (h : Handlers) → Dec (HandlersFit l h)
 unfolding both? either? decLe ℕ-discrete

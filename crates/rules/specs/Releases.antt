@@ -3,11 +3,13 @@ use mathlib.Core.Bool.{Bool, true, false}
 use mathlib.Core.List.{List, [], _∷_}
 use Prim.Native.Nat.{ℕ, _+_}
 use Rattle.rules.specs.Ids.{once}
-use Rattle.rules.specs.Acts.{Act, start, retire, rotate, regrade, wait, release, suspend, resume, wakeups, count, pattern, post, receive, mark, elapse, nest}
+use Rattle.rules.specs.Acts.{Act, start, retire, create, delete, rotate, regrade, wait, release, suspend, resume, wakeups, count, pattern, post, receive, mark, elapse, nest}
 
 abbrev pub isRelease : Act → Bool
 isRelease (start i) = false
 isRelease (retire i) = false
+isRelease (create i p) = false
+isRelease (delete i) = false
 isRelease (rotate i) = false
 isRelease (regrade i p) = false
 isRelease (wait i w) = false

@@ -12,7 +12,7 @@ use Rattle.rules.specs.Places.{mail}
 use Rattle.rules.specs.Events.{nat, bits, outside, above, belowForEver}
 use Rattle.rules.specs.View.{View, line}
 use Rattle.rules.specs.Verdicts.{Verdict, waits}
-use Rattle.rules.specs.Tasks.{sta-tsk, ext-tsk, ter-tsk, chg-pri, rot-rdq, rel-wai, sus-tsk, rsm-tsk, slp-tsk, wai-tsk, wup-tsk, can-wup, get-tid, tsk-sts}
+use Rattle.rules.specs.Tasks.{sta-tsk, ext-tsk, ter-tsk, chg-pri, rot-rdq, rel-wai, sus-tsk, rsm-tsk, slp-tsk, wai-tsk, wup-tsk, can-wup, get-tid, tsk-sts, cre-tsk, del-tsk, exd-tsk}
 use Rattle.rules.specs.Objects.{polls, waits-on, obj-sts, countOf, sig-sem, take-sem, patternOf, set-flg, clr-flg, take-flg, snd-msg, take-msg, blocksOf, free, take-blk, rel-blk}
 use Rattle.rules.specs.Time.{get-tim}
 
@@ -25,8 +25,8 @@ pub record Refusal : Type 0 where
 pub data Context : Type 0 where
   T both : Context
 
--- Which task a call names, and what is asked of it: none is named; one that is there (every one is); one that is not dormant; one that
--- is not oneself either.
+-- Which task a call names, and what is asked of it: none is named, or one that is not to be there; one that is there; one that is not dormant
+-- either; one that is not oneself either.
 pub data Target : Type 0 where
   unnamed : Target
   anyone alive another : ℕ → Target
@@ -174,3 +174,14 @@ module _ (v : View) where
 
   unfoldable pub getTim : Row
   getTim = row [] both unnamed (get-tim v)
+
+  -- ---- tasks that come and go
+
+  unfoldable pub creTsk : ℤ → ℤ → Row
+  creTsk a b = row (task-id a ∷ priority b ∷ []) T unnamed (cre-tsk v a b)
+
+  unfoldable pub delTsk : ℤ → Row
+  delTsk a = row (task-id a ∷ []) T (anyone (nat a)) (del-tsk v a)
+
+  unfoldable pub exdTsk : ℕ → Row
+  exdTsk me = row [] T unnamed (exd-tsk me)

@@ -9,7 +9,7 @@ use lib.Dec.{eqb}
 use lib.ListN.{length}
 use Rattle.rules.specs.Ids.{of, In, once, times}
 use Rattle.rules.specs.Codes.{OK, E-TMOUT, E-RLWAI}
-use Rattle.rules.specs.State.{Kind, semaphore, flag, mailbox, pool, Wait, asleep, timed, on, Cell, Task, Store, Handlers, no-handler, in-handler, depth, Body, task, nobody, objects, waitOf, isDormant, isFreed, sleeps}
+use Rattle.rules.specs.State.{Kind, semaphore, flag, mailbox, pool, Wait, asleep, timed, on, Cell, Task, Store, Handlers, no-handler, in-handler, depth, Body, task, nobody, objects, waitOf, isDormant, isAbsent, isFreed, sleeps}
 use Rattle.rules.specs.Places.{Place, many, lies, belongs, at, Lines, Exists}
 use Rattle.rules.specs.Objects.{met, free}
 use Rattle.rules.specs.View.{View, line}
@@ -58,9 +58,13 @@ WaitNumbers u (some (on k o p m)) = In o (objects u k) × WishNumbers k p m
 
 -- ---- a task
 
+-- no priority, no wake-ups, cell 0 and 0
+abbrev pub Vacant : Task → Type 0
+Vacant t = (t .priority ≡ 0) × (t .start ≡ 0) × (t .wakeups ≡ 0) × (t .cell .code ≡ OK) × (t .cell .word ≡ 0)
+
 pub record SoundTask (u : Store) (t : Task) : Type 0 where
-  pub priority : In (t .priority) (u .priorities)
-  pub start : In (t .start) (u .priorities)
+  pub priority : isAbsent (t .state) ≡ false → In (t .priority) (u .priorities)
+  pub start : isAbsent (t .state) ≡ false → In (t .start) (u .priorities)
   pub wakeups : t .wakeups ≤ 15
   pub cell : CellNumbers (t .cell)
   pub wait : WaitNumbers u (waitOf (t .state))
@@ -69,6 +73,8 @@ pub record SoundTask (u : Store) (t : Task) : Type 0 where
   pub dormant : isDormant (t .state) ≡ true → t .wakeups ≡ 0
   -- a dormant task has its starting priority.
   pub rest : isDormant (t .state) ≡ true → t .priority ≡ t .start
+  -- A task not there has cell 0 and 0, no wake-ups and no priority.
+  pub absent : isAbsent (t .state) ≡ true → Vacant t
 
 -- ---- The depth is 0..15; above 0 the interrupted task is 0 or one that is ready, running or suspended.
 

@@ -18,9 +18,9 @@ pub data Wait : Type 0 where
   timed : ℕ → Wait
   on : Kind → ℕ → ℕ → ℕ → Wait
 
--- RUN is not kept: it is the running rule's task, if it is one of the ready ones
+-- RUN is not kept: it is the running rule's task, if it is one of the ready ones. A task that is not there is absent.
 pub data State : Type 0 where
-  dormant ready suspended : State
+  dormant ready suspended absent : State
   waiting waiting-suspended : Wait → State
 
 -- the answer cell (the paper's word) of a task: how its last wait ended
@@ -66,9 +66,9 @@ pub record Body : Type 0 where
   pub store : Store
   pub handlers : Handlers
 
--- what is read at an id that no task has
+-- what is read at an id that no task has, and what a task that is not there has: no priority, no wake-ups, cell 0 and 0
 abbrev pub nobody : Task
-nobody = record { state = dormant; priority = 0; start = 0; wakeups = 0; cell = record { code = OK; word = 0 } }
+nobody = record { state = absent; priority = 0; start = 0; wakeups = 0; cell = record { code = OK; word = 0 } }
 
 abbrev pub task : Body → ℕ → Task
 task b i = of (b .tasks) i nobody
@@ -84,6 +84,7 @@ objects u pool = length (u .pools)
 
 abbrev pub waitOf : State → Option Wait
 waitOf dormant = none
+waitOf absent = none
 waitOf ready = none
 waitOf suspended = none
 waitOf (waiting w) = some w
@@ -91,14 +92,25 @@ waitOf (waiting-suspended w) = some w
 
 abbrev pub isDormant : State → Bool
 isDormant dormant = true
+isDormant absent = false
 isDormant ready = false
 isDormant suspended = false
 isDormant (waiting w) = false
 isDormant (waiting-suspended w) = false
 
+-- not there
+abbrev pub isAbsent : State → Bool
+isAbsent dormant = false
+isAbsent absent = true
+isAbsent ready = false
+isAbsent suspended = false
+isAbsent (waiting w) = false
+isAbsent (waiting-suspended w) = false
+
 -- READY or RUN
 abbrev pub isReady : State → Bool
 isReady dormant = false
+isReady absent = false
 isReady ready = true
 isReady suspended = false
 isReady (waiting w) = false
@@ -107,6 +119,7 @@ isReady (waiting-suspended w) = false
 -- SUSPEND or WAIT-SUSPEND
 abbrev pub isSuspended : State → Bool
 isSuspended dormant = false
+isSuspended absent = false
 isSuspended ready = false
 isSuspended suspended = true
 isSuspended (waiting w) = false
@@ -115,6 +128,7 @@ isSuspended (waiting-suspended w) = true
 -- WAIT or WAIT-SUSPEND
 abbrev pub isWaiting : State → Bool
 isWaiting dormant = false
+isWaiting absent = false
 isWaiting ready = false
 isWaiting suspended = false
 isWaiting (waiting w) = true
@@ -123,6 +137,7 @@ isWaiting (waiting-suspended w) = true
 -- READY, RUN or SUSPEND: where a release leads
 abbrev pub isFreed : State → Bool
 isFreed dormant = false
+isFreed absent = false
 isFreed ready = true
 isFreed suspended = true
 isFreed (waiting w) = false

@@ -5,12 +5,12 @@ use mathlib.Core.Option.{Option, none, some}
 use Prim.Native.Nat.{ℕ, zero, suc}
 use lib.Dec.{eqb}
 use lib.IntN.{ℤ, pos, negsuc}
-use Rattle.rules.specs.Codes.{H-CALL, E-CTX, E-SELF, E-DMT}
-use Rattle.rules.specs.State.{Body, task, isDormant, isOpen}
+use Rattle.rules.specs.Codes.{H-CALL, E-NOEXS, E-CTX, E-SELF, E-DMT}
+use Rattle.rules.specs.State.{Body, task, isDormant, isAbsent, isOpen}
 use Rattle.rules.specs.Events.{Event, tick, enter, exit, call}
 use Rattle.rules.specs.View.{View, running}
 use Rattle.rules.specs.Verdicts.{Verdict, refuse, check}
-use Rattle.rules.specs.Rows.{Refusal, Context, T, both, Target, unnamed, anyone, alive, another, Row, staTsk, extTsk, terTsk, chgPri, rotRdq, relWai, susTsk, rsmTsk, slpTsk, waiTsk, wupTsk, canWup, sigSem, waiSem, preqSem, setFlg, clrFlg, waiFlg, polFlg, sndMsg, rcvMsg, prcvMsg, getBlk, pgetBlk, relBlk, getTid, tskSts, semSts, flgSts, mbxSts, mplSts, getTim}
+use Rattle.rules.specs.Rows.{Refusal, Context, T, both, Target, unnamed, anyone, alive, another, Row, staTsk, extTsk, terTsk, chgPri, rotRdq, relWai, susTsk, rsmTsk, slpTsk, waiTsk, wupTsk, canWup, sigSem, waiSem, preqSem, setFlg, clrFlg, waiFlg, polFlg, sndMsg, rcvMsg, prcvMsg, getBlk, pgetBlk, relBlk, getTid, tskSts, semSts, flgSts, mbxSts, mplSts, getTim, creTsk, delTsk, exdTsk}
 use Rattle.rules.specs.Time.{ticked}
 use Rattle.rules.specs.Handling.{entered, exited}
 
@@ -27,6 +27,13 @@ abbrev pub misplaced : Context → Bool → ℕ → Bool
 misplaced T handler me = eqb me 0
 misplaced both handler me = not handler && eqb me 0
 
+-- E_NOEXS: on a task that is not there
+abbrev pub names-absent : Body → Target → Bool
+names-absent b unnamed = false
+names-absent b (anyone i) = isAbsent (task b i .state)
+names-absent b (alive i) = isAbsent (task b i .state)
+names-absent b (another i) = isAbsent (task b i .state)
+
 -- E_SELF: on oneself, task context
 abbrev pub names-self : Target → ℕ → Bool
 names-self unnamed me = false
@@ -41,11 +48,12 @@ names-dormant b (anyone i) = false
 names-dormant b (alive i) = isDormant (task b i .state)
 names-dormant b (another i) = isDormant (task b i .state)
 
--- Order where several apply: the parameters a, b, c left to right, E_CTX, E_SELF, E_DMT, the rest.
+-- Order where several apply: the parameters a, b, c left to right, E_CTX, E_NOEXS of a task that is not there, E_SELF, E_DMT, the rest.
 unfoldable pub judged : View → Bool → ℕ → Row → Verdict
 judged v handler me r =
     refusals (r .words) (refusals (
     record { applies = misplaced (r .context) handler me; code = E-CTX }
+    ∷ record { applies = names-absent (v .body) (r .target); code = E-NOEXS }
     ∷ record { applies = names-self (r .target) me; code = E-SELF }
     ∷ record { applies = names-dormant (v .body) (r .target); code = E-DMT }
     ∷ []) (r .rule))
@@ -86,11 +94,14 @@ table v me a b c =
     ∷ mbxSts v a
     ∷ mplSts v a
     ∷ getTim v
+    ∷ creTsk v a b
+    ∷ delTsk v a
+    ∷ exdTsk v me
     ∷ []
 
 -- how many calls there are
 abbrev pub callCount : ℕ
-callCount = 32
+callCount = 35
 
 -- judged, where the table has the call
 unfoldable pub looked-up : View → Bool → ℕ → Option Row → Verdict
@@ -102,7 +113,7 @@ entry [] n = none
 entry (r ∷ l) zero = some r
 entry (r ∷ l) (suc n) = entry l n
 
--- call number n (H_CALL: not 1..32), from a handler or not, by `me`
+-- call number n (H_CALL: not 1..35), from a handler or not, by `me`
 unfoldable pub numbered : View → Bool → ℕ → ℕ → ℤ → ℤ → ℤ → Verdict
 numbered v h me zero a b c = refuse H-CALL
 numbered v h me (suc n) a b c = looked-up v h me (entry (table v me a b c) n)

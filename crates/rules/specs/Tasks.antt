@@ -1,15 +1,15 @@
--- Calls 1 to 12, 26 and 27: tasks. A rule here is what is left of a call once the common refusals are out of the way (Rows.antt):
--- the task that a word names exists, and is neither oneself nor dormant where that would be refused. `me` is the caller.
+-- Calls 1 to 12, 26, 27 and 33 to 35: tasks. A rule here is what is left of a call once the common refusals are out of the way (Rows.antt):
+-- the task that a word names is there, and is neither oneself nor dormant where that would be refused. `me` is the caller.
 use mathlib.Core.Bool.{Bool, not, cond}
 use mathlib.Core.List.{[], _∷_}
 use Prim.Native.Nat.{ℕ, zero, suc}
 use lib.Dec.{eqb, leb}
 use lib.IntN.{ℤ, pos, negsuc}
-use Rattle.rules.specs.Codes.{OK, H-NODMT, H-SUS, E-NOSUS, E-NOWAI, E-QOVR, E-TMOUT, E-RLWAI}
-use Rattle.rules.specs.State.{asleep, timed, State, dormant, ready, suspended, waiting, waiting-suspended, Body, task, waitOf, isDormant, isSuspended, isWaiting, sleeps}
+use Rattle.rules.specs.Codes.{OK, H-EXIST, H-NODMT, H-SUS, E-NOSUS, E-NOWAI, E-QOVR, E-TMOUT, E-RLWAI}
+use Rattle.rules.specs.State.{asleep, timed, State, dormant, ready, suspended, absent, waiting, waiting-suspended, Body, task, waitOf, isDormant, isAbsent, isSuspended, isWaiting, sleeps}
 use Rattle.rules.specs.Places.{readyAt}
 use Rattle.rules.specs.Events.{nat}
-use Rattle.rules.specs.Acts.{start, retire, rotate, regrade, release, suspend, resume, wakeups}
+use Rattle.rules.specs.Acts.{start, retire, create, delete, rotate, regrade, release, suspend, resume, wakeups}
 use Rattle.rules.specs.View.{View, line, best, running}
 use Rattle.rules.specs.Verdicts.{Verdict, refuse, gives, done, waits, check, choose, onFirst, onCount}
 
@@ -89,9 +89,10 @@ can-wup v a = gives (task (v .body) (nat a) .wakeups) 0 (wakeups (nat a) 0 ∷ [
 unfoldable pub get-tid : View → Verdict
 get-tid v = gives (running v) 0 []
 
--- 0 DORMANT, 1 READY, 2 RUN, 3 WAIT, 4 SUSPEND, 5 WAIT-SUSPEND; `run` says that it is the running task
+-- 0 DORMANT, 1 READY, 2 RUN, 3 WAIT, 4 SUSPEND, 5 WAIT-SUSPEND, 6 not there; `run` says that it is the running task
 unfoldable pub stateNumber : State → Bool → ℕ
 stateNumber dormant run = 0
+stateNumber absent run = 6
 stateNumber ready run = cond run 2 1
 stateNumber suspended run = 4
 stateNumber (waiting w) run = 3
@@ -100,3 +101,15 @@ stateNumber (waiting-suspended w) run = 5
 -- 27 tsk_sts(a): w1 state, w2 priority.
 unfoldable pub tsk-sts : View → ℤ → Verdict
 tsk-sts v a = gives (stateNumber (stateOf v a) (eqb (nat a) (running v))) (task (v .body) (nat a) .priority) []
+
+-- 33 cre_tsk(a, b) T: a task is made, dormant, with starting priority b. An existing id is refused.
+unfoldable pub cre-tsk : View → ℤ → ℤ → Verdict
+cre-tsk v a b = check (not (isAbsent (stateOf v a))) H-EXIST (done (create (nat a) (nat b) ∷ []))
+
+-- 34 del_tsk(a) T: a dormant task is deleted.
+unfoldable pub del-tsk : View → ℤ → Verdict
+del-tsk v a = check (not (isDormant (stateOf v a))) H-NODMT (done (delete (nat a) ∷ []))
+
+-- 35 exd_tsk T: ext_tsk followed by deletion (proofs/Deleted.antt: one deletion is both).
+unfoldable pub exd-tsk : ℕ → Verdict
+exd-tsk me = done (delete me ∷ [])

@@ -8,7 +8,7 @@ use Rattle.rules.specs.Setup.{got}
 use Rattle.rules.specs.Events.{Event, enter}
 use Rattle.rules.specs.Runs.{play, plainPlay}
 use Rattle.rules_examples.specs.BenchSheet.{set-flg, slp-tsk, wai-tsk, get-tid, taskCall, handlerCall, ran, plainRan, expected, Holds}
-use Rattle.rules_examples.specs.Examples.{taskExamples, objectExamples, waitInTurn, fullSays, handlerExamples, leaves, runBytes, runWords, runAnswers, Damage, damages, severalIds, severalRules, repairs, openRepairs, touched, damageTold, unchanged, readings, read}
+use Rattle.rules_examples.specs.Examples.{taskExamples, objectExamples, waitInTurn, fullSays, handlerExamples, comingExamples, leaves, runBytes, runWords, runAnswers, Damage, damages, severalIds, severalRules, repairs, openRepairs, touched, damageTold, unchanged, readings, read}
 
 pub task-examples-hold : Holds taskExamples
 unfolding ran plainRan expected
@@ -35,6 +35,10 @@ looks-at-32 = (refl, refl)
 pub handler-examples-hold : Holds handlerExamples
 unfolding ran plainRan expected
 handler-examples-hold = (refl, refl)
+
+pub coming-examples-hold : Holds comingExamples
+unfolding ran plainRan expected
+coming-examples-hold = (refl, refl)
 
 pub recorded-run-holds : (play runBytes runWords ≡ runAnswers) × (plainPlay runBytes runWords ≡ runAnswers)
 unfolding play plainPlay

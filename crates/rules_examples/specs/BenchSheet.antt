@@ -30,6 +30,7 @@ pub data Call : Type 0 where
   sta-tsk ext-tsk ter-tsk chg-pri rot-rdq rel-wai sus-tsk rsm-tsk slp-tsk wai-tsk wup-tsk can-wup : Call
   sig-sem wai-sem preq-sem set-flg clr-flg wai-flg pol-flg snd-msg rcv-msg prcv-msg get-blk pget-blk rel-blk : Call
   get-tid tsk-sts sem-sts flg-sts mbx-sts mpl-sts get-tim : Call
+  cre-tsk del-tsk exd-tsk : Call
 
 abbrev pub callNumber : Call → ℕ
 callNumber sta-tsk = 1
@@ -64,6 +65,9 @@ callNumber flg-sts = 29
 callNumber mbx-sts = 30
 callNumber mpl-sts = 31
 callNumber get-tim = 32
+callNumber cre-tsk = 33
+callNumber del-tsk = 34
+callNumber exd-tsk = 35
 
 -- a call from task context, and one from a handler
 abbrev pub taskCall : Call → ℤ → ℤ → ℤ → Event

@@ -9,14 +9,14 @@ use Rattle.rules.specs.Ids.{put}
 use Rattle.rules.specs.Codes.{OK, H-POLL, E-RLWAI, minus, number}
 use Rattle.rules.specs.Setup.{Fault, S1, S2, S3, S4, Read, got, refused, and-then, setup}
 use Rattle.rules.specs.Events.{Event, tick, enter, exit, call}
-use Rattle.rules.specs.State.{Kind, semaphore, flag, mailbox, pool, asleep, timed, on, State, suspended, waiting, waiting-suspended, in-handler, Body}
+use Rattle.rules.specs.State.{Kind, semaphore, flag, mailbox, pool, asleep, timed, on, State, suspended, waiting, waiting-suspended, in-handler, Body, dormant, absent, nobody}
 use Rattle.rules.specs.Places.{sameKind, at, each}
 use Rattle.rules.specs.Acts.{with-state, with-priority, with-wakeups, with-cell, with-semaphores, with-flags, with-messages, with-pools, with-store, with-handlers, change}
 use Rattle.rules.specs.View.{View}
 use Rattle.rules.specs.Answers.{numbers}
 use Rattle.rules.specs.Kernel.{fresh, event, cell}
 use Rattle.rules.specs.Runs.{answers, states}
-use Rattle.rules_examples.specs.BenchSheet.{taskCall, alone, step, sta-tsk, ext-tsk, ter-tsk, chg-pri, rot-rdq, rel-wai, sus-tsk, rsm-tsk, slp-tsk, wai-tsk, wup-tsk, can-wup, sig-sem, wai-sem, preq-sem, set-flg, clr-flg, wai-flg, pol-flg, snd-msg, rcv-msg, prcv-msg, get-blk, pget-blk, rel-blk, get-tid, tsk-sts, sem-sts, flg-sts, mbx-sts, mpl-sts, get-tim, X, H, I, X±, H±, case, Sheet, at-clock, benchBytes}
+use Rattle.rules_examples.specs.BenchSheet.{taskCall, alone, step, sta-tsk, ext-tsk, ter-tsk, chg-pri, rot-rdq, rel-wai, sus-tsk, rsm-tsk, slp-tsk, wai-tsk, wup-tsk, can-wup, sig-sem, wai-sem, preq-sem, set-flg, clr-flg, wai-flg, pol-flg, snd-msg, rcv-msg, prcv-msg, get-blk, pget-blk, rel-blk, get-tid, tsk-sts, sem-sts, flg-sts, mbx-sts, mpl-sts, get-tim, cre-tsk, del-tsk, exd-tsk, X, H, I, X±, H±, case, Sheet, at-clock, benchBytes}
 
 -- a word as four bytes, least significant first
 abbrev pub bytes : List ℕ → List ℕ
@@ -808,10 +808,10 @@ objectExamples = record {
       ∷ X flg-sts 1 0 0 ∷ X mbx-sts 1 0 0 ∷ X mpl-sts 1 0 0 ∷ X get-tim 0 0 0
       ∷ H wai-tsk 0 0 0 ∷ []))
       1 (pos 0) 0
-      -- H_CALL: call number not 1..32, or context not 0 or 1; before the parameters.
+      -- H_CALL: call number not 1..35, or context not 0 or 1; before the parameters.
       ∷ case 0 1
       (step (alone (call (pos 0) (pos 0) (pos 0) (pos 0) (pos 0))) (minus 1) 0 0 1 0
-      ∷ step (alone (call (pos 0) (pos 33) (pos 0) (pos 0) (pos 0))) (minus 1) 0 0 1 0
+      ∷ step (alone (call (pos 0) (pos 36) (pos 0) (pos 0) (pos 0))) (minus 1) 0 0 1 0
       ∷ step (alone (call (pos 1) (minus 1) (pos 0) (pos 0) (pos 0))) (minus 1) 0 0 1 0
       ∷ step (alone (call (pos 2) (pos 26) (pos 0) (pos 0) (pos 0))) (minus 1) 0 0 1 0
       ∷ step (alone (call (minus 1) (pos 26) (pos 0) (pos 0) (pos 0))) (minus 1) 0 0 1 0
@@ -1012,12 +1012,128 @@ handlerExamples = record {
       ∷ I wai-sem 2 0 0 ∷ I wai-flg 2 5 0 ∷ I rcv-msg 1 0 0 ∷ I get-blk 1 0 0 ∷ [])
       ++ (step (X sus-tsk 6 0 0) (minus 2100) 0 0 1 0
       ∷ step (alone (call (pos 2) (pos 26) (pos 0) (pos 0) (pos 0))) (minus 1) 0 0 1 0
-      ∷ step (alone (call (pos 0) (pos 33) (pos 0) (pos 0) (pos 0))) (minus 1) 0 0 1 0
+      ∷ step (alone (call (pos 0) (pos 36) (pos 0) (pos 0) (pos 0))) (minus 1) 0 0 1 0
       ∷ step (I wup-tsk 1 0 0) (pos 0) 0 0 1 0
       ∷ step (alone exit) (pos 0) 0 0 1 0
       ∷ step (X can-wup 1 0 0) (pos 0) 1 0 1 0
       ∷ []))
       1 (pos 0) 0
+      ∷ [];
+}
+
+-- Calls 33 to 35: tasks that come and go.
+abbrev pub comingExamples : Sheet
+comingExamples = record {
+  bytes = exampleBytes;
+  cases =
+      -- All tasks of the setup exist when fresh. H_EXIST: cre_tsk on an existing id.
+      case 0 1
+      (step (X cre-tsk 1 1 0) (minus 8) 0 0 1 0
+      ∷ step (X cre-tsk 2 1 0) (minus 8) 0 0 1 0
+      ∷ step (X cre-tsk 3 1 0) (minus 8) 0 0 1 0
+      ∷ step (X cre-tsk 4 1 0) (minus 8) 0 0 1 0
+      ∷ step (X cre-tsk 5 1 0) (minus 8) 0 0 1 0
+      ∷ [])
+      3 (pos 0) 0
+      -- 34 del_tsk(a) for a dormant task; 33 cre_tsk(a, b), id and starting priority, leaving the task dormant. The id may be made again.
+      ∷ case 0 1
+      (step (X del-tsk 3 0 0) (pos 0) 0 0 1 0
+      ∷ step (X cre-tsk 3 4 0) (pos 0) 0 0 1 0
+      ∷ step (X tsk-sts 3 0 0) (pos 0) 0 4 1 0
+      ∷ step (X cre-tsk 3 4 0) (minus 8) 0 0 1 0
+      ∷ step (X chg-pri 3 1 0) (minus 2101) 0 0 1 0
+      ∷ step (X sta-tsk 3 0 0) (pos 0) 0 0 1 0
+      ∷ step (X tsk-sts 3 0 0) (pos 0) 1 4 1 0
+      ∷ step (X chg-pri 3 1 0) (pos 0) 0 0 3 0
+      ∷ step (X ext-tsk 0 0 0) (pos 0) 0 0 1 0
+      ∷ step (X tsk-sts 3 0 0) (pos 0) 0 4 1 0
+      ∷ step (X del-tsk 3 0 0) (pos 0) 0 0 1 0
+      ∷ step (X cre-tsk 3 1 0) (pos 0) 0 0 1 0
+      ∷ step (X sta-tsk 3 0 0) (pos 0) 0 0 3 0
+      ∷ [])
+      3 (pos 0) 0
+      -- H_NODMT: del_tsk on a task not dormant, be it oneself, ready, waiting or suspended.
+      ∷ case 0 1
+      (step (X del-tsk 1 0 0) (minus 3) 0 0 1 0
+      ∷ step (X del-tsk 2 0 0) (minus 3) 0 0 1 0
+      ∷ step (X sus-tsk 4 0 0) (pos 0) 0 0 1 0
+      ∷ step (X del-tsk 4 0 0) (minus 3) 0 0 1 0
+      ∷ step (X slp-tsk 0 0 0) (pos 1) 0 0 2 0
+      ∷ step (X del-tsk 1 0 0) (minus 3) 0 0 2 0
+      ∷ step (X del-tsk 6 0 0) (minus 2100) 0 0 2 0
+      ∷ [])
+      1 (pos 0) 0
+      -- 35 exd_tsk, ext_tsk followed by deletion: the caller stands in no queue. Every call on a task not there but cre_tsk is E_NOEXS, reading
+      -- its cell and tsk_sts included.
+      ∷ case 0 1
+      (step (X exd-tsk 0 0 0) (pos 0) 0 0 2 0
+      ∷ map (λ e. step e (minus 2100) 0 0 2 0)
+      (X sta-tsk 1 0 0 ∷ X ter-tsk 1 0 0 ∷ X chg-pri 1 2 0 ∷ X rel-wai 1 0 0 ∷ X sus-tsk 1 0 0 ∷ X rsm-tsk 1 0 0
+      ∷ X wup-tsk 1 0 0 ∷ X can-wup 1 0 0 ∷ X tsk-sts 1 0 0 ∷ X del-tsk 1 0 0 ∷ [])
+      ++ map (λ e. step e (minus 2100) 0 0 2 0)
+      (H sta-tsk 1 0 0 ∷ H chg-pri 1 2 0 ∷ H rel-wai 1 0 0 ∷ H sus-tsk 1 0 0 ∷ H rsm-tsk 1 0 0 ∷ H wup-tsk 1 0 0
+      ∷ H can-wup 1 0 0 ∷ H tsk-sts 1 0 0 ∷ [])
+      ++ (step (X rot-rdq 2 0 0) (pos 0) 0 0 5 0
+      ∷ step (X rot-rdq 2 0 0) (pos 0) 0 0 2 0
+      ∷ []))
+      1 (minus 2100) 0
+      -- Task-only. E_NOEXS of a task not there comes after the words and E_CTX: a bad priority, a handler's ter_tsk and del_tsk. A handler's
+      -- cre_tsk on an existing id is E_CTX too; an id outside 1..count comes before both.
+      ∷ case 0 1
+      (step (X del-tsk 3 0 0) (pos 0) 0 0 1 0
+      ∷ step (X chg-pri 3 9 0) (minus 1830) 0 0 1 0
+      ∷ step (X cre-tsk 3 5 0) (minus 1830) 0 0 1 0
+      ∷ step (X cre-tsk 3 0 0) (minus 1830) 0 0 1 0
+      ∷ step (X cre-tsk 6 9 0) (minus 2100) 0 0 1 0
+      ∷ step (X cre-tsk 0 1 0) (minus 2100) 0 0 1 0
+      ∷ step (H ter-tsk 3 0 0) (minus 2629) 0 0 1 0
+      ∷ step (H del-tsk 3 0 0) (minus 2629) 0 0 1 0
+      ∷ step (H cre-tsk 3 1 0) (minus 2629) 0 0 1 0
+      ∷ step (H cre-tsk 2 1 0) (minus 2629) 0 0 1 0
+      ∷ step (H exd-tsk 0 0 0) (minus 2629) 0 0 1 0
+      ∷ step (H cre-tsk 6 1 0) (minus 2100) 0 0 1 0
+      ∷ step (H cre-tsk 2 9 0) (minus 1830) 0 0 1 0
+      ∷ [])
+      3 (minus 2100) 0
+      -- No wake-ups and its own new priority: three are stored, and none is left when the id is made again.
+      ∷ case 0 1
+      (replicate 3 (step (H wup-tsk 1 0 0) (pos 0) 0 0 1 0) ++ (step (X exd-tsk 0 0 0) (pos 0) 0 0 2 0
+      ∷ step (X cre-tsk 1 1 0) (pos 0) 0 0 2 0
+      ∷ step (X sta-tsk 1 0 0) (pos 0) 0 0 1 0
+      ∷ step (X can-wup 1 0 0) (pos 0) 0 0 1 0
+      ∷ step (X tsk-sts 1 0 0) (pos 0) 2 1 1 0
+      ∷ []))
+      1 (pos 0) 0
+      -- Deletion ends the broken mark. ter_tsk keeps the cell, del_tsk makes it unreadable, and made again the task has 0 and 0 in it.
+      ∷ case 0 1
+      (step (X slp-tsk 0 0 0) (pos 1) 0 0 2 0
+      ∷ step (X rel-wai 1 0 0) (pos 0) 0 0 2 1
+      ∷ step (X ter-tsk 1 0 0) (pos 0) 0 0 2 0
+      ∷ [])
+      1 (minus 3414) 0
+      ∷ case 0 1
+      (step (X slp-tsk 0 0 0) (pos 1) 0 0 2 0
+      ∷ step (X rel-wai 1 0 0) (pos 0) 0 0 2 1
+      ∷ step (X ter-tsk 1 0 0) (pos 0) 0 0 2 0
+      ∷ step (X del-tsk 1 0 0) (pos 0) 0 0 2 0
+      ∷ [])
+      1 (minus 2100) 0
+      ∷ case 0 1
+      (step (X slp-tsk 0 0 0) (pos 1) 0 0 2 0
+      ∷ step (X rel-wai 1 0 0) (pos 0) 0 0 2 1
+      ∷ step (X ter-tsk 1 0 0) (pos 0) 0 0 2 0
+      ∷ step (X del-tsk 1 0 0) (pos 0) 0 0 2 0
+      ∷ step (X cre-tsk 1 3 0) (pos 0) 0 0 2 0
+      ∷ [])
+      1 (pos 0) 0
+      -- A deleted task's blocks are not returned, as with ext_tsk.
+      ∷ case 0 1
+      (step (X get-blk 2 0 0) (pos 0) 1 0 1 0
+      ∷ step (X exd-tsk 0 0 0) (pos 0) 0 0 2 0
+      ∷ step (X mpl-sts 2 0 0) (pos 0) 0 0 2 0
+      ∷ step (X pget-blk 2 0 0) (minus 5) 0 0 2 0
+      ∷ [])
+      1 (minus 2100) 0
       ∷ [];
 }
 
@@ -1195,6 +1311,17 @@ damages =
     -- A timed wait has 1 to 2147483647 ticks left.
     ∷ told (minus 20) 0 (with-sleeper (waiting (timed 0)))
     ∷ told (minus 20) 0 (with-sleeper (waiting (timed 2147483648)))
+    -- A task not there stands in no queue: task 5 has kept its place. It has cell 0 and 0, no wake-ups and no priority.
+    ∷ told (minus 21) 5 (with-body (change (λ t. nobody) 5))
+    ∷ told (minus 20) 0 (with-body (change (with-state absent) 3))
+    ∷ told (minus 20) 0 (with-body (change (λ t. with-wakeups 1 nobody) 3))
+    ∷ told (minus 20) 0 (with-body (change (λ t. with-cell (record { code = OK; word = 5 }) nobody) 3))
+    ∷ told (minus 20) 0 (with-body (change (λ t. with-cell (record { code = E-RLWAI; word = 0 }) nobody) 3))
+    ∷ told (minus 20) 0 (with-body (change (λ t. with-priority 1 nobody) 3))
+    -- A task that is there has a priority.
+    ∷ told (minus 20) 0 (with-body (change (λ t. with-state dormant nobody) 3))
+    -- The interrupted task is there.
+    ∷ told (minus 20) 0 (with-body (λ b. with-handlers (in-handler 0 3) (change (λ t. nobody) 3 b)))
     -- The depth is 0..15: here it is 16. Above 0 the interrupted task is 0 or one that is ready, running or suspended: task 3 is dormant, task
     -- 2 waits, suspended or not, and there is no task 9.
     ∷ told (minus 20) 0 (with-body (with-handlers (in-handler 15 1)))
@@ -1285,7 +1412,7 @@ severalRules =
 
 -- close to these, but no rule is broken: a waiter on semaphore 1, whose count is 0; one on flag 2 that asks for a bit that is not set; one
 -- beside another mailbox's message; a sleeper with one tick left; the last clock; a message that lies in a mailbox; the most ticks, wake-ups,
--- pattern and mode; the largest word in a cell, and pattern of a flag; free blocks in another order; a waiter on a pool whose blocks are out
+-- pattern and mode; the largest word in a cell, and pattern of a flag; a task not there; free blocks in another order; a waiter on a pool whose blocks are out
 abbrev pub repairs : List (View → View)
 repairs =
     with-waiter semaphore 1 0 0
@@ -1299,6 +1426,7 @@ repairs =
     ∷ with-waiter flag 1 (2 ^ 32 - 1) 3
     ∷ with-body (change (with-cell (record { code = OK; word = 2 ^ 32 - 1 })) 2)
     ∷ with-body (λ b. with-store (with-flags ((2 ^ 32 - 1) ∷ 5 ∷ []) (b .store)) b)
+    ∷ with-body (change (λ t. nobody) 3)
     ∷ with-free 1 (2 ∷ 1 ∷ [])
     ∷ (λ v. with-free 1 [] (with-blocks (false ∷ false ∷ []) (with-waiter pool 1 0 0 v)))
     ∷ []

@@ -6,6 +6,7 @@
 use okrozumba::brightness::Curve;
 use okrozumba::recorder::Recorder;
 use okrozumba::{Answer, State};
+use second::plain::{names_task, CALLS, CRE_TSK};
 use second::random::Random;
 use second::rings::Kernel;
 use second::setup::{self, Setup};
@@ -66,6 +67,8 @@ fn with_tasks(tasks: u32) -> Setup {
 // ---- events
 
 type Five = [i32; 5];
+/// In place of a call, behind the last.
+const TICK: i32 = CALLS + 1;
 
 /// Mostly one of 1 to n.
 fn id(random: &mut Random, n: u32) -> i32 {
@@ -78,24 +81,24 @@ fn id(random: &mut Random, n: u32) -> i32 {
 
 /// Every call is as likely as the other, and the tick too; half of the calls are a handler's.
 fn any(random: &mut Random, s: &Setup) -> Five {
-    let number = random.within(1, 33) as i32;
+    let number = random.within(1, TICK as u32) as i32;
     let (tasks, objects, pools) = (s.tasks.len() as u32, s.mailboxes, s.pools.len() as u32);
     let a = match number {
-        1 | 3 | 4 | 6 | 7 | 8 | 11 | 12 | 27 => id(random, tasks),
+        _ if names_task(number) => id(random, tasks),
         5 => random.below(s.priorities + 1) as i32,
         10 => random.below(12) as i32 - 1,
         23 | 24 | 25 | 31 => id(random, pools),
         _ => id(random, objects),
     };
     let b = match number {
-        4 => id(random, s.priorities),
+        4 | CRE_TSK => id(random, s.priorities),
         16 => 1 << random.below(6),
         20 => id(random, s.messages),
         25 => id(random, s.pools[0]),
         _ => random.within(1, 63) as i32,
     };
     match number {
-        33 => [2, 0, 0, 0, 0],
+        TICK => [2, 0, 0, 0, 0],
         _ => [random.below(2) as i32, number, a, b, random.below(4) as i32],
     }
 }

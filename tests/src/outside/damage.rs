@@ -9,10 +9,11 @@ use crate::Verdict;
 use okrozumba::{Answer, State, MESSAGES, STATE_WORDS};
 use second::layout;
 use second::picture::{
-    Breach, Picture, Rule, BACKWARD_RULE, DAMAGE_CODES, DEPTH_RULE, H_FREE, H_NUMBER, H_QUEUE,
-    H_SERVED, H_TWICE, INTERRUPTED_RULE, MARK_RULE, NONEMPTY_RULE, UNLINKED_RULE,
+    Breach, Picture, Rule, Standing, ABSENT_RULE, BACKWARD_RULE, DAMAGE_CODES, DEPTH_RULE, H_FREE,
+    H_NUMBER, H_QUEUE, H_SERVED, H_TWICE, INTERRUPTED_RULE, MARK_RULE, NONEMPTY_RULE,
+    UNLINKED_RULE,
 };
-use second::plain::{Event, Plain};
+use second::plain::{Event, Plain, CALLS};
 use second::random::Random;
 use second::script::{self, Author, SIZES};
 use second::sketch;
@@ -32,15 +33,18 @@ const FIVE_EVENTS: [i32; 25] = [
 /// The events that memory number `turn` gets: one call, a tick, an entry and a return; by turns all calls in both contexts, and calls that
 /// don't exist.
 fn turn_events(turn: u64) -> Vec<Event> {
+    // from 0 to the first that there is not
+    let numbers = CALLS as u64 + 2;
+    let calls_of = 3 * numbers;
     let call = |n: u64| Event::Call {
         context: (n % 3) as i32,
-        number: (n / 3 % 34) as i32,
-        a: (n / 102 % 3) as i32 + 1,
-        b: (n / 306 % 3) as i32 + 1,
-        c: (n / 918 % 4) as i32,
+        number: (n / 3 % numbers) as i32,
+        a: (n / calls_of % 3) as i32 + 1,
+        b: (n / calls_of / 3 % 3) as i32 + 1,
+        c: (n / calls_of / 9 % 4) as i32,
     };
     let calls = if turn.is_multiple_of(ALL_EVENTS) {
-        turn..turn + 102
+        turn..turn + calls_of
     } else {
         turn..turn + 1
     };
@@ -105,10 +109,11 @@ pub fn answers_sound(state: &State, picture: &Picture, events: &[Event]) -> Resu
 
 // ---- what was told how often
 
-/// The rules on handlers, and those that are tried behind all others.
-const NAMED_RULES: [Rule; 6] = [
+/// The rules on handlers and on tasks that are not there, and those that are tried behind all others.
+const NAMED_RULES: [Rule; 7] = [
     DEPTH_RULE,
     INTERRUPTED_RULE,
+    ABSENT_RULE,
     MARK_RULE,
     BACKWARD_RULE,
     UNLINKED_RULE,
@@ -118,7 +123,7 @@ const NAMED_RULES: [Rule; 6] = [
 /// What of naming must come up; each asks of a memory with an id told.
 type Corner = (&'static str, fn(&Picture, Breach) -> bool);
 
-const CORNERS: [Corner; 13] = [
+const CORNERS: [Corner; 14] = [
     ("a task missing", |p, told| {
         told.code == H_QUEUE && p.stands(told.id).missing()
     }),
@@ -127,6 +132,9 @@ const CORNERS: [Corner; 13] = [
     }),
     ("a task foreign", |p, told| {
         told.code == H_QUEUE && p.stands(told.id).foreign()
+    }),
+    ("a task in a queue that is not there", |p, told| {
+        told.code == H_QUEUE && p.task(told.id).standing == Standing::Absent
     }),
     ("a waiter not the first in line", |p, told| {
         told.code == H_SERVED && !p.first_in_line(told.id)

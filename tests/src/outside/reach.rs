@@ -1,7 +1,8 @@
 //! What a run can reach, by the papers: which code each call can give in which context, with a handler open and with none, and what a cell
 //! can hold. A run that misses one tested too little.
-use second::plain::Event;
-use std::collections::BTreeMap;
+use second::picture::Standing;
+use second::plain::{names_task, Event, Plain, CALLS, CRE_TSK};
+use std::collections::{BTreeMap, BTreeSet};
 
 /// An event's kind; of a call also whether a handler is open.
 #[derive(Clone, Copy, PartialEq, Eq, PartialOrd, Ord, Debug)]
@@ -28,7 +29,7 @@ impl Kind {
 }
 
 /// The call's number and its codes but for H_CALL and E_CTX.
-const OWN_CODES: [(i32, &[i32]); 32] = [
+const OWN_CODES: [(i32, &[i32]); 35] = [
     (1, &[0, -2100, -3]),
     (2, &[0]),
     (3, &[0, -2100, -2097, -2101]),
@@ -61,16 +62,21 @@ const OWN_CODES: [(i32, &[i32]); 32] = [
     (30, &[0, -2100]),
     (31, &[0, -2100]),
     (32, &[0]),
+    (33, &[0, -2100, -1830, -8]),
+    (34, &[0, -2100, -3]),
+    (35, &[0]),
 ];
 
-const TASK_ONLY: [i32; 8] = [2, 3, 9, 10, 14, 18, 21, 23];
+const TASK_ONLY: [i32; 11] = [2, 3, 9, 10, 14, 18, 21, 23, 33, 34, 35];
 /// Of the words, which are judged before the context.
 const WORD_CODES: [i32; 4] = [-2100, -1830, -1831, -2];
 const E_SELF: i32 = -2097;
 const E_CTX: i32 = -2629;
 const H_NEST: i32 = -7;
 const H_CALL: i32 = -1;
-const CELL_CODES: [i32; 3] = [0, -3413, -3414];
+/// The last is told of a task that is not there.
+const CELL_CODES: [i32; 4] = [0, -3413, -3414, E_NOEXS];
+const E_NOEXS: i32 = -2100;
 /// A call number that doesn't exist is counted here; so is an event that isn't a call.
 const NO_CALL: i32 = 0;
 
@@ -114,22 +120,48 @@ fn reachable() -> Vec<(Kind, i32, i32)> {
     all
 }
 
+/// The calls, by kind, that can name a task that is not there.
+fn on_nobody() -> Vec<(Kind, i32)> {
+    let calls = (1..=CALLS).filter(|call| names_task(*call) && *call != CRE_TSK);
+    let kinds = |call| {
+        let handlers = (!TASK_ONLY.contains(&call)).then_some((Kind::Handler { open: true }, call));
+        [(Kind::Task { open: false }, call)]
+            .into_iter()
+            .chain(handlers)
+    };
+    calls.flat_map(kinds).collect()
+}
+
+/// Whether an event is a call on an id in range that is not there.
+fn names_nobody(before: &Plain, event: Event) -> bool {
+    let Event::Call { number, a, .. } = event else {
+        return false;
+    };
+    let inside = (1..=before.counts().tasks as i32).contains(&a);
+    names_task(number) && inside && before.task(a as u32).standing == Standing::Absent
+}
+
 /// How often each was reached.
 #[derive(Default)]
 pub struct Reached {
     answers: BTreeMap<(Kind, i32, i32), u64>,
+    /// E_NOEXS for a task that is not there.
+    nobody: BTreeMap<(Kind, i32), u64>,
     cells: BTreeMap<i32, u64>,
 }
 
 impl Reached {
-    /// `open`: whether a handler was before the event.
-    pub fn answer(&mut self, event: Event, open: bool, code: i32) {
+    /// By the state before the event.
+    pub fn answer(&mut self, before: &Plain, event: Event, code: i32) {
         let call = match event {
-            Event::Call { number, .. } if (1..=32).contains(&number) => number,
+            Event::Call { number, .. } if (1..=CALLS).contains(&number) => number,
             _ => NO_CALL,
         };
-        let reached = (Kind::of(event, open), call, code);
-        *self.answers.entry(reached).or_default() += 1;
+        let kind = Kind::of(event, before.depth() > 0);
+        *self.answers.entry((kind, call, code)).or_default() += 1;
+        if code == E_NOEXS && names_nobody(before, event) {
+            *self.nobody.entry((kind, call)).or_default() += 1;
+        }
     }
 
     pub fn cell(&mut self, code: i32) {
@@ -161,12 +193,24 @@ impl Reached {
                 "(kind, call, code) not reached: {missing:?}; not in the paper: {strange:?}"
             ));
         }
+        let nobody = on_nobody();
+        if !self
+            .nobody
+            .keys()
+            .eq(nobody.iter().collect::<BTreeSet<_>>())
+        {
+            return Err(format!(
+                "calls on a task that is not there: {:?}, not {nobody:?}",
+                self.nobody
+            ));
+        }
         if CELL_CODES.iter().any(|code| !self.cells.contains_key(code)) {
             return Err(format!("cells only had {:?}", self.cells.keys()));
         }
         let mut lines = format!(
-            "all {} kinds of call and code were reached\n",
-            expected.len()
+            "all {} kinds of call and code were reached, and all {} of calls on a task that is not there\n",
+            expected.len(),
+            nobody.len()
         );
         for (code, times) in self.codes() {
             lines += &format!("  code {code:6}: {times:8} answers\n");

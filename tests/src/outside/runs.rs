@@ -106,7 +106,7 @@ impl Tally {
         let before = pair.plain.clone();
         let answer = pair.event(event)?;
         self.events += 1;
-        self.reached.answer(event, before.depth() > 0, answer.code);
+        self.reached.answer(&before, event, answer.code);
         self.corners(&before, event, &pair.plain);
         self.looks.event(&before, event, &pair.plain, &answer);
         self.released_most = self.released_most.max(answer.released);

@@ -46,6 +46,9 @@ impl Kernel {
 
     fn is_task_in_range(&self, t: u32) -> bool {
         let task = self.at(t);
+        if task.status == ABSENT {
+            return Self::is_nothing(task);
+        }
         let own = |p: u32| (1..=self.priorities).contains(&p);
         let cell = task.code == 0 || matches!(task.code, E_TMOUT | E_RLWAI) && task.word == 0;
         let numbers = own(task.priority) && own(task.start) && task.wakeups <= 15 && cell;

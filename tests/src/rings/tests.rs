@@ -130,6 +130,7 @@ fn task_of(task: &Task) -> picture::Task {
             READY => Standing::Ready,
             SUSPEND => Standing::Suspend,
             WAIT => Standing::Wait(wait_of(task)),
+            ABSENT => Standing::Absent,
             _ => Standing::WaitSuspend(wait_of(task)),
         },
         wakeups: task.wakeups,
@@ -198,7 +199,9 @@ fn put_task(k: &mut Kernel, t: u32, from: &picture::Task) {
         Standing::Suspend => SUSPEND,
         Standing::Wait(_) => WAIT,
         Standing::WaitSuspend(_) => WAIT_SUSPEND,
+        Standing::Absent => ABSENT,
     };
+    task.start = from.start;
     task.priority = from.priority;
     task.wakeups = from.wakeups;
     (task.code, task.word) = from.cell;
@@ -211,7 +214,7 @@ fn put_task(k: &mut Kernel, t: u32, from: &picture::Task) {
 fn standing(p: &Picture) -> Kernel {
     let setup = Setup {
         priorities: p.priorities,
-        tasks: p.tasks.iter().map(|task| (task.start, false)).collect(),
+        tasks: p.tasks.iter().map(|_| (1, false)).collect(),
         semaphores: p.semaphores.clone(),
         flags: p.flags.clone(),
         mailboxes: p.mailboxes,
@@ -374,7 +377,7 @@ fn damage_is_found() {
     assert!(sound.is_sound());
     let t = sound.running;
     type Damage = fn(&mut Kernel, u32);
-    let damages: [(Damage, i32, u32); 22] = [
+    let damages: [(Damage, i32, u32); 25] = [
         (|k, _| k.priorities = 17, H_NUMBER, 0),
         (|k, _| k.ready ^= 1 << 3, H_NUMBER, 0),
         (|k, _| k.timed ^= 1, H_NUMBER, 0),
@@ -392,6 +395,9 @@ fn damage_is_found() {
         (|k, t| k.queue.link[t as usize].next = t, H_QUEUE, t),
         (|k, t| k.at_mut(t).wakeups = 16, H_NUMBER, 0),
         (|k, t| k.at_mut(t).status = SUSPEND, H_QUEUE, t),
+        (|k, t| k.at_mut(t).status = ABSENT, H_NUMBER, 0),
+        (|k, t| k.delete(t), H_QUEUE, t),
+        (|k, _| k.at_mut(1).start = 0, H_NUMBER, 0),
         (|k, t| k.at_mut(t).code = 7, H_NUMBER, 0),
         (|k, _| k.pattern[1] = 1 << 31, H_SERVED, waits),
         (|k, _| k.running = 0, H_NUMBER, 0),
@@ -421,13 +427,15 @@ fn hurt(random: &mut Random, k: &mut Kernel) {
     };
     let block = random.below(265) as usize;
     let p = random.below(k.pools + 1) as usize;
-    match random.below(15) {
+    match random.below(16) {
         0 => k.queue.link[random.below(105) as usize].next = node(random, k.tasks),
         1 => k.queue.link[random.below(105) as usize].prev = node(random, k.tasks),
         2 => k.mail.link[random.below(273) as usize].next = node(random, k.messages.max(1)),
         3 => k.mail.link[j].next = node(random, k.messages.max(1)),
         4 => k.mail.link[j].prev = node(random, k.messages.max(1)),
-        5 => k.at_mut(t).status = random.pick(&[DORMANT, READY, WAIT, SUSPEND, WAIT_SUSPEND]),
+        5 => {
+            k.at_mut(t).status = random.pick(&[DORMANT, READY, WAIT, SUSPEND, WAIT_SUSPEND, ABSENT])
+        }
         6 => k.at_mut(t).priority = random.below(k.priorities + 2),
         7 => k.at_mut(t).object = random.below(18),
         8 => k.count[random.below(17) as usize] = random.pick(&[0, 1, 65535, 65536]),
@@ -436,6 +444,7 @@ fn hurt(random: &mut Random, k: &mut Kernel) {
         11 => k.blocks.link[block].next = node(random, 264),
         12 => k.blocks.link[block].prev = node(random, 264),
         13 => k.free[p] ^= 1 << random.below(k.size[p].max(1)),
+        14 => k.delete(t),
         _ => k.depth = random.below(17),
     }
 }

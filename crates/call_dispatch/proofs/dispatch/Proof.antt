@@ -5,9 +5,9 @@ use mathlib.Core.Path.{refl}
 use mir.Facts.{toZ-ofZ}
 use Rattle.rules.specs.Codes.{number}
 use Rattle.rules.specs.State as Kind
-use Rattle.rules.specs.Tasks.{can-wup, chg-pri, ext-tsk, rel-wai, rot-rdq, rsm-tsk, sta-tsk, sus-tsk, ter-tsk, tsk-sts, wup-tsk}
+use Rattle.rules.specs.Tasks.{can-wup, chg-pri, cre-tsk, del-tsk, exd-tsk, ext-tsk, rel-wai, rot-rdq, rsm-tsk, sta-tsk, sus-tsk, ter-tsk, tsk-sts, wup-tsk}
 use Rattle.rules.specs.Objects.{clr-flg, obj-sts, rel-blk, set-flg, sig-sem, snd-msg, take-blk, take-flg, take-msg, take-sem, to-first}
-use Rattle.rules.specs.Rows.{staTsk, extTsk, terTsk, chgPri, rotRdq, relWai, susTsk, rsmTsk, slpTsk, waiTsk, wupTsk, canWup, sigSem, waiSem, preqSem, setFlg, clrFlg, waiFlg, polFlg, sndMsg, rcvMsg, prcvMsg, getBlk, pgetBlk, relBlk, getTid, tskSts, semSts, flgSts, mbxSts, mplSts, getTim}
+use Rattle.rules.specs.Rows.{staTsk, extTsk, terTsk, chgPri, rotRdq, relWai, susTsk, rsmTsk, slpTsk, waiTsk, wupTsk, canWup, sigSem, waiSem, preqSem, setFlg, clrFlg, waiFlg, polFlg, sndMsg, rcvMsg, prcvMsg, getBlk, pgetBlk, relBlk, getTid, tskSts, semSts, flgSts, mbxSts, mplSts, getTim, creTsk, delTsk, exdTsk}
 use Rattle.rules.specs.Table.{table}
 use Rattle.rules.proofs.Waits.{in-by}
 use Rattle.check_ranges.specs.Ranges.{every}
@@ -321,8 +321,35 @@ get-tim-requires c κs = search needs
 refuse-requires-32 : tie.Need-refuse-requires-32
 refuse-requires-32 c κs = search needs
 
+on-priority-requires-2 : tie.Need-on-priority-requires-2
+on-priority-requires-2 c κs = search needs
+
+cre-tsk-requires : tie.Need-cre-tsk-requires
+cre-tsk-requires c κs = search needs
+
 refuse-requires-33 : tie.Need-refuse-requires-33
 refuse-requires-33 c κs = search needs
+
+on-task-requires-9 : tie.Need-on-task-requires-9
+on-task-requires-9 c κs = search needs
+
+del-tsk-requires : tie.Need-del-tsk-requires
+del-tsk-requires c κs = search needs
+
+refuse-requires-34 : tie.Need-refuse-requires-34
+refuse-requires-34 c κs = search needs
+
+on-nothing-requires-5 : tie.Need-on-nothing-requires-5
+on-nothing-requires-5 c κs = search needs
+
+exd-tsk-requires : tie.Need-exd-tsk-requires
+exd-tsk-requires c κs = search needs
+
+refuse-requires-35 : tie.Need-refuse-requires-35
+refuse-requires-35 c κs = search needs
+
+refuse-requires-36 : tie.Need-refuse-requires-36
+refuse-requires-36 c κs = search needs
 
 returns : tie.Need-returns
 unfolding table staTsk sta-tsk
@@ -1095,11 +1122,83 @@ returns-64 c =
     arm-refused 31 (λ v. getTim v) (start .args .handler) (start .args .me) (start .args .a) (start .args .b) (start .args .c) (arm .match .keys32) (λ v. refl) (λ A. (judge .on-nothing4 .ensures) _ A) (code-other (judge .on-nothing4 .ok) (some .match33 .rest)) (rw (signed _ (judge .on-nothing4 .ok)) at (c .refuse32 .ensures))
 
 returns-65 : tie.Need-returns-65
-unfolding number every keyed
+unfolding table creTsk cre-tsk
 returns-65 c =
+    let none = c .before .before in
+    let judge = none .before in
+    let arm = judge .before .before in
+    let at-p = arm .before in
+    let at-j = at-p .before in
+    let at-i = at-j .before in
+    let start = at-i .before in
+    arm-done 32 (λ v. creTsk v (start .args .a) (start .args .b)) (start .args .handler) (start .args .me) (start .args .a) (start .args .b) (start .args .c) (arm .match .keys33) (λ v. refl) (λ A. rw (rw (toZ-ofZ (start .fits .a)) at (at-i .named .ensures), rw (toZ-ofZ (start .fits .b)) at (at-j .named2 .ensures)) at ((judge .on-priority2 .ensures) _ A)) (code-zero (judge .on-priority2 .ok) (none .match34 .keys1)) (λ A t. (rw (rw (toZ-ofZ (start .fits .a)) at (at-i .named .ensures), rw (toZ-ofZ (start .fits .b)) at (at-j .named2 .ensures)) at (c .cre-tsk .ensures)) _ A (in-by (start .args .a) _ (t .words .0)))
+
+returns-66 : tie.Need-returns-66
+unfolding table creTsk
+returns-66 c =
+    let some = c .before in
+    let judge = some .before in
+    let arm = judge .before .before in
+    let at-p = arm .before in
+    let at-j = at-p .before in
+    let at-i = at-j .before in
+    let start = at-i .before in
+    arm-refused 32 (λ v. creTsk v (start .args .a) (start .args .b)) (start .args .handler) (start .args .me) (start .args .a) (start .args .b) (start .args .c) (arm .match .keys33) (λ v. refl) (λ A. rw (rw (toZ-ofZ (start .fits .a)) at (at-i .named .ensures), rw (toZ-ofZ (start .fits .b)) at (at-j .named2 .ensures)) at ((judge .on-priority2 .ensures) _ A)) (code-other (judge .on-priority2 .ok) (some .match34 .rest)) (rw (signed _ (judge .on-priority2 .ok)) at (c .refuse33 .ensures))
+
+returns-67 : tie.Need-returns-67
+unfolding table delTsk del-tsk
+returns-67 c =
+    let none = c .before .before in
+    let judge = none .before in
+    let arm = judge .before .before in
+    let at-p = arm .before in
+    let at-j = at-p .before in
+    let at-i = at-j .before in
+    let start = at-i .before in
+    arm-done 33 (λ v. delTsk v (start .args .a)) (start .args .handler) (start .args .me) (start .args .a) (start .args .b) (start .args .c) (arm .match .keys34) (λ v. refl) (λ A. rw (rw (toZ-ofZ (start .fits .a)) at (at-i .named .ensures)) at ((judge .on-task9 .ensures) _ A)) (code-zero (judge .on-task9 .ok) (none .match35 .keys1)) (λ A t. (rw (rw (toZ-ofZ (start .fits .a)) at (at-i .named .ensures)) at (c .del-tsk .ensures)) _ A (in-by (start .args .a) _ (t .words .0)))
+
+returns-68 : tie.Need-returns-68
+unfolding table delTsk
+returns-68 c =
+    let some = c .before in
+    let judge = some .before in
+    let arm = judge .before .before in
+    let at-p = arm .before in
+    let at-j = at-p .before in
+    let at-i = at-j .before in
+    let start = at-i .before in
+    arm-refused 33 (λ v. delTsk v (start .args .a)) (start .args .handler) (start .args .me) (start .args .a) (start .args .b) (start .args .c) (arm .match .keys34) (λ v. refl) (λ A. rw (rw (toZ-ofZ (start .fits .a)) at (at-i .named .ensures)) at ((judge .on-task9 .ensures) _ A)) (code-other (judge .on-task9 .ok) (some .match35 .rest)) (rw (signed _ (judge .on-task9 .ok)) at (c .refuse34 .ensures))
+
+returns-69 : tie.Need-returns-69
+unfolding table exdTsk exd-tsk
+returns-69 c =
+    let none = c .before .before in
+    let judge = none .before in
+    let arm = judge .before .before in
+    let at-p = arm .before in
+    let at-j = at-p .before in
+    let at-i = at-j .before in
+    let start = at-i .before in
+    arm-done 34 (λ v. exdTsk v (start .args .me)) (start .args .handler) (start .args .me) (start .args .a) (start .args .b) (start .args .c) (arm .match .keys35) (λ v. refl) (λ A. (judge .on-nothing5 .ensures) _ A) (code-zero (judge .on-nothing5 .ok) (none .match36 .keys1)) (λ A t. (c .exd-tsk .ensures) _ A tt)
+
+returns-70 : tie.Need-returns-70
+unfolding table exdTsk
+returns-70 c =
+    let some = c .before in
+    let judge = some .before in
+    let arm = judge .before .before in
+    let at-p = arm .before in
+    let at-j = at-p .before in
+    let at-i = at-j .before in
+    let start = at-i .before in
+    arm-refused 34 (λ v. exdTsk v (start .args .me)) (start .args .handler) (start .args .me) (start .args .a) (start .args .b) (start .args .c) (arm .match .keys35) (λ v. refl) (λ A. (judge .on-nothing5 .ensures) _ A) (code-other (judge .on-nothing5 .ok) (some .match36 .rest)) (rw (signed _ (judge .on-nothing5 .ok)) at (c .refuse35 .ensures))
+
+returns-71 : tie.Need-returns-71
+unfolding number every keyed
+returns-71 c =
     let arm = c .before in
     let start = arm .before .before .before .before in
-    arm-none (start .args .handler) (start .args .me) (start .args .n) (start .args .a) (start .args .b) (start .args .c) (λ v. no-row v _ _ _ _ _ _ ((32 ∷ []) ∷ (31 ∷ []) ∷ (30 ∷ []) ∷ (29 ∷ []) ∷ (28 ∷ []) ∷ (27 ∷ []) ∷ (26 ∷ []) ∷ (25 ∷ []) ∷ (24 ∷ []) ∷ (23 ∷ []) ∷ (22 ∷ []) ∷ (21 ∷ []) ∷ (20 ∷ []) ∷ (19 ∷ []) ∷ (18 ∷ []) ∷ (17 ∷ []) ∷ (16 ∷ []) ∷ (15 ∷ []) ∷ (14 ∷ []) ∷ (13 ∷ []) ∷ (12 ∷ []) ∷ (11 ∷ []) ∷ (10 ∷ []) ∷ (9 ∷ []) ∷ (8 ∷ []) ∷ (7 ∷ []) ∷ (6 ∷ []) ∷ (5 ∷ []) ∷ (4 ∷ []) ∷ (3 ∷ []) ∷ (2 ∷ []) ∷ (1 ∷ []) ∷ []) refl (arm .match .rest)) (c .refuse33 .ensures)
+    arm-none (start .args .handler) (start .args .me) (start .args .n) (start .args .a) (start .args .b) (start .args .c) (λ v. no-row v _ _ _ _ _ _ ((35 ∷ []) ∷ (34 ∷ []) ∷ (33 ∷ []) ∷ (32 ∷ []) ∷ (31 ∷ []) ∷ (30 ∷ []) ∷ (29 ∷ []) ∷ (28 ∷ []) ∷ (27 ∷ []) ∷ (26 ∷ []) ∷ (25 ∷ []) ∷ (24 ∷ []) ∷ (23 ∷ []) ∷ (22 ∷ []) ∷ (21 ∷ []) ∷ (20 ∷ []) ∷ (19 ∷ []) ∷ (18 ∷ []) ∷ (17 ∷ []) ∷ (16 ∷ []) ∷ (15 ∷ []) ∷ (14 ∷ []) ∷ (13 ∷ []) ∷ (12 ∷ []) ∷ (11 ∷ []) ∷ (10 ∷ []) ∷ (9 ∷ []) ∷ (8 ∷ []) ∷ (7 ∷ []) ∷ (6 ∷ []) ∷ (5 ∷ []) ∷ (4 ∷ []) ∷ (3 ∷ []) ∷ (2 ∷ []) ∷ (1 ∷ []) ∷ []) refl (arm .match .rest)) (c .refuse36 .ensures)
 
 pub dispatch-spec : {M : Type 1} → statement M
 dispatch-spec =
@@ -1206,7 +1305,16 @@ dispatch-spec =
     on-nothing-requires-4
     get-tim-requires
     refuse-requires-32
+    on-priority-requires-2
+    cre-tsk-requires
     refuse-requires-33
+    on-task-requires-9
+    del-tsk-requires
+    refuse-requires-34
+    on-nothing-requires-5
+    exd-tsk-requires
+    refuse-requires-35
+    refuse-requires-36
     returns
     returns-2
     returns-3
@@ -1271,4 +1379,10 @@ dispatch-spec =
     returns-62
     returns-63
     returns-64
-    returns-65)
+    returns-65
+    returns-66
+    returns-67
+    returns-68
+    returns-69
+    returns-70
+    returns-71)

@@ -2,7 +2,7 @@
 use Rattle.rules.specs.Codes.{number}
 use Rattle.call_words.proofs.Signed.{saying}
 use Rattle.call_judging.proofs.Refused.{word-stops, word-passes}
-use Rattle.rules.specs.Rows.{both}
+use Rattle.call_judging.specs.Judging.{contextOf}
 use Rattle.call_judging.proofs.Judged.{task-is, priority-is, named-passed}
 use borrow.Author.Needs.{needs}
 use Rattle.call_judging.proofs.on_priority.Statement.{statement}
@@ -51,7 +51,7 @@ returns-3 c =
     let at-is-outside = first .before in
     let at-system = at-is-outside .before in
     let start = at-system .before in
-    λ m A. word-passes _ _ (task-is (start .args .i) _ m (at-system .system .ensures) (at-is-outside .is-outside .ensures)) (first .if1 .left) (word-passes _ _ (priority-is (start .args .p) _ m (at-system2 .system2 .ensures) (at-is-outside2 .is-outside2 .ensures)) (second .if2 .left) (named-passed both (start .args .handler) (start .args .me) 2 (start .args .i) _ m (at-system .system .ensures) (at-is-outside .is-outside .ensures) (first .if1 .left) (saying _ (c .common .ok) (c .common .ensures))))
+    λ m A. word-passes _ _ (task-is (start .args .i) _ m (at-system .system .ensures) (at-is-outside .is-outside .ensures)) (first .if1 .left) (word-passes _ _ (priority-is (start .args .p) _ m (at-system2 .system2 .ensures) (at-is-outside2 .is-outside2 .ensures)) (second .if2 .left) (named-passed (contextOf (start .args .strict)) (start .args .handler) (start .args .me) (start .args .target) (start .args .i) _ m (at-system .system .ensures) (at-is-outside .is-outside .ensures) (first .if1 .left) (saying _ (c .common .ok) (c .common .ensures))))
 
 pub on-priority-spec : {M : Type 1} → statement M
 on-priority-spec = tie.close (tie.spec system-requires is-outside-requires returns system-requires-2 is-outside-requires-2 returns-2 common-requires returns-3)

@@ -2,7 +2,7 @@
 use super::{sketched, Tally};
 use okrozumba::State;
 use second::layout::{self, Links, BLOCK_LINKS, MAIL_LINKS, TASK_LINKS};
-use second::picture::{Object, Picture, Queues, Wait, H_NUMBER};
+use second::picture::{Object, Picture, Queues, Standing, Wait, ABSENT, H_NUMBER};
 use second::random::Random;
 
 const AIMED: u64 = 60_000;
@@ -97,6 +97,24 @@ fn serve_waiter(random: &mut Random, p: &mut Picture) {
     }
 }
 
+/// A task is no more, wherever it stood; or something of it stays.
+fn unmake(random: &mut Random, p: &mut Picture) {
+    let task = random.below(p.tasks.len() as u32) as usize;
+    let was = std::mem::replace(&mut p.tasks[task], ABSENT);
+    let task = &mut p.tasks[task];
+    match random.below(10) {
+        0 => task.start = was.start,
+        1 => task.priority = was.priority,
+        2 => task.wakeups = was.wakeups,
+        3 => task.cell = was.cell,
+        4 => {
+            *task = was;
+            task.standing = Standing::Absent;
+        }
+        _ => {}
+    }
+}
+
 /// A block comes into a pool's free queue, once more or wrongly, or leaves it, or its mark is changed.
 fn misplace_block(random: &mut Random, p: &mut Picture) {
     let pools = p.pools.len() as u32;
@@ -162,7 +180,7 @@ fn join_mail(random: &mut Random, state: &State, mail: &Queues) -> State {
 
 /// By turns nothing, one thing or two.
 fn changed(random: &mut Random, p: &mut Picture) {
-    match random.below(11) {
+    match random.below(13) {
         0 => interrupt_any(random, p),
         1..=3 => misplace(random, p),
         4 | 5 => serve_waiter(random, p),
@@ -175,6 +193,7 @@ fn changed(random: &mut Random, p: &mut Picture) {
             misplace(random, p);
             misplace_block(random, p);
         }
+        10 | 11 => unmake(random, p),
         _ => {}
     }
 }

@@ -1,4 +1,4 @@
-//! Damage worked by hand from the documented layout: which words are overwritten, and what requests K6 and K7 tell of them.
+//! Damage worked by hand from the documented layout: which words are overwritten, and what requests K6, K7 and K9 tell of them.
 use super::{with_word, Tally};
 use crate::pair::Pair;
 use okrozumba::STATE_WORDS;
@@ -41,6 +41,13 @@ const fn mark(message: usize) -> usize {
     STATE_WORDS + message - 1
 }
 
+/// Of task 3: its state, and what else a task has.
+const STATE_OF_3: usize = 3;
+const PRIORITY_OF_3: usize = 36;
+const START_OF_3: usize = 69;
+const WAKEUPS_OF_3: usize = 102;
+const CODE_OF_3: usize = 135;
+const WORD_OF_3: usize = 168;
 const WAKEUPS_OF_1: usize = 100;
 const COUNT: usize = 574;
 const PATTERN: usize = 591;
@@ -62,6 +69,7 @@ const FREE_2: u32 = 258;
 // ---- calls
 
 const START_3: [i32; 4] = [1, 3, 0, 0];
+const DELETE_3: [i32; 4] = [34, 3, 0, 0];
 const WAIT_SEMAPHORE: [i32; 4] = [14, 1, 0, 0];
 const SEND_1: [i32; 4] = [20, 1, 1, 0];
 const SEND_2: [i32; 4] = [20, 1, 2, 0];
@@ -367,6 +375,88 @@ const ON_ITS_POOL: [Worked; 18] = [
     ),
 ];
 
+/// On the sheet too, mostly with task 3 deleted.
+const ON_TASK_3: [Worked; 13] = [
+    (
+        "it is not there and has a priority",
+        &[DELETE_3],
+        &[(PRIORITY_OF_3, 1)],
+        (H_NUMBER, 0),
+    ),
+    (
+        "it is not there and has a starting priority",
+        &[DELETE_3],
+        &[(START_OF_3, 1)],
+        (H_NUMBER, 0),
+    ),
+    (
+        "it is not there and has both",
+        &[DELETE_3],
+        &[(START_OF_3, 1), (PRIORITY_OF_3, 1)],
+        (H_NUMBER, 0),
+    ),
+    (
+        "it is not there and has a wake-up",
+        &[DELETE_3],
+        &[(WAKEUPS_OF_3, 1)],
+        (H_NUMBER, 0),
+    ),
+    (
+        "it is not there and its cell has a code",
+        &[DELETE_3],
+        &[(CODE_OF_3, 2)],
+        (H_NUMBER, 0),
+    ),
+    (
+        "it is not there and its cell has a word",
+        &[DELETE_3],
+        &[(WORD_OF_3, 7)],
+        (H_NUMBER, 0),
+    ),
+    (
+        "it is not there and stands in a queue",
+        &[DELETE_3],
+        &[(next(33), 3), (next(3), READY_1)],
+        (H_QUEUE, 3),
+    ),
+    (
+        "it is not there and leads on",
+        &[DELETE_3],
+        &[(next(3), READY_1)],
+        (H_NUMBER, 0),
+    ),
+    (
+        "it is not there and was interrupted",
+        &[DELETE_3],
+        &[(HANDLERS, 1), (INTERRUPTED, 3)],
+        (H_NUMBER, 0),
+    ),
+    (
+        "it is not there, and its state says dormant",
+        &[DELETE_3],
+        &[(STATE_OF_3, 0)],
+        (H_NUMBER, 0),
+    ),
+    (
+        "it is there, and its state says that it is not",
+        &[],
+        &[(STATE_OF_3, 6)],
+        (H_NUMBER, 0),
+    ),
+    (
+        "it is ready, and all of it but its place is gone",
+        &[START_3],
+        &[(STATE_OF_3, 6), (PRIORITY_OF_3, 0), (START_OF_3, 0)],
+        (H_QUEUE, 3),
+    ),
+    (
+        "it has a state that there is not",
+        &[DELETE_3],
+        &[(STATE_OF_3, 7)],
+        (H_NUMBER, 0),
+    ),
+];
+
 /// One task, two pools of two blocks.
 const TWO_POOLS: [u32; 11] = [1, 1, 1, 1, 0, 0, 0, 0, 2, 2, 2];
 
@@ -429,9 +519,10 @@ fn judge(tally: &mut Tally, words: &[u32], worked: &Worked) -> Result<(), String
 
 /// Gives how many there are.
 pub fn check(tally: &mut Tally) -> Result<usize, String> {
-    let memories: [(&[u32], &[Worked]); 4] = [
+    let memories: [(&[u32], &[Worked]); 5] = [
         (&SHEET, &ON_SHEET),
         (&SHEET, &ON_ITS_POOL),
+        (&SHEET, &ON_TASK_3),
         (&TWO_MAILBOXES, &ON_TWO_MAILBOXES),
         (&TWO_POOLS, &ON_TWO_POOLS),
     ];
