@@ -1,22 +1,21 @@
--- What a task's cell reads along a chain: of a task that an event neither releases nor starts it reads as before. Assumes nothing.
-use mathlib.Core.Bool.{Bool, true, false, cond, false≢true}
+-- What a task's cell reads along a chain: of a task that an event neither releases nor starts nor deletes it reads as before. Assumes nothing.
+use mathlib.Core.Bool.{Bool, true, false, false≢true}
 use mathlib.Core.List.{List, [], _∷_}
-use mathlib.Core.Logic.{inl, inr}
+use mathlib.Core.Logic.{_≢_}
 use mathlib.Core.Path.{_≡_, refl, sym, ap, _∙_}
 use Prim.Native.Nat.{ℕ}
 use native.Mathlib.Decide.{ℕ-discrete}
 use lib.IntN.{ℤ, pos, negsuc, ℤ-discrete}
 use Rattle.rules.specs.Codes.{E-NOEXS, number, negative, inDamage, tellsDamage}
 use Rattle.rules.specs.State.{Cell, task}
-use Rattle.rules.specs.Events.{Event, outside}
+use Rattle.rules.specs.Events.{Event}
 use Rattle.rules.specs.View.{View}
 use Rattle.rules.specs.Answers.{readCell}
 use Rattle.rules.specs.Breach.{breach}
 use Rattle.rules.specs.Kernel.{next}
 use Rattle.rules.specs.Broken.{isFresh, Unless}
 use Rattle.rules.proofs.Breach.{breach-tells}
-use Rattle.rules.proofs.Broken.{cell-kept, tasks-next}
-use Rattle.rules.proofs.Cells.{Kept}
+use Rattle.rules.proofs.Broken.{read-kept, read-there}
 use Rattle.rules.proofs.Events.{event-next}
 use Rattle.memory_picture.specs.Picture.{viewShown, Accepted}
 use Rattle.kernel_events.specs.Steps.{Reply, Link, Step, Chain}
@@ -29,26 +28,19 @@ use Rattle.brightness.specs.DarkRoom.{stateIn, UntilFreed}
 abbrev pub cellOf : View → ℕ → Cell
 cellOf v t = readCell (v .body) (pos t)
 
-cell-stays : (v : View) (e : Event) (t : ℕ) → isFresh (task (v .body) t .state) (task (next v e .body) t .state) ≡ false → cellOf (next v e) t ≡ cellOf v t
-unfolding readCell
-cell-stays v e t h = λ z. cond (outside (pos t) (tasks-next v e z)) (record { code = E-NOEXS; word = 0 }) (same (cell-kept v e t) z)
-  where
-    same : Kept (task (v .body) t) (task (next v e .body) t) → task (next v e .body) t .cell ≡ task (v .body) t .cell
-    same (inl k) = k
-    same (inr k) = absurd (false≢true (sym h ∙ k))
-
 -- the memory is sound, and the cell of task t is this one
 pub record Holds (t : ℕ) (x : Cell) (b m : List ℕ) : Type 0 where
   pub accepted : Accepted b m
   pub cell : cellOf (viewShown b m) t ≡ x
 
-holds-on : {t : ℕ} {x : Cell} {b m : List ℕ} (k : Link) → Holds t x b m → Step (k .event) b m (k .reply) (k .words) (k .marks)
+holds-on : {t : ℕ} {x : Cell} {b m : List ℕ} (k : Link) → x .code ≢ E-NOEXS → Holds t x b m → Step (k .event) b m (k .reply) (k .words) (k .marks)
     → isFresh (stateIn b m t) (stateIn (k .words) (k .marks) t) ≡ false → Holds t x (k .words) (k .marks)
-holds-on {t} {b = b} {m} k H S f =
+holds-on {t} {b = b} {m} k n H S f =
     let A = H .accepted in
     let e : viewShown (k .words) (k .marks) ≡ next (viewShown b m) (k .event) = S .shows A ∙ event-next (viewShown b m) (k .event) (A .sound) in
     let g = ap (λ (v : View). isFresh (stateIn b m t) (task (v .body) t .state)) (sym e) ∙ f in
-    record { accepted = S .accepted A; cell = ap (λ (v : View). cellOf v t) e ∙ cell-stays (viewShown b m) (k .event) t g ∙ H .cell }
+    let there = read-there (viewShown b m .body) (pos t) (λ c. n (ap (λ (y : Cell). y .code) (sym (H .cell)) ∙ c)) in
+    record { accepted = S .accepted A; cell = ap (λ (v : View). cellOf v t) e ∙ read-kept (viewShown b m) (k .event) (pos t) there g ∙ H .cell }
 
 -- ---- a chain
 
@@ -61,9 +53,9 @@ cell-is H code word R =
     let r = R .sound (H .accepted) in
     (r .0 ∙ ap (λ (y : Cell). number (y .code)) (H .cell), r .1 ∙ ap (λ (y : Cell). y .word) (H .cell))
 
-pub cell-until : {t : ℕ} {x : Cell} {b m : List ℕ} (l : List Link) → Holds t x b m → Chain b m l → UntilFreed t (CellIs t x) b m l
-cell-until [] H C = cell-is H
-cell-until {t} {x} {b} {m} (k ∷ l) H C = (cell-is H, go (isFresh (stateIn b m t) (stateIn (k .words) (k .marks) t)) refl (λ f. cell-until l (holds-on k H (C .0) f) (C .1)))
+pub cell-until : {t : ℕ} {x : Cell} {b m : List ℕ} (l : List Link) → x .code ≢ E-NOEXS → Holds t x b m → Chain b m l → UntilFreed t (CellIs t x) b m l
+cell-until [] n H C = cell-is H
+cell-until {t} {x} {b} {m} (k ∷ l) n H C = (cell-is H, go (isFresh (stateIn b m t) (stateIn (k .words) (k .marks) t)) refl (λ f. cell-until l n (holds-on k n H (C .0) f) (C .1)))
   where
     go : (u : Bool) {A : Type 0} → isFresh (stateIn b m t) (stateIn (k .words) (k .marks) t) ≡ u → (isFresh (stateIn b m t) (stateIn (k .words) (k .marks) t) ≡ false → A) → Unless u A
     go true f h = tt

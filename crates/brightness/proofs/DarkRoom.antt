@@ -1,20 +1,21 @@
 -- Along every chain of events, from any memory: a wait that is broken off leaves the level, and a reading gives its slot's. Assumes nothing.
 use mathlib.Core.Bool.{Bool, true, false, cond, true≢false}
 use mathlib.Core.List.{List, [], _∷_, _++_}
+use mathlib.Core.Logic.{_≢_}
 use mathlib.Core.Path.{_≡_, refl, sym, ap, _∙_}
 use Prim.Native.Nat.{ℕ, _≤_}
 use native.Mathlib.Omega.{arith}
 use lib.Dec.{eqb}
 use lib.IntN.{ℤ, pos, negsuc}
 use borrow.Author.Tests.{le-leb, eqb-true}
-use Rattle.rules.specs.Codes.{OK, E-RLWAI, number, negative}
+use Rattle.rules.specs.Codes.{OK, E-NOEXS, E-RLWAI, number, negative}
 use Rattle.rules.specs.State.{Cell}
 use Rattle.rules.specs.Events.{Event, tick, enter, exit, call}
 use Rattle.rules.specs.View.{View}
 use Rattle.rules.specs.Answers.{answer}
 use Rattle.rules.specs.Broken.{broken, BreaksOff}
 use Rattle.rules.specs.Kernel.{Outcome, next, served, event, cell}
-use Rattle.rules.proofs.Broken.{stays-broken}
+use Rattle.rules.proofs.Broken.{stays-broken, broken-read}
 use Rattle.rules.specs.Table.{judge}
 use Rattle.rules.proofs.Events.{cell-reads, event-served, event-next}
 use Rattle.memory_picture.specs.Picture.{viewShown, Accepted}
@@ -95,7 +96,7 @@ broken-holds {t} {x} {y} {z} {b} {m} {b′ = b′} {m′} S k A =
     }
 
 module _ {b m : List ℕ} (k : Link) (l : List Link) (C : Chain b m (k ∷ l)) (t : ℕ) where
-  -- from the rel_wai on, whatever `resumed` reads leaves the level, up to the event that releases or starts the task
+  -- from the rel_wai on, whatever `resumed` reads leaves the level, up to the event that releases, starts or deletes the task
   pub broken-off : BreaksOff (pos t) (k .event) (k .reply .code) → UntilFreed t (LevelStays t) (k .words) (k .marks) l
   broken-off = go (k .event) refl
     where
@@ -108,7 +109,7 @@ module _ {b m : List ℕ} (k : Link) (l : List Link) (C : Chain b m (k ∷ l)) (
           let g : negative (k .reply .code) ≡ false = ap negative (B .2) in
           let i = by-id t (let h = S .words .2 in omega arith) in
           until-map t (broken-stays t i) (k .words) (k .marks) l
-          (sure-until (not-refused S g) t broken (k .words) (k .marks) l (λ A. cell-until l (broken-holds S (B .2) A) (C .1)))
+          (sure-until (not-refused S g) t broken (k .words) (k .marks) l (λ A. cell-until l broken-read (broken-holds S (B .2) A) (C .1)))
 
 -- at every rel_wai of every chain, from any memory
 pub broken-leaves-level : (b m : List ℕ) (l : List Link) → Chain b m l → BrokenStays l
@@ -158,7 +159,7 @@ broken-later : (b m : List ℕ) (l : List Link) (k : Link) (l′ : List Link) �
 broken-later b m [] k l′ C t B = broken-off k l′ C t B
 broken-later b m (x ∷ l) k l′ C t B = broken-later (x .words) (x .marks) l k l′ (C .1) t B
 
--- A task asks for a reading and waits; later its wait is broken off. From then on, up to the event that releases or starts the task, whatever
+-- A task asks for a reading and waits; later its wait is broken off. From then on, up to the event that releases, starts or deletes the task, whatever
 -- `resumed` makes of the light has the level from before the task asked.
 pub dark-room : {c : Curve} {s : List ℕ} {l : Light} {a : ℤ} {b m : List ℕ} {r : Shown} {b′ m′ : List ℕ} → Receives c s l a b m r b′ m′ → r .news ≡ Waits
     → (before : List Link) (k : Link) (later : List Link) → Chain b′ m′ (before ++ k ∷ later) → BreaksOff (pos (r .light .waits)) (k .event) (k .reply .code)
@@ -209,11 +210,14 @@ lying-gives {c} {s} {l} {a} {b} {m} {r} {b′} {m′} g R j more e n = go (negat
         let w = sure-words (not-refused (G .step) f) (first f) in
         G .shows ∙ ap (λ (z : ℤ). heardOf c s l (G .caller) z (G .reply .w1)) (w .0) ∙ ap (λ (i : ℕ). heardOf c s l (G .caller) (pos 0) i) (w .1) ∙ heard-message c s l (G .caller) j g
 
--- A message that arrives while a task waits first in the mailbox's queue: from then on, up to the event that releases or starts the task again,
+served-read : OK ≢ E-NOEXS
+served-read e = let z : _≡_ {A = ℕ} 0 1 = cc in omega arith
+
+-- A message that arrives while a task waits first in the mailbox's queue: from then on, up to the event that releases, starts or deletes the task again,
 -- whatever `resumed` makes of its light once the task runs is what the message gives.
 pub arriving-gives : {b m : List ℕ} (k : Link) (l : List Link) → Chain b m (k ∷ l) → (x a z : ℤ) (j : ℕ) → k .event ≡ call x (pos 20) a (pos j) z → k .reply .code ≡ pos 0
     → (t : ℕ) (more : List ℕ) → waitersIn b m a ≡ t ∷ more → UntilFreed t (GivesSlot t j) (k .words) (k .marks) l
-arriving-gives {b} {m} k l C x a z j f g t more e = until-map t (reading-gives′) (k .words) (k .marks) l (sure-until sure t (record { code = OK; word = j }) (k .words) (k .marks) l (λ A. cell-until l (holds A) (C .1)))
+arriving-gives {b} {m} k l C x a z j f g t more e = until-map t (reading-gives′) (k .words) (k .marks) l (sure-until sure t (record { code = OK; word = j }) (k .words) (k .marks) l (λ A. cell-until l served-read (holds A) (C .1)))
   where
     S : Step (call x (pos 20) a (pos j) z) b m (k .reply) (k .words) (k .marks)
     S = rw f at (C .0)

@@ -25,7 +25,7 @@ use Rattle.rules.proofs.Cells.{body-acts}
 use Rattle.rules.proofs.Ids.{of-put-same, length-put, tested}
 use Rattle.rules.proofs.Judge.{bad, by-check, by-row}
 use Rattle.rules.proofs.Queues.{first-belongs}
-use Rattle.rules.proofs.States.{waits-by}
+use Rattle.rules.proofs.States.{freed-tells, waits-by}
 use Rattle.rules.proofs.Waits.{in-by}
 
 -- a refusal's code is negative
@@ -81,7 +81,7 @@ unfolding readCell after
 released-cell b t c w h =
     let i = tested (λ u. isWaiting (u .state)) (b .tasks) t nobody refl h in
     let new = releasedTask c w (task b t) in
-    rw (length-put (b .tasks) t new, le-leb _ _ (i .0), le-leb _ _ (i .1), of-put-same (b .tasks) t new nobody i, h)
+    rw (length-put (b .tasks) t new, le-leb _ _ (i .0), le-leb _ _ (i .1), of-put-same (b .tasks) t new nobody i, h, freed-tells (task b t .state) h .3)
 
 -- the first in a mailbox's queue waits
 first-waits : (v : View) (o : ℕ) {t : ℕ} {l : List ℕ} → Sound v → In o (v .body .store .mailboxes) → line v (waiters mailbox o) ≡ t ∷ l → isWaiting (task (v .body) t .state) ≡ true

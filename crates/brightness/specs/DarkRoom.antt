@@ -23,7 +23,7 @@ use Rattle.brightness.specs.Readings.{Resumes}
 abbrev pub stateIn : List ℕ → List ℕ → ℕ → State
 stateIn b m t = task (viewShown b m .body) t .state
 
--- P of the memory, now and after each event of a chain, up to the event that releases or starts task t
+-- P of the memory, now and after each event of a chain, up to the event that releases, starts or deletes task t
 abbrev pub UntilFreed : ℕ → (List ℕ → List ℕ → Type 0) → List ℕ → List ℕ → List Link → Type 0
 UntilFreed t P b m [] = P b m
 UntilFreed t P b m (k ∷ l) = P b m × Unless (isFresh (stateIn b m t) (stateIn (k .words) (k .marks) t)) (UntilFreed t P (k .words) (k .marks) l)

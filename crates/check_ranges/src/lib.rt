@@ -1,7 +1,7 @@
 // The first part of the check of a memory: numbers lie in their ranges. Each task, object and message that the counts name is looked at once,
 // the interrupted task once more.
-use memory_columns::ASLEEP;
 use memory_columns::ABSENT;
+use memory_columns::ASLEEP;
 use memory_columns::CELL_OK;
 use memory_columns::CELL_RLWAI;
 use memory_columns::CELL_TMOUT;

@@ -20,7 +20,7 @@ use Rattle.memory_queues.specs.Moves.{readyAnchor}
 use Rattle.memory_running.specs.Running.{headAt, marksOf, readyMarks}
 use Rattle.memory_picture.specs.Picture.{taskShown, storeShown, handlersShown, bodyShown, lineShown, viewShown, Accepted}
 use Rattle.memory_picture.proofs.FormWords.{back-clock}
-use Rattle.check_ranges.specs.Ranges.{sizesOk, taskOk, waitOk, stateOk, semaphoreOk, flagOk, poolOk, messageOk, openOk, interruptedOk, rangesOk}
+use Rattle.check_ranges.specs.Ranges.{sizesOk, presentOk, vacantOk, taskOk, waitOk, stateOk, semaphoreOk, flagOk, poolOk, messageOk, openOk, interruptedOk, rangesOk}
 use Rattle.check_queues.specs.Queues.{home, blockHome, atHome, queuedIn}
 use Rattle.check_state.specs.Unserved.{waitFree, unservedOk, accepts}
 use Rattle.check_state.proofs.Accepted.{accepts-law}
@@ -79,8 +79,8 @@ module _ {b m : List ℕ} (A : Accepted b m) (t : ℕ) where
 
     -- no other test reads the clock
     tests : accepts (clockSet t b) m ≡ accepts b m
-    unfolding accepts rangesOk queuedIn taskOk stateOk waitOk poolOk openOk interruptedOk atHome home blockHome unservedOk waitFree
-    tests = simp (sizes, ready, col-store, counts, taskOk, semaphoreOk, flagOk, poolOk, messageOk, atHome, unservedOk)
+    unfolding accepts rangesOk queuedIn presentOk vacantOk taskOk stateOk waitOk poolOk openOk interruptedOk atHome home blockHome unservedOk waitFree
+    tests = simp (sizes, ready, col-store, counts, presentOk, vacantOk, taskOk, semaphoreOk, flagOk, poolOk, messageOk, atHome, unservedOk)
 
     pub clock-accepted : Accepted (clockSet t b) m
     clock-accepted = accepts-law (clockSet t b) m (simp length-store (A .whole .size)) (A .whole .marks) .0 (tests ∙ accepts-law b m (A .whole .size) (A .whole .marks) .1 A)

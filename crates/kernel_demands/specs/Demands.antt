@@ -88,7 +88,7 @@ WornEvenlyOnCode b m l = WornEvenly (seenAll b m l)
 abbrev pub stateIn : List ℕ → List ℕ → ℤ → State
 stateIn b m a = task (viewShown b m .body) (nat a) .state
 
--- along a chain `cell` gives E_RLWAI and 0 for task a, now and after each event, up to the event that releases or starts the task
+-- along a chain `cell` gives E_RLWAI and 0 for task a, now and after each event, up to the event that releases, starts or deletes the task
 abbrev pub StaysBrokenOnCode : ℤ → List ℕ → List ℕ → List Link → Type 0
 StaysBrokenOnCode a b m [] = CellIs b m a broken
 StaysBrokenOnCode a b m (k ∷ l) =
@@ -99,7 +99,7 @@ abbrev pub BrokenOnCode : List Link → Type 0
 BrokenOnCode [] = Unit {0}
 BrokenOnCode (k ∷ l) = ((x a y z : ℤ) → k .event ≡ call x (pos 6) a y z → k .reply .code ≡ pos 0 → StaysBrokenOnCode a (k .words) (k .marks) l) × BrokenOnCode l
 
--- at no link E_RLWAI is answered, and a cell that is E_RLWAI after a link was so before and the task was neither released nor started, or the
+-- at no link E_RLWAI is answered, and a cell that is E_RLWAI after a link was so before and the task was neither released nor started nor deleted, or the
 -- link is an accepted rel_wai that names the task
 abbrev pub OnlyRelWaiOnCode : List ℕ → List ℕ → List Link → Type 0
 OnlyRelWaiOnCode b m [] = Unit {0}

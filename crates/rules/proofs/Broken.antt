@@ -1,7 +1,7 @@
 -- Demand 2's broken mark: after an accepted rel_wai the cell reads E_RLWAI and 0 until the task's next release or start. Assumes nothing.
 use mathlib.Core.Bool.{Bool, true, false, cond, not, _&&_, _||_, false≢true}
 use mathlib.Core.List.{List, [], _∷_}
-use mathlib.Core.Logic.{inl, inr}
+use mathlib.Core.Logic.{inl, inr, _≢_}
 use mathlib.Core.Option.{Option, none, some}
 use mathlib.Core.Path.{_≡_, refl, sym, ap, _∙_, subst}
 use Prim.Native.Nat.{ℕ}
@@ -53,7 +53,7 @@ still-there : (s t : State) → isAbsent s ≡ false → isFresh s t ≡ false �
 still-there s t n h = subst (λ (x : Bool). (not x && isAbsent t) ≡ false) n (neither (isStarted s t) (isDeleted s t) (neither (isReleased s t) _ h .1) .1)
 
 -- the same of what is read by id
-read-kept : (v : View) (e : Event) (a : ℤ) → isAbsent (task (v .body) (nat a) .state) ≡ false
+pub read-kept : (v : View) (e : Event) (a : ℤ) → isAbsent (task (v .body) (nat a) .state) ≡ false
     → isFresh (task (v .body) (nat a) .state) (task (next v e .body) (nat a) .state) ≡ false → readCell (next v e .body) a ≡ readCell (v .body) a
 unfolding readCell
 read-kept v e a n h = λ z. cond (outside a (tasks-next v e z) || (there ∙ sym n) z) (record { code = E-NOEXS; word = 0 }) (same (cell-kept v e (nat a)) z)
@@ -66,18 +66,22 @@ read-kept v e a n h = λ z. cond (outside a (tasks-next v e z) || (there ∙ sym
     same (inr (inl k)) = absurd (false≢true (sym h ∙ k))
     same (inr (inr k)) = absurd (false≢true (sym there ∙ k))
 
--- a cell that reads as broken is that of a task that is there
-broken-there : (b : Body) (a : ℤ) → readCell b a ≡ broken → isAbsent (task b (nat a) .state) ≡ false
+-- a cell that does not read E_NOEXS is that of a task that is there
+pub read-there : (b : Body) (a : ℤ) → readCell b a .code ≢ E-NOEXS → isAbsent (task b (nat a) .state) ≡ false
 unfolding readCell
-broken-there b a h = go (outside a (length (b .tasks))) (isAbsent (task b (nat a) .state)) h
+read-there b a = go (outside a (length (b .tasks))) (isAbsent (task b (nat a) .state))
   where
-    unread : _≡_ {A = Cell} (record { code = E-NOEXS; word = 0 }) broken → ⊥
-    unread h = let c : E-NOEXS ≡ E-RLWAI = ap (λ c. c .code) h in let z : _≡_ {A = ℕ} 0 1 = cc in omega arith
-
-    go : (o t : Bool) → cond (o || t) (record { code = E-NOEXS; word = 0 }) (task b (nat a) .cell) ≡ broken → t ≡ false
+    go : (o t : Bool) → (cond (o || t) (record { code = E-NOEXS; word = 0 }) (task b (nat a) .cell)) .code ≢ E-NOEXS → t ≡ false
     go o false h = refl
-    go true true h = absurd (unread h)
-    go false true h = absurd (unread h)
+    go true true h = absurd (h refl)
+    go false true h = absurd (h refl)
+
+pub broken-read : E-RLWAI ≢ E-NOEXS
+broken-read e = let z : _≡_ {A = ℕ} 0 1 = cc in omega arith
+
+-- as one that reads as broken
+broken-there : (b : Body) (a : ℤ) → readCell b a ≡ broken → isAbsent (task b (nat a) .state) ≡ false
+broken-there b a h = read-there b a (λ e. broken-read (sym (ap (λ (c : Cell). c .code) h) ∙ e))
 
 -- ---- over runs from any sound state
 
