@@ -24,7 +24,7 @@ pub type Verdict = Result<String, String>;
 
 type Part = (&'static str, fn() -> Verdict);
 
-const PARTS: [Part; 9] = [
+const PARTS: [Part; 10] = [
     ("bench sheet", sheet::check),
     ("random runs", runs::check),
     ("handlers", handlers::check),
