@@ -2,6 +2,7 @@
 //! of its memory only `layout` knows, and that from the documents.
 pub mod cases;
 pub mod curve;
+pub mod figures;
 pub mod layout;
 pub mod looks;
 pub mod picture;

@@ -6,6 +6,7 @@ mod brightness;
 mod damage;
 mod drawn;
 mod handlers;
+mod month;
 mod pair;
 mod parts;
 mod playback;
@@ -24,7 +25,7 @@ pub type Verdict = Result<String, String>;
 
 type Part = (&'static str, fn() -> Verdict);
 
-const PARTS: [Part; 10] = [
+const PARTS: [Part; 11] = [
     ("bench sheet", sheet::check),
     ("random runs", runs::check),
     ("handlers", handlers::check),
@@ -33,6 +34,7 @@ const PARTS: [Part; 10] = [
     ("refused setups", refused::check),
     ("many events at once", batch::check),
     ("recorded runs", playback::check),
+    ("months", month::check),
     ("brightness", brightness::check),
     ("runs in parts", parts::check),
 ];

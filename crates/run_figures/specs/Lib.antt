@@ -1,0 +1,3 @@
+-- The figures of a recorded run, by the rules and as they are counted.
+pub mod Figures
+pub mod Counting

@@ -1,0 +1,4 @@
+-- Laws of sums.
+pub mod Onward
+pub mod Fits
+pub mod Exact

@@ -1,0 +1,3 @@
+-- The theorems.
+pub mod Rows
+pub mod Sums

@@ -1,0 +1,2 @@
+-- What the figures of runs add up to.
+pub mod Adding
