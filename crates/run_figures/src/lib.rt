@@ -3,16 +3,13 @@
 use call_tasks::reading::state_number;
 use check_damage::Breach;
 use check_damage::judged;
-use kernel_events::Answer;
-use kernel_events::serve;
 use memory_columns::MAX_TASKS;
 use memory_columns::MESSAGE_WORDS;
 use memory_columns::STATE_WORDS;
 use memory_columns::system;
 use memory_running::running_task;
-use run_reading::EVENT;
 use run_reading::HEAD;
-use run_reading::signed;
+use run_serving::serve_held;
 use run_stream::Completed;
 use run_stream::NUMBERS;
 use run_stream::is_closed;
@@ -22,18 +19,14 @@ use run_tally::STATES;
 use run_tally::TASKS;
 use run_tally::codes_counted;
 use run_tally::table_counted;
-use setup::word;
 ghost use mathlib.Core.Bool.{cond, _&&_};
 ghost use mathlib.Core.List.{List};
 ghost use mathlib.Core.Path.{_≡_};
 ghost use Prim.Native.Nat.{ℕ, suc, _≤_, _<_, min};
 ghost use lib.Dec.{leb};
-ghost use lib.ListN.{length, take, getD};
+ghost use lib.ListN.{length, getD};
 ghost use Rattle.memory_picture.specs.Picture.{tasksShown};
-ghost use Rattle.kernel_events.specs.Steps.{reply};
-ghost use Rattle.kernel_events.specs.Serving.{Serves};
 ghost use Rattle.call_tasks.specs.Reading.{numberAt};
-ghost use Rattle.run_reading.specs.Recorded.{eventBytes, eventIn};
 ghost use Rattle.run_reading.specs.Recorder.{closed};
 ghost use Rattle.run_stream.specs.declared.Completed.the-variants.{Begins, Occurs};
 ghost use Rattle.run_stream.specs.Lent.{recorderOf, Sized};
@@ -119,26 +112,6 @@ fn begins(
         number: t.number,
         place: t.place,
     }
-}
-
-// The event whose bytes are held, where it is known whether the state is sound and who runs.
-fn serve_held(
-    held: &[u8; HEAD],
-    words: &mut [u32; STATE_WORDS],
-    messages: &mut [u32; MESSAGE_WORDS],
-    found: Breach,
-    me: u32,
-) -> Answer
-    ensures { λ r. ⌜ Serves (eventIn (take eventBytes (now (held .entry)))) found me (now (words .entry)) (now (messages .entry)) (reply (r .code) (r .w1) (r .w2) (r .running) (r .released)) (now (words .exit)) (now (messages .exit)) ⌝ }
-{
-    let all = &held[..];
-    let event = &all[..EVENT];
-    let kind = signed(word(event, 0));
-    let number = signed(word(event, 4));
-    let a = signed(word(event, 8));
-    let b = signed(word(event, 12));
-    let c = signed(word(event, 16));
-    serve(words, messages, found, me, kind, number, a, b, c)
 }
 
 // An event is whole: it runs and is counted.

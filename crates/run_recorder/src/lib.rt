@@ -2,14 +2,11 @@
 // memory is a value. Each whole event runs at once and writes its line. The kernel's memory is checked once in a part.
 use check_damage::Breach;
 use check_damage::judged;
-use kernel_events::Answer;
-use kernel_events::serve;
 use memory_columns::MESSAGE_WORDS;
 use memory_columns::STATE_WORDS;
 use memory_running::running_task;
-use run_reading::EVENT;
 use run_reading::HEAD;
-use run_reading::signed;
+use run_serving::serve_held;
 use run_stream::Completed;
 use run_stream::NUMBERS;
 use run_stream::at_end;
@@ -21,12 +18,8 @@ use run_text::LINE;
 use run_text::event_line;
 use run_text::refusal_line;
 use run_text::start_line;
-use setup::word;
 ghost use Prim.Native.Nat.{_≤_};
-ghost use lib.ListN.{length, take};
-ghost use Rattle.kernel_events.specs.Steps.{reply};
-ghost use Rattle.kernel_events.specs.Serving.{Serves};
-ghost use Rattle.run_reading.specs.Recorded.{eventIn};
+ghost use lib.ListN.{length};
 ghost use Rattle.run_stream.specs.declared.Completed.the-variants.{Begins, Occurs};
 ghost use Rattle.run_stream.specs.Lent.{Sized};
 ghost use Rattle.run_recorder.specs.Running.{memory};
@@ -84,26 +77,6 @@ fn begins(
         number: 0,
         place: 0,
     }
-}
-
-// The event whose bytes are held, where it is known whether the state is sound and who runs.
-fn serve_held(
-    held: &[u8; HEAD],
-    words: &mut [u32; STATE_WORDS],
-    messages: &mut [u32; MESSAGE_WORDS],
-    found: Breach,
-    me: u32,
-) -> Answer
-    ensures { λ r. ⌜ Serves (eventIn (take 20 (now (held .entry)))) found me (now (words .entry)) (now (messages .entry)) (reply (r .code) (r .w1) (r .w2) (r .running) (r .released)) (now (words .exit)) (now (messages .exit)) ⌝ }
-{
-    let all = &held[..];
-    let event = &all[..EVENT];
-    let kind = signed(word(event, 0));
-    let number = signed(word(event, 4));
-    let a = signed(word(event, 8));
-    let b = signed(word(event, 12));
-    let c = signed(word(event, 16));
-    serve(words, messages, found, me, kind, number, a, b, c)
 }
 
 // An event is whole: it runs, and its answer is written behind its number.

@@ -10,8 +10,8 @@ use mir.Val.{toZ, ofZ}
 use mir.Facts.{toZ-ofZ}
 use Rattle.run_reading.specs.Recorded.{signedWord}
 use borrow.Author.Needs.{needs}
-use Rattle.run_recorder.proofs.serve_held.Statement.{statement}
-use Rattle.run_recorder.proofs.serve_held.Tie as tie
+use Rattle.run_serving.proofs.serve_held.Statement.{statement}
+use Rattle.run_serving.proofs.serve_held.Tie as tie
 
 -- a word that was read as a signed one
 read : {z : ℤ} {w x : ℕ} → mag z < 2 ^ 31 → z ≡ signedWord w → w ≡ x → toZ w32 (ofZ w32 z) ≡ signedWord x
