@@ -1,3 +1,4 @@
 -- The theorems.
 pub mod Rows
+pub mod Kept
 pub mod Sums

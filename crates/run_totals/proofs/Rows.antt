@@ -8,12 +8,13 @@ use lib.Dec.{ltb}
 use lib.ListN.{length, getD, set, length-set}
 use borrow.Author.Tests.{lt-ltb, le-ltb, ltb-true, ltb-false}
 use Rattle.rules.specs.Ids.{once}
-use Rattle.rules.specs.Codes.{Code, OK, WAITS, H-NUMBER, H-QUEUE, H-SERVED, H-TWICE, H-FREE, H-CALL, H-PAR, E-NOEXS, E-TPRI, E-ILTIME, E-CTX, E-SELF, E-DMT, H-NODMT, H-SUS, E-NOSUS, E-NOWAI, E-QOVR, H-POLL, H-MSG, H-NEST, H-EXIST, H-ILBLK, E-TMOUT, E-RLWAI, number}
+use Rattle.rules.specs.Codes.{Code, number}
+use Rattle.rules.specs.Codes as Codes
 use Rattle.rules.specs.State.{State, dormant, ready, suspended, absent, waiting, waiting-suspended}
 use Rattle.rules.specs.Tasks.{stateNumber}
 use Rattle.run_tally.specs.Tables.{more, raised, states, tableCounted, placeIn, placeOf}
-use Rattle.run_figures.specs.Figures.{Figures, Seen, counted, countedAll}
-use Rattle.run_totals.specs.Adding.{sum, having}
+use Rattle.run_figures.specs.Figures.{mostTasks, Figures, Seen, counted, countedAll}
+use Rattle.run_totals.specs.Adding.{sum}
 
 -- ---- a row
 
@@ -122,6 +123,11 @@ abbrev pub AllProper : List Seen → Type 0
 AllProper [] = Unit {0}
 AllProper (x ∷ l) = Proper x × AllProper l
 
+-- how many of them left a state that has task i + 1
+unfoldable pub having : ℕ → List Seen → ℕ
+having i [] = 0
+having i (x ∷ l) = once (ltb i (min (x .tasks) mostTasks)) + having i l
+
 -- each row adds up to the events that found its task there, the codes to all of them
 pub rows-add : (l : List Seen) (f : Figures) (k : ℕ) → Shaped f k → AllProper l → k + length l ≤ 2 ^ 32 - 1 → (i : ℕ) → i < 32 → sum (row (countedAll f l) i) ≡ having i l + sum (row f i)
 unfolding countedAll having
@@ -157,32 +163,33 @@ state-proper absent r = omega arith
 state-proper (waiting w) r = omega arith
 state-proper (waiting-suspended w) r = omega arith
 
+-- a code that the rules get has its line here
 pub code-proper : (c : Code) → placeOf (number c) < 29
 unfolding number placeIn
-code-proper OK = omega arith
-code-proper WAITS = omega arith
-code-proper H-NUMBER = omega arith
-code-proper H-QUEUE = omega arith
-code-proper H-SERVED = omega arith
-code-proper H-TWICE = omega arith
-code-proper H-FREE = omega arith
-code-proper H-CALL = omega arith
-code-proper H-PAR = omega arith
-code-proper E-NOEXS = omega arith
-code-proper E-TPRI = omega arith
-code-proper E-ILTIME = omega arith
-code-proper E-CTX = omega arith
-code-proper E-SELF = omega arith
-code-proper E-DMT = omega arith
-code-proper H-NODMT = omega arith
-code-proper H-SUS = omega arith
-code-proper E-NOSUS = omega arith
-code-proper E-NOWAI = omega arith
-code-proper E-QOVR = omega arith
-code-proper H-POLL = omega arith
-code-proper H-MSG = omega arith
-code-proper H-NEST = omega arith
-code-proper H-EXIST = omega arith
-code-proper H-ILBLK = omega arith
-code-proper E-TMOUT = omega arith
-code-proper E-RLWAI = omega arith
+code-proper Codes.OK = omega arith
+code-proper Codes.WAITS = omega arith
+code-proper Codes.H-NUMBER = omega arith
+code-proper Codes.H-QUEUE = omega arith
+code-proper Codes.H-SERVED = omega arith
+code-proper Codes.H-TWICE = omega arith
+code-proper Codes.H-FREE = omega arith
+code-proper Codes.H-CALL = omega arith
+code-proper Codes.H-PAR = omega arith
+code-proper Codes.E-NOEXS = omega arith
+code-proper Codes.E-TPRI = omega arith
+code-proper Codes.E-ILTIME = omega arith
+code-proper Codes.E-CTX = omega arith
+code-proper Codes.E-SELF = omega arith
+code-proper Codes.E-DMT = omega arith
+code-proper Codes.H-NODMT = omega arith
+code-proper Codes.H-SUS = omega arith
+code-proper Codes.E-NOSUS = omega arith
+code-proper Codes.E-NOWAI = omega arith
+code-proper Codes.E-QOVR = omega arith
+code-proper Codes.H-POLL = omega arith
+code-proper Codes.H-MSG = omega arith
+code-proper Codes.H-NEST = omega arith
+code-proper Codes.H-EXIST = omega arith
+code-proper Codes.H-ILBLK = omega arith
+code-proper Codes.E-TMOUT = omega arith
+code-proper Codes.E-RLWAI = omega arith

@@ -1,4 +1,4 @@
--- Over the records of runs each task's row adds up to the events that left a state with that task, and the codes' counts to all events.
+-- Over the records of runs each task's row adds up to the events that ran in the runs whose setup has that task, and the codes' counts to all events.
 -- Assumes nothing.
 use mathlib.Core.Bool.{Bool, true, false, cond}
 use mathlib.Core.List.{List, [], _∷_}
@@ -17,8 +17,9 @@ use Rattle.run_reading.specs.Recorded.{mostEvents, Head, Item, begins, occurs, 
 use Rattle.run_reading.proofs.Reach.{Parts, head-parts}
 use Rattle.run_text.specs.Text.{Stage, unstarted, at, onward, queues}
 use Rattle.run_figures.specs.Figures.{none, seenFrom, figuresOf}
-use Rattle.run_totals.specs.Adding.{sum, part, totalled, seen, having, RecordsOf, over}
+use Rattle.run_totals.specs.Adding.{sum, part, totalled, occurring, ran, ranWith, RecordsOf, over}
 use Rattle.run_totals.proofs.Rows.{row, Shaped, AllProper, rows-add, codes-add, all-shaped, state-proper, code-proper}
+use Rattle.run_totals.proofs.Kept.{seen, run-having, run-seen}
 
 -- ---- what is seen of a run
 
@@ -32,22 +33,7 @@ seen-proper (at v) (occurs n e ∷ l) = (record { state = λ i h. state-proper _
 seen-proper unstarted (refuses f p ∷ l) = seen-proper unstarted l
 seen-proper (at v) (refuses f p ∷ l) = seen-proper (at v) l
 
--- how many events are among items
-unfoldable occurring : List Item → ℕ
-occurring [] = 0
-occurring (begins h ∷ l) = occurring l
-occurring (occurs n e ∷ l) = suc (occurring l)
-occurring (refuses f p ∷ l) = occurring l
-
-few-seen : (x : Stage View) (l : List Item) → length (seenFrom x l) ≤ occurring l
-unfolding seenFrom onward occurring
-few-seen x [] = omega arith
-few-seen unstarted (begins h ∷ l) = few-seen _ l
-few-seen (at v) (begins h ∷ l) = few-seen _ l
-few-seen unstarted (occurs n e ∷ l) = omega (arith, few-seen unstarted l)
-few-seen (at v) (occurs n e ∷ l) = omega (arith, few-seen (onward queues (at v) (occurs n e)) l)
-few-seen unstarted (refuses f p ∷ l) = few-seen unstarted l
-few-seen (at v) (refuses f p ∷ l) = few-seen (at v) l
+-- ---- how many events there are
 
 few-occur : (n number place : ℕ) (s : List ℕ) → occurring (eventItems n number place s) ≤ n
 unfolding eventItems occurring
@@ -65,9 +51,9 @@ unfolding itemsBehind occurring
 behind-few s (refused f place) P = omega arith
 behind-few s (got h i) P = omega (arith, few-occur (h .events) 1 i (drop i s), P .few)
 
-run-few : (s : List ℕ) → length (seen s) ≤ mostEvents
+run-few : (s : List ℕ) → ran s ≤ mostEvents
 unfolding itemsOf
-run-few s = omega (arith, few-seen unstarted (itemsBehind s (readHead s)), behind-few s (readHead s) (head-parts s))
+run-few s = behind-few s (readHead s) (head-parts s)
 
 -- ---- the figures of a run
 
@@ -86,21 +72,21 @@ module _ (s : List ℕ) where
   proper = seen-proper unstarted (itemsOf s)
 
   bound : 0 + length (seen s) ≤ 2 ^ 32 - 1
-  bound = omega (arith, run-few s)
+  bound = omega (arith, run-seen s, run-few s)
 
   shaped : Shaped (figuresOf s) (0 + length (seen s))
   unfolding figuresOf
   shaped = all-shaped (seen s) none 0 none-shaped proper bound
 
-  -- each task's row adds up to the events that found it there
-  pub run-rows : (i : ℕ) → i < 32 → sum (row (figuresOf s) i) ≡ having i (seen s)
+  -- each task's row adds up to the events that ran if the setup has the task, else to 0
+  pub run-rows : (i : ℕ) → i < 32 → sum (row (figuresOf s) i) ≡ ranWith i s
   unfolding figuresOf
-  run-rows i h = omega (arith, rows-add (seen s) none 0 none-shaped proper bound i h, none-shaped .few i h)
+  run-rows i h = omega (arith, rows-add (seen s) none 0 none-shaped proper bound i h, none-shaped .few i h) ∙ run-having s i h
 
-  -- the codes' counts add up to the events
-  pub run-codes : sum (figuresOf s .codes) ≡ length (seen s)
+  -- the codes' counts add up to the events that ran
+  pub run-codes : sum (figuresOf s .codes) ≡ ran s
   unfolding figuresOf
-  run-codes = omega (arith, codes-add (seen s) none 0 none-shaped proper bound, none-shaped .fewCodes)
+  run-codes = omega (arith, codes-add (seen s) none 0 none-shaped proper bound, none-shaped .fewCodes, run-seen s)
 
 -- ---- parts of the totals
 
@@ -126,20 +112,20 @@ more-part r l k (suc n) = let e = more-part r l (suc k) n in omega (arith, e)
 -- ---- the theorems
 
 module _ (r : Record) (s : List ℕ) (F : Flat (figuresOf s .table) (figuresOf s .codes) (r .counts)) where
-  record-row : (i : ℕ) → i < 32 → part (λ j. getD (r .counts) j 0) (7 * i) 7 ≡ having i (seen s)
+  record-row : (i : ℕ) → i < 32 → part (λ j. getD (r .counts) j 0) (7 * i) 7 ≡ ranWith i s
   record-row i h =
       let c = shaped s .cells i h in
-      subst (λ (n : ℕ). part (λ j. getD (r .counts) j 0) (7 * i) n ≡ having i (seen s)) c
+      subst (λ (n : ℕ). part (λ j. getD (r .counts) j 0) (7 * i) n ≡ ranWith i s) c
       (list-part (row (figuresOf s) i) (7 * i) (λ j. getD (r .counts) j 0) (λ j b. F .states i j h (omega (arith, b, c))) ∙ run-rows s i h)
 
-  record-codes : part (λ j. getD (r .counts) j 0) 224 29 ≡ length (seen s)
+  record-codes : part (λ j. getD (r .counts) j 0) 224 29 ≡ ran s
   record-codes =
       let c = shaped s .codes in
-      subst (λ (n : ℕ). part (λ j. getD (r .counts) j 0) 224 n ≡ length (seen s)) c
+      subst (λ (n : ℕ). part (λ j. getD (r .counts) j 0) 224 n ≡ ran s) c
       (list-part (figuresOf s .codes) 224 (λ j. getD (r .counts) j 0) (λ j b. F .codes j (omega (arith, b, c))) ∙ run-codes s)
 
--- each task's row of a month adds up to the events of its runs that left a state with that task
-pub month-rows : (l : List Record) (k : List (List ℕ)) → RecordsOf l k → (i : ℕ) → i < 32 → totalled (7 * i) 7 l ≡ over (having i) k
+-- each task's row of a month adds up to the events that ran in the runs whose setup has that task
+pub month-rows : (l : List Record) (k : List (List ℕ)) → RecordsOf l k → (i : ℕ) → i < 32 → totalled (7 * i) 7 l ≡ over (ranWith i) k
 unfolding over
 month-rows [] [] R i h = none-part (7 * i) 7
 month-rows [] (s ∷ k) R i h = absurd R
@@ -147,7 +133,7 @@ month-rows (r ∷ l) [] R i h = absurd R
 month-rows (r ∷ l) (s ∷ k) R i h = omega (arith, more-part r l (7 * i) 7, record-row r s (R .0) i h, month-rows l k (R .1) i h)
 
 -- the codes' counts of a month add up to the events that ran
-pub month-codes : (l : List Record) (k : List (List ℕ)) → RecordsOf l k → totalled 224 29 l ≡ over length k
+pub month-codes : (l : List Record) (k : List (List ℕ)) → RecordsOf l k → totalled 224 29 l ≡ over ran k
 unfolding over
 month-codes [] [] R = none-part 224 29
 month-codes [] (s ∷ k) R = absurd R
