@@ -12,9 +12,15 @@ use kernel_cells::Reading;
 use kernel_events::Answer;
 use kernel_start::Started;
 use memory_columns::STATE_WORDS;
+use run_figures::Counted;
+use run_month::Record;
+use run_month::Reporting;
 use run_reading::HEAD;
 use run_recorder::Parted;
 use run_stream::NUMBERS;
+use run_tally::CODES;
+use run_tally::STATES;
+use run_tally::TASKS;
 ghost use mathlib.Core.Path.{_≡_};
 ghost use Prim.Native.Nat.{_≤_};
 ghost use Rattle.rules.specs.Events as Events;
@@ -29,6 +35,11 @@ ghost use Rattle.run_reading.specs.Recorder.{begun};
 ghost use Rattle.run_stream.specs.Lent.{Is};
 ghost use Rattle.run_recorder.specs.Recording as Recording;
 ghost use Rattle.run_recorder.specs.Recording.{Parts, Ends};
+ghost use Rattle.run_month.specs.Monthly.{digit, Reported};
+ghost use Rattle.run_tally.specs.Tables.{Flat};
+ghost use Rattle.run_figures.specs.Figures.{figures};
+ghost use Rattle.run_figures.specs.Counting as Counting;
+ghost use Rattle.run_figures.specs.Counting.{memory, Counts};
 ghost use Rattle.okrozumba.specs.Exports.{startNumber, startPlace, ranNumber, ranPlace, StartsTold, BatchedTold, RunsTold};
 
 // An enum's number; and the place of a setup's fault, else 0.
@@ -229,6 +240,51 @@ pub extern "C" fn okrozumba_end(
     ensures { λ r. ⌜ Ends (now (numbers .entry)) (now (held .entry)) (now (numbers .exit)) (now (text .entry)) (now (text .exit)) r ⌝ }
 {
     run_recorder::end(numbers, held, text)
+}
+
+// ---- figures of recorded runs
+
+// The next part of a run, counted: after how many events each task was in each state, and how often each code came back.
+#[no_mangle]
+pub extern "C" fn okrozumba_count(
+    numbers: &mut [u32; NUMBERS],
+    held: &mut [u8; HEAD],
+    words: &mut [u32; STATE_WORDS],
+    messages: &mut [u32; 256],
+    table: &mut [[u32; STATES]; TASKS],
+    codes: &mut [u32; CODES],
+    bytes: &[u8],
+) -> Counted
+    ensures { λ r. ⌜ Counts (now (bytes .entry)) (Counting.lent (now (numbers .entry)) (now (held .entry)) (memory (now (words .entry)) (now (messages .entry))) (figures (now (table .entry)) (now (codes .entry)))) (Counting.lent (now (numbers .exit)) (now (held .exit)) (memory (now (words .exit)) (now (messages .exit))) (figures (now (table .exit)) (now (codes .exit)))) r ⌝ }
+{
+    run_figures::count(numbers, held, words, messages, table, codes, bytes)
+}
+
+// The record of a run, from what was counted of it.
+#[no_mangle]
+pub extern "C" fn okrozumba_record(table: &[[u32; STATES]; TASKS], codes: &[u32; CODES]) -> Record
+    ensures { λ r. ⌜ Flat (now (table .entry)) (now (codes .entry)) (r .counts) ⌝ }
+{
+    run_tally::flat(*table, *codes)
+}
+
+fn report_number(r: Reporting) -> u32
+    ensures { λ n. ⌜ n ≡ digit r ⌝ }
+{
+    match r {
+        Reporting::Done => 0,
+        Reporting::Many => 1,
+        Reporting::Size => 2,
+        Reporting::Beyond => 3,
+    }
+}
+
+// The totals of the records: 0, or the digit of T1 to T3, and the output as it was.
+#[no_mangle]
+pub extern "C" fn okrozumba_month(records: &[Record], out: &mut [u32]) -> u32
+    ensures { λ r. ⌜ Reported (now (records .entry)) r (now (out .entry)) (now (out .exit)) ⌝ }
+{
+    report_number(run_month::month(records, out))
 }
 
 // ---- brightness
