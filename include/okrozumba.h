@@ -272,6 +272,61 @@ okrozumba_parted okrozumba_part(uint32_t numbers[OKROZUMBA_NUMBERS], uint8_t hel
 /* The end of the input: where more was to come, S1 and its line. If the line has no room, OKROZUMBA_FULL, and it is no end yet. */
 okrozumba_parted okrozumba_end(uint32_t numbers[OKROZUMBA_NUMBERS], const uint8_t held[OKROZUMBA_HELD], uint8_t *text, size_t text_bytes);
 
+/* ---- figures of recorded runs */
+
+#define OKROZUMBA_TASKS 32
+#define OKROZUMBA_STATES 7
+#define OKROZUMBA_CODES 29
+
+/* What is counted of a run: after how many events each task of its setup, by id from task 1, was in each state; and how often each code came back. A state is what tsk_sts gives, or 6 where the
+   task is not there. Before the first part all of it is 0. Any content is a value; a count of 2^32 - 1 stays. */
+typedef struct okrozumba_figures {
+    uint32_t table[OKROZUMBA_TASKS][OKROZUMBA_STATES];
+    uint32_t codes[OKROZUMBA_CODES];
+} okrozumba_figures;
+
+/* The state of a task that is not there. */
+#define OKROZUMBA_ABSENT 6
+
+/* The codes in their order, to fill an array with. */
+#define OKROZUMBA_CODES_COUNTED                                                                                                         \
+    {0, 1, -1, -2, -3, -4, -5, -6, -7, -8, -10, -11, -12, -20, -21, -22, -23, -24, -1830, -1831, -2097, -2100, -2101, -2104, -2110, -2629, \
+     -2889, -3413, -3414}
+
+/* What a part says that is counted: OKROZUMBA_TAKEN; the run's refusal OKROZUMBA_S1 to _S4, with its place from the input's start; or OKROZUMBA_CLOSED, and nothing was done. */
+typedef struct okrozumba_counted {
+    uint32_t number;
+    size_t place;
+} okrozumba_counted;
+
+/* Takes the next bytes of a recorded run, all of them, as okrozumba_part does, runs the events that become whole and counts them, with no text. Of a run that is refused on its way the whole events
+   before count. However the input is divided, the figures are the same. A run begins with okrozumba_begin and ends with okrozumba_end, which says S1 where more was to come. It looks for damage
+   itself, once. */
+okrozumba_counted okrozumba_count(uint32_t numbers[OKROZUMBA_NUMBERS], uint8_t held[OKROZUMBA_HELD], uint32_t words[OKROZUMBA_STATE_WORDS],
+                                  uint32_t messages[OKROZUMBA_MESSAGES], uint32_t table[OKROZUMBA_TASKS][OKROZUMBA_STATES],
+                                  uint32_t codes[OKROZUMBA_CODES], const uint8_t *bytes, size_t byte_count);
+
+#define OKROZUMBA_COUNTS 253
+#define OKROZUMBA_RECORDS 64
+
+/* The figures of a run in a row: counts[7 (i - 1) + s] is task i's count of state s, and the codes stand behind, from counts[224] on. */
+typedef struct okrozumba_record {
+    uint32_t counts[OKROZUMBA_COUNTS];
+} okrozumba_record;
+
+/* The record of what was counted, which is only read. (A const table would take a cast in C before C23.) */
+okrozumba_record okrozumba_record_of(uint32_t table[OKROZUMBA_TASKS][OKROZUMBA_STATES], const uint32_t codes[OKROZUMBA_CODES]);
+
+/* Why there is no report of a month. */
+enum {
+    OKROZUMBA_T1 = 1, /* more than OKROZUMBA_RECORDS records */
+    OKROZUMBA_T2 = 2, /* an output that is not OKROZUMBA_COUNTS words long */
+    OKROZUMBA_T3 = 3  /* a total beyond 2^32 - 1 */
+};
+
+/* The totals of the records, number by number, in the output: OKROZUMBA_DONE. Or OKROZUMBA_T1 to _T3, the first that applies, and the output as it was. */
+uint32_t okrozumba_month(const okrozumba_record *records, size_t record_count, uint32_t *out, size_t out_words);
+
 /* ---- brightness */
 
 #define OKROZUMBA_CURVE_POINTS 16

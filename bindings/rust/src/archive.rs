@@ -1,5 +1,6 @@
 //! The functions of the archive, as `include/okrozumba.h` declares them. A reference to an array is passed as C passes a pointer.
 use crate::brightness::{Curve, Light};
+use crate::figures::{Record, CODES, STATES, TASKS};
 use crate::recorder::{HELD, NUMBERS};
 use crate::{Answer, Cell, MESSAGES, STATE_WORDS};
 
@@ -18,6 +19,12 @@ pub struct Parted {
     pub place: usize,
     pub taken: usize,
     pub written: usize,
+}
+
+#[repr(C)]
+pub struct Counted {
+    pub number: u32,
+    pub place: usize,
 }
 
 #[repr(C)]
@@ -110,6 +117,29 @@ extern "C" {
         text: *mut u8,
         text_bytes: usize,
     ) -> Parted;
+
+    pub fn okrozumba_count(
+        numbers: &mut [u32; NUMBERS],
+        held: &mut [u8; HELD],
+        words: &mut Words,
+        messages: &mut Messages,
+        table: &mut [[u32; STATES]; TASKS],
+        codes: &mut [u32; CODES.len()],
+        bytes: *const u8,
+        byte_count: usize,
+    ) -> Counted;
+
+    pub fn okrozumba_record_of(
+        table: &[[u32; STATES]; TASKS],
+        codes: &[u32; CODES.len()],
+    ) -> Record;
+
+    pub fn okrozumba_month(
+        records: *const Record,
+        record_count: usize,
+        out: *mut u32,
+        out_words: usize,
+    ) -> u32;
 
     pub fn okrozumba_curve_judge(curve: Curve) -> Judgement;
 

@@ -3,8 +3,8 @@
 //! A kernel is a [`State`]: two arrays that the program owns. [`State::start`] makes a fresh one from a setup, [`State::call`],
 //! [`State::tick`], [`State::enter`] and [`State::leave`] carry it from event to event, [`State::cell`] reads what a task was last released
 //! from a wait with, [`State::events`] and [`State::run`] play many events at once. Nothing is kept elsewhere: a clone is a second kernel in
-//! the same state. [`playback::play`] gives the text of a recorded run, [`recorder::Recorder`] that of one that comes in parts. [`brightness`]
-//! is a display's light, whose readings arrive as messages.
+//! the same state. [`playback::play`] gives the text of a recorded run, [`recorder::Recorder`] that of one that comes in parts. [`figures`] counts
+//! recorded runs and adds up a month of them. [`brightness`] is a display's light, whose readings arrive as messages.
 //!
 //! Every function is defined for every argument and every content of the arrays, and says by its answer what was wrong; so all of them
 //! are safe. That is what the kernel's proofs promise of the functions that this crate wraps (`include/okrozumba.h`).
@@ -49,6 +49,7 @@ mod archive;
 pub mod brightness;
 pub mod call;
 pub mod code;
+pub mod figures;
 #[cfg(feature = "std")]
 pub mod playback;
 pub mod recorder;

@@ -70,9 +70,9 @@ pub struct Parted {
 /// A run on its way: what it holds of its bytes, and its kernel.
 #[derive(Clone, PartialEq, Eq, Debug)]
 pub struct Recorder {
-    numbers: [u32; NUMBERS],
-    held: [u8; HELD],
-    state: State,
+    pub(crate) numbers: [u32; NUMBERS],
+    pub(crate) held: [u8; HELD],
+    pub(crate) state: State,
 }
 
 impl Default for Recorder {
@@ -81,21 +81,21 @@ impl Default for Recorder {
     }
 }
 
-fn said(parted: &archive::Parted) -> Said {
-    match parted.number {
+pub(crate) fn said(number: u32, place: usize) -> Said {
+    match number {
         0 => Said::Taken,
         5 => Said::Closed,
         6 => Said::Full,
         number => Said::Refused(BadRun {
             fault: fault(number),
-            place: parted.place,
+            place,
         }),
     }
 }
 
 fn told(parted: archive::Parted) -> Parted {
     Parted {
-        said: said(&parted),
+        said: said(parted.number, parted.place),
         taken: parted.taken,
         written: parted.written,
     }

@@ -262,7 +262,10 @@ pub extern "C" fn okrozumba_count(
 
 // The record of a run, from what was counted of it.
 #[no_mangle]
-pub extern "C" fn okrozumba_record(table: &[[u32; STATES]; TASKS], codes: &[u32; CODES]) -> Record
+pub extern "C" fn okrozumba_record_of(
+    table: &[[u32; STATES]; TASKS],
+    codes: &[u32; CODES],
+) -> Record
     ensures { λ r. ⌜ Flat (now (table .entry)) (now (codes .entry)) (r .counts) ⌝ }
 {
     run_tally::flat(*table, *codes)

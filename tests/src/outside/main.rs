@@ -12,6 +12,7 @@ mod parts;
 mod playback;
 mod program;
 mod reach;
+mod records;
 mod refused;
 mod runs;
 mod sheet;
@@ -25,7 +26,7 @@ pub type Verdict = Result<String, String>;
 
 type Part = (&'static str, fn() -> Verdict);
 
-const PARTS: [Part; 11] = [
+const PARTS: [Part; 12] = [
     ("bench sheet", sheet::check),
     ("random runs", runs::check),
     ("handlers", handlers::check),
@@ -35,6 +36,7 @@ const PARTS: [Part; 11] = [
     ("many events at once", batch::check),
     ("recorded runs", playback::check),
     ("months", month::check),
+    ("records", records::check),
     ("brightness", brightness::check),
     ("runs in parts", parts::check),
 ];
