@@ -13,7 +13,7 @@ use Rattle.rules.specs.Acts.{create, delete}
 use Rattle.rules.specs.View.{View}
 use Rattle.rules.specs.Verdicts.{Verdict, refuse, done, check}
 use Rattle.rules.specs.Tasks.{stateOf, cre-tsk, del-tsk}
-use Rattle.rules.specs.Rows.{staTsk, extTsk, terTsk, chgPri, rotRdq, relWai, susTsk, rsmTsk, slpTsk, waiTsk, wupTsk, canWup, sigSem, waiSem, preqSem, setFlg, clrFlg, waiFlg, polFlg, sndMsg, rcvMsg, prcvMsg, getBlk, pgetBlk, relBlk, getTid, tskSts, semSts, flgSts, mbxSts, mplSts, getTim, creTsk, delTsk, exdTsk}
+use Rattle.rules.specs.Rows.{staTsk, extTsk, terTsk, chgPri, rotRdq, relWai, susTsk, rsmTsk, slpTsk, waiTsk, wupTsk, canWup, sigSem, waiSem, preqSem, setFlg, clrFlg, waiFlg, polFlg, sndMsg, rcvMsg, prcvMsg, getBlk, pgetBlk, relBlk, getTid, tskSts, semSts, flgSts, mbxSts, mplSts, getTim, creTsk, delTsk, exdTsk, setAbs, setRel, canAlm, almSts}
 use Rattle.rules.specs.Table.{table, caller, handles, judge}
 use Rattle.rules.specs.Answers.{readCell}
 use Rattle.rules.specs.Blocks.{is}
@@ -28,7 +28,7 @@ module _ (v : View) (a y z : ℤ) (x : isAbsent (stateOf v a) ≡ true) where
   Denied n r = namesTask n ≡ true → refuses (r .code) ≡ true
 
   rows : (h : Bool) (me : ℕ) → AllRows Denied v h me 1 (table v me a y z)
-  unfolding table staTsk extTsk terTsk chgPri rotRdq relWai susTsk rsmTsk slpTsk waiTsk wupTsk canWup sigSem waiSem preqSem setFlg clrFlg waiFlg polFlg sndMsg rcvMsg prcvMsg getBlk pgetBlk relBlk getTid tskSts semSts flgSts mbxSts mplSts getTim creTsk delTsk exdTsk
+  unfolding table staTsk extTsk terTsk chgPri rotRdq relWai susTsk rsmTsk slpTsk waiTsk wupTsk canWup sigSem waiSem preqSem setFlg clrFlg waiFlg polFlg sndMsg rcvMsg prcvMsg getBlk pgetBlk relBlk getTid tskSts semSts flgSts mbxSts mplSts getTim creTsk delTsk exdTsk setAbs setRel canAlm almSts
   rows h me =
       (λ t e. absurd (false≢true (sym (t .there) ∙ x)))
       ⊗ (λ t e. absurd (false≢true e))
@@ -64,6 +64,10 @@ module _ (v : View) (a y z : ℤ) (x : isAbsent (stateOf v a) ≡ true) where
       ⊗ (λ t e. absurd (false≢true e))
       ⊗ (λ t e. absurd (false≢true e))
       ⊗ (λ t e. absurd (false≢true (sym (t .there) ∙ x)))
+      ⊗ (λ t e. absurd (false≢true e))
+      ⊗ (λ t e. absurd (false≢true e))
+      ⊗ (λ t e. absurd (false≢true e))
+      ⊗ (λ t e. absurd (false≢true e))
       ⊗ (λ t e. absurd (false≢true e))
       ⊗ tt
 

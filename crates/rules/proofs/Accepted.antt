@@ -4,7 +4,7 @@ use mathlib.Core.Bool.{Bool, true, false, cond, false≢true}
 use mathlib.Core.List.{List, [], _∷_, map}
 use mathlib.Core.Logic.{inl}
 use mathlib.Core.Option.{Option, none}
-use mathlib.Core.Path.{_≡_, refl, sym, ap}
+use mathlib.Core.Path.{_≡_, refl, sym, ap, _∙_}
 use Prim.Native.Nat.{ℕ, zero, suc, _+_, _-_, _≤_, _<_, _^_}
 use native.Mathlib.Nat.{le-antisymm}
 use native.Mathlib.Omega.{arith}
@@ -12,12 +12,13 @@ use lib.Dec.{leb, lit<}
 use lib.ListN.{length, getD, replicate, length-map, length-replicate}
 use borrow.Author.Tests.{leb-true}
 use Rattle.rules.specs.Ids.{of, In, once, times}
-use Rattle.rules.specs.Setup.{Fault, S1, S2, S3, S4, Read, got, refused, and-then, wordAt, Range, to, within, readWord, Section, priorities, sections, readEntry, readEntries, readSection, readSections, Entry, Setup, setupOf, readSetup, at-end, setup, taskEntry, wordOf}
+use Rattle.rules.specs.Setup.{Fault, S1, S2, S3, S4, Read, got, refused, and-then, wordAt, Range, to, within, readWord, Section, priorities, sections, alarmRanges, counters, readEntry, readEntries, readSection, readSections, Entry, AlarmEntry, CounterEntry, Setup, GoodCounter, entriesOf, taskEntry, wordOf, alarmEntries, counterEntry, setupOf, readWith, readSetup, perhaps, at-end, setup}
 pub use Rattle.rules.specs.Setup.{GoodSetup}
-use Rattle.rules.specs.State.{nobody, task, waitOf, isAbsent, isReady}
+use Rattle.rules.specs.Codes.{OK}
+use Rattle.rules.specs.State.{nobody, task, noAlarm, alarmCount, waitOf, isAbsent, isReady}
 use Rattle.rules.specs.Places.{Place, readyAt, waiters, mail, freeIn, belongs, tabulate}
-use Rattle.rules.specs.Sound.{SoundTask, SoundBody, AllUnserved, Sound}
-use Rattle.rules.specs.Kernel.{idleTask, idle}
+use Rattle.rules.specs.Sound.{SoundTask, KeptFits, AlarmFits, CounterFits, SoundBody, AllUnserved, Sound}
+use Rattle.rules.specs.Kernel.{idleTask, idleAlarm, idleCounter, idle}
 use Rattle.rules.proofs.Ids.{Each, of-replicate}
 use Rattle.rules.proofs.Waits.{both-true}
 use Rattle.rules.proofs.Lines.{line-tabulate, shape-tabulate}
@@ -73,7 +74,7 @@ module _ (s : List ℕ) where
   abbrev pub Within : {A : Type 0} → (A → Type 0) → A → ℕ → Type 0
   Within P a j = P a × (j ≤ length s)
 
-  word-reads : (r : Range) (f : Fault) (i : ℕ) → Reads (Within (InRange r)) (readWord s r f i)
+  pub word-reads : (r : Range) (f : Fault) (i : ℕ) → Reads (Within (InRange r)) (readWord s r f i)
   unfolding readWord
   word-reads r f i = go (leb (i + 4) (length s)) (within r (wordAt s i)) refl refl
     where
@@ -130,8 +131,19 @@ first-fits : (r : Range) (l : List Range) (w : List ℕ) → Fits (r ∷ l) w �
 first-fits r l [] h = absurd h
 first-fits r l (x ∷ w) h = h .0
 
-pub good-sections : (P : ℕ) (l : List (List (List ℕ))) → In P 16 → SectionsFit (sections P) l → GoodSetup (setupOf P l)
-good-sections P l p h = record {
+alarms-good : (n k : ℕ) (w : List ℕ) → Fits (alarmRanges n k) w → (length (alarmEntries w) ≡ k) × Each (λ a. In (a .task) n) (alarmEntries w)
+alarms-good n zero [] h = (refl, tt)
+alarms-good n zero (x ∷ w) h = absurd h
+alarms-good n (suc k) [] h = absurd h
+alarms-good n (suc k) (t ∷ []) h = absurd (h .1)
+alarms-good n (suc k) (t ∷ x ∷ w) h = let r = alarms-good n k w (h .1 .1) in (ap suc (r .0), (h .0, r .1))
+
+counter-good : (n : ℕ) (w : List ℕ) → Fits (counters n .entry) w → GoodCounter n (counterEntry w)
+counter-good n [] h = absurd h
+counter-good n (m ∷ w) h = let r = alarms-good n 8 w (h .1) in record { size = h .0; eight = r .0; alarms = r .1 }
+
+pub good-sections : (P : ℕ) (l : List (List (List ℕ))) (c : List (List ℕ)) → In P 16 → SectionsFit (sections P) l → SectionFits (counters (length (entriesOf l 0))) c → GoodSetup (setupOf P l c)
+good-sections P l c p h k = record {
   priorities = p;
   tasks = rw (length-map (getD l 0 []) taskEntry) (at 0 (omega arith) .0);
   starts = each-map (Fits (to 1 P ∷ to 0 1 ∷ [])) _ taskEntry (getD l 0 []) (first-fits (to 1 P) (to 0 1 ∷ [])) (at 0 (omega arith) .1);
@@ -143,6 +155,8 @@ good-sections P l p h = record {
   messages = at 4 (omega arith) .0 .1;
   pools = rw (length-map (getD l 5 []) (wordOf 0)) (at 5 (omega arith) .0 .1);
   blocks = each-map (Fits (to 1 32 ∷ [])) _ (wordOf 0) (getD l 5 []) (first-fits (to 1 32) []) (at 5 (omega arith) .1);
+  counters = rw (length-map c counterEntry) (k .0 .1);
+  counter = rw (length-map (getD l 0 []) taskEntry) (each-map _ (GoodCounter (length (getD l 0 []))) counterEntry c (counter-good (length (getD l 0 []))) (k .1));
 }
   where
     at : (i : ℕ) → i < 6 → SectionFits (getD (sections P) i priorities) (getD l i [])
@@ -164,17 +178,32 @@ module _ (s : List ℕ) where
       go false e = tt
   ending-reads P (refused d place) h = tt
 
-  -- a setup anywhere in the bytes: its numbers lie in their ranges, and nothing is read past the end
-  pub setup-within : (i : ℕ) → Reads (Within s GoodSetup) (readSetup s i)
-  unfolding readSetup
-  setup-within i =
+  -- however the eighth section is read
+  with-reads : (eighth : List ℕ → Section → ℕ → Read (List (List ℕ))) → ((n i : ℕ) → i ≤ length s → Reads (Within s (SectionFits (counters n))) (eighth s (counters n) i))
+      → (i : ℕ) → Reads (Within s GoodSetup) (readWith eighth s i)
+  unfolding readWith
+  with-reads eighth e i =
       reads-then (Within s (SectionFits priorities)) (Within s GoodSetup) (readSection s priorities i) _ (section-reads s priorities i)
       (λ p j g. reads-then (Within s (SectionsFit (sections (length p)))) (Within s GoodSetup) (readSections s (sections (length p)) j) _ (sections-reads s (sections (length p)) j (g .1))
-      (λ l k a. (good-sections (length p) l (g .0 .0) (a .0), a .1)))
+      (λ l k a. reads-then (Within s (SectionFits (counters (length (entriesOf l 0))))) (Within s GoodSetup) (eighth s (counters (length (entriesOf l 0))) k) _ (e (length (entriesOf l 0)) k (a .1))
+      (λ c m d. (good-sections (length p) l c (g .0 .0) (a .0) (d .0), d .1))))
+
+  pub perhaps-reads : (n i : ℕ) → i ≤ length s → Reads (Within s (SectionFits (counters n))) (perhaps s (counters n) i)
+  unfolding perhaps
+  perhaps-reads n i r = go (leb (length s) i)
+    where
+      go : (t : Bool) → Reads (Within s (SectionFits (counters n))) (cond t (got [] i) (readSection s (counters n) i))
+      go true = (((omega arith, omega arith), tt), r)
+      go false = section-reads s (counters n) i
+
+  -- a recorded setup anywhere in the bytes: its numbers lie in their ranges, and nothing is read past the end
+  pub setup-within : (i : ℕ) → Reads (Within s GoodSetup) (readSetup s i)
+  unfolding readSetup
+  setup-within i = with-reads readSection (λ n j r. section-reads s (counters n) j) i
 
   setup-reads : Reads (λ u i. GoodSetup u × (i ≡ length s)) (setup s)
   unfolding setup
-  setup-reads = ending-reads GoodSetup (readSetup s 0) (setup-within 0)
+  setup-reads = ending-reads GoodSetup (readWith perhaps s 0) (with-reads perhaps perhaps-reads 0)
 
 pub setup-good : (s : List ℕ) (u : Setup) (i : ℕ) → setup s ≡ got u i → GoodSetup u
 setup-good s u i e = from-read _ (setup s) u i e (setup-reads s) .0
@@ -233,6 +262,26 @@ module _ (u : Setup) (g : GoodSetup u) where
     absent = λ k. absurd (false≢true k);
   }
 
+  idle-alarm : (m : ℕ) (e : AlarmEntry) → In (e .task) (length (u .tasks)) → AlarmFits (length (u .tasks)) m (idleAlarm e)
+  idle-alarm m e h = record { task = h; kept = nothing-kept (e .wakes); setting = tt }
+    where
+      nothing-kept : (t : Bool) → KeptFits t OK
+      nothing-kept true = inl refl
+      nothing-kept false = inl refl
+
+  idle-counter : (l : List CounterEntry) → Each (GoodCounter (length (u .tasks))) l → CounterFits (length (u .tasks)) (idleCounter l)
+  idle-counter [] h = record { size = omega arith; now = inl refl; count = refl; alarms = λ k r. absurd (omega (arith, r .0, r .1)) }
+  idle-counter (c ∷ l) h = record {
+    size = h .0 .size .1;
+    now = inl refl;
+    count = length-map (c .alarms) idleAlarm ∙ h .0 .eight ∙ eight (c .size) (h .0 .size .0);
+    alarms = λ k r. each-of (AlarmFits (length (u .tasks)) (c .size)) _ k noAlarm (each-map _ _ idleAlarm (c .alarms) (idle-alarm (c .size)) (h .0 .alarms)) r;
+  }
+    where
+      eight : (m : ℕ) → 1 ≤ m → 8 ≡ alarmCount m
+      eight zero r = absurd (omega (arith, r))
+      eight (suc m) r = refl
+
   pub idle-sound : SoundBody (idle u)
   unfolding idle
   idle-sound = record {
@@ -254,6 +303,7 @@ module _ (u : Setup) (g : GoodSetup u) where
     };
     tasks = λ i r. each-of (SoundTask (idle u .store)) _ i nobody (each-map _ _ idleTask (u .tasks) idle-task (g .starts)) r;
     handlers = tt;
+    counter = rw (length-map (u .tasks) idleTask) (idle-counter (u .counters) (g .counter));
   }
 
   idle-unserved : AllUnserved (idle u)

@@ -14,17 +14,18 @@ use lib.ListN.{length, getD, set}
 use borrow.Author.Tests.{eqb-true, not-false}
 use Rattle.rules.specs.Ids.{of, put, ids, In, keep, once, times}
 use Rattle.rules.specs.Codes.{Code, OK, E-TMOUT, E-RLWAI, H-POLL, number}
-use Rattle.rules.specs.State.{Kind, semaphore, flag, mailbox, pool, Wait, asleep, timed, on, State, dormant, ready, suspended, absent, waiting, waiting-suspended, Task, Body, task, nobody, objects, waitOf, wish, isDormant, isWaiting, isFreed, sleeps}
+use Rattle.rules.specs.State.{Kind, semaphore, flag, mailbox, pool, Wait, asleep, timed, on, Setting, State, dormant, ready, suspended, absent, waiting, waiting-suspended, Task, Body, task, nobody, objects, waitOf, wish, isDormant, isWaiting, isFreed, sleeps}
 use Rattle.rules.specs.Places.{waiters, freeIn, blocks, sameSort, aTask, belongs, sameKind, waitsOn, awaits}
 use Rattle.rules.specs.Events.{Event, tick, enter, exit, call, nat, outside}
-use Rattle.rules.specs.Acts.{Act, start, retire, create, delete, rotate, regrade, wait, release, suspend, resume, wakeups, count, pattern, post, receive, mark, elapse, nest, change, started, retired, created, freed, releasedTask, halted, resumed, older, with-state, with-priority, with-wakeups, with-cell, after, afters, Move, stay, leave, last, move, releasedMove, haltedMove, resumedMove, regradedMove}
+use Rattle.rules.specs.Acts.{Act, start, retire, create, delete, rotate, regrade, wait, release, suspend, resume, wakeups, count, pattern, post, receive, mark, elapse, nest, alarm, change, started, retired, created, freed, releasedTask, halted, resumed, older, with-state, with-priority, with-wakeups, with-cell, after, afters, Move, stay, leave, last, move, releasedMove, haltedMove, resumedMove, regradedMove}
 use Rattle.rules.specs.View.{View, line, moved, act, acts}
 use Rattle.rules.specs.Verdicts.{Verdict, refuse, gives, done}
 use Rattle.rules.specs.Tasks.{stateOf, starting, sta-tsk, ext-tsk, ter-tsk, chg-pri, rot-rdq, rel-wai, sus-tsk, rsm-tsk, take-wakeup, slp-tsk, wai-tsk, waking, wup-tsk, can-wup, get-tid, tsk-sts, cre-tsk, del-tsk, exd-tsk}
 use Rattle.rules.specs.Objects.{waits-on, to-first, obj-sts, met, left, serve-flag, sig-sem, take-sem, set-flg, clr-flg, take-flg, snd-msg, take-msg, blocksOf, take-blk, rel-blk}
-use Rattle.rules.specs.Time.{get-tim, ending, endings, timeout, ticked}
+use Rattle.rules.specs.Alarms.{rings, set-alm, set-abs, set-rel, can-alm, alm-sts}
+use Rattle.rules.specs.Time.{get-tim, ending, endings, timeout, lapse, ticked}
 use Rattle.rules.specs.Handling.{entered, exited}
-use Rattle.rules.specs.Rows.{staTsk, extTsk, terTsk, chgPri, rotRdq, relWai, susTsk, rsmTsk, slpTsk, waiTsk, wupTsk, canWup, sigSem, waiSem, preqSem, setFlg, clrFlg, waiFlg, polFlg, sndMsg, rcvMsg, prcvMsg, getBlk, pgetBlk, relBlk, getTid, tskSts, semSts, flgSts, mbxSts, mplSts, getTim, creTsk, delTsk, exdTsk}
+use Rattle.rules.specs.Rows.{staTsk, extTsk, terTsk, chgPri, rotRdq, relWai, susTsk, rsmTsk, slpTsk, waiTsk, wupTsk, canWup, sigSem, waiSem, preqSem, setFlg, clrFlg, waiFlg, polFlg, sndMsg, rcvMsg, prcvMsg, getBlk, pgetBlk, relBlk, getTid, tskSts, semSts, flgSts, mbxSts, mplSts, getTim, creTsk, delTsk, exdTsk, setAbs, setRel, canAlm, almSts}
 use Rattle.rules.specs.Table.{caller, handles, table, judge}
 use Rattle.rules.specs.Sound.{Sound}
 use Rattle.rules.specs.Answers.{answer}
@@ -32,6 +33,7 @@ use Rattle.rules.specs.Kernel.{next, served}
 use Rattle.rules.specs.Blocks.{isFree, is, ok, taken, handed, handedCount, returned}
 use Rattle.rules.proofs.Ids.{of-put-same, of-put-other, tested, kept-passes, times-head, times-tail, keep-all}
 use Rattle.rules.proofs.States.{waits-by, waiting-tells, dormant-tells, halted-same, resumed-same, older-same}
+use Rattle.rules.proofs.Firings.{Along, along-append, FiringAct, starts, wakes, stores, keeps, rings-along}
 use Rattle.rules.proofs.Cells.{change-each, map-each, body-acts}
 use Rattle.rules.proofs.Judge.{_⊗_, bad, bad-not-ok, AllRows, by-check, by-first, by-call, OnActs, on-acts, acts-check, acts-choose, acts-first, acts-count, acts-wait}
 use Rattle.rules.proofs.Lines.{exists-before, line-act}
@@ -127,6 +129,7 @@ Still-act b (receive j) = Unit {0}
 Still-act b (mark p k t) = ⊥
 Still-act b elapse = Unit {0}
 Still-act b (nest h) = Unit {0}
+Still-act b (alarm k c s) = Unit {0}
 
 -- one task is changed
 changed : (f : Task → Task) (j : ℕ) (b : Body) → ((t : Task) → t ≡ task b j → Empty-handed t (f t)) → (i : ℕ) → Empty-handed (task b i) (task (change f j b) i)
@@ -153,6 +156,7 @@ act-empty (receive j) b d = λ i. empty-same (task b i)
 act-empty (mark p k t) b d = absurd d
 act-empty elapse b d = λ i. map-each Empty-handed empty-same (λ t. with-state (older (t .state)) t) (λ t. pools-empty t (with-state (older (t .state)) t) (older-pools t)) (b .tasks) i nobody
 act-empty (nest h) b d = λ i. empty-same (task b i)
+act-empty (alarm k c s) b d = λ i. empty-same (task b i)
 
 act-pools : (a : Act) (b : Body) → Still-act b a → after a b .store .pools ≡ b .store .pools
 unfolding after
@@ -174,6 +178,7 @@ act-pools (receive j) b d = refl
 act-pools (mark p k t) b d = absurd d
 act-pools elapse b d = refl
 act-pools (nest h) b d = refl
+act-pools (alarm k c s) b d = refl
 
 -- ---- the lines of free blocks move by marks alone
 
@@ -241,6 +246,7 @@ act-elsewhere (receive j) b d c = λ p. refl
 act-elsewhere (mark p k t) b d c = absurd d
 act-elsewhere elapse b d c = tt
 act-elsewhere (nest h) b d c = tt
+act-elsewhere (alarm k x s) b d c = tt
 
 -- the acts leave these lines alone
 abbrev pub Unmoved : List Act → Type 0
@@ -257,50 +263,52 @@ pub release-unmoved : (i : ℕ) (c : Code) (w : ℕ) → Unmoved (release i c w 
 unfolding acts move
 release-unmoved i c w v p r = act-unmoved (release i c w) (λ b. released-elsewhere (task b i .state) i) v p r
 
--- ---- a list of acts: releases of tasks that wait on no pool, a pattern set, a tick gone by
+-- ---- a list of acts: releases of tasks that wait on no pool, starts of dormant ones, a pattern set, a tick gone by, an alarm set
 
 abbrev Pools-kept : Body → Body → Type 0
 Pools-kept b c = (i : ℕ) → Same-pools (task b i) (task c i)
 
 data Aside (b : Body) : Act → Type 0 where
   frees : (i : ℕ) (c : Code) (w : ℕ) → No-pool (task b i .state) → Aside b (release i c w)
+  begins : (i : ℕ) → isDormant (task b i .state) ≡ true → Aside b (start i)
+  counts : (i n : ℕ) → Aside b (wakeups i n)
   sets : (f n : ℕ) → Aside b (pattern f n)
   elapses : Aside b elapse
+  rung : (k : ℕ) (c : Code) (s : Setting) → Aside b (alarm k c s)
 
 abbrev Asides : Body → List Act → Type 0
-Asides b [] = Unit {0}
-Asides b (a ∷ l) = Aside b a × Asides b l
+Asides b l = Along Aside b l
 
-aside-act : (b c : Body) (a : Act) → Aside b a → Pools-kept b c → Pools-kept b (after a c)
+aside-act : (b : Body) (a : Act) → Aside b a → Pools-kept b (after a b)
 unfolding after
-aside-act b c a (frees j d w n) k i p =
-    change-each Same-pools same-task (releasedTask d w) j c (λ t e. released-pools d w t (λ q. ap (λ (t : Task). awaits (t .state) pool q) e ∙ k j q ∙ n q)) i p
-    ∙ k i p
-aside-act b c a (sets f n) k i p = k i p
-aside-act b c a elapses k i p = map-each Same-pools same-task (λ t. with-state (older (t .state)) t) older-pools (c .tasks) i nobody p ∙ k i p
+aside-act b a (frees j d w n) = change-each Same-pools same-task (releasedTask d w) j b (λ t e. released-pools d w t (rw e n))
+aside-act b a (begins j d) = change-each Same-pools same-task started j b (λ t e q. sym (dormant-no-pool (t .state) (rw e d) q))
+aside-act b a (counts j n) = change-each Same-pools same-task (with-wakeups n) j b (λ t e q. refl)
+aside-act b a (sets f n) = λ i p. refl
+aside-act b a elapses = λ i. map-each Same-pools same-task (λ t. with-state (older (t .state)) t) older-pools (b .tasks) i nobody
+aside-act b a (rung k c s) = λ i p. refl
 
-aside-pools : (b c : Body) (a : Act) → Aside b a → after a c .store .pools ≡ c .store .pools
-unfolding after
-aside-pools b c a (frees j d w n) = refl
-aside-pools b c a (sets f n) = refl
-aside-pools b c a elapses = refl
+aside-still : (b : Body) (a : Act) → Aside b a → Still-act b a
+aside-still b a (frees j d w n) = inr n
+aside-still b a (begins j d) = d
+aside-still b a (counts j n) = tt
+aside-still b a (sets f n) = tt
+aside-still b a elapses = tt
+aside-still b a (rung k c s) = tt
 
-asides-act : (b c : Body) (l : List Act) → Asides b l → Pools-kept b c → Pools-kept b (afters l c) × (afters l c .store .pools ≡ c .store .pools)
+asides-act : (l : List Act) (b : Body) → Asides b l → Pools-kept b (afters l b) × (afters l b .store .pools ≡ b .store .pools)
 unfolding afters
-asides-act b c [] g k = (k, refl)
-asides-act b c (a ∷ l) g k = let r = asides-act b (after a c) l (g .1) (aside-act b c a (g .0) k) in (r .0, r .1 ∙ aside-pools b c a (g .0))
+asides-act [] b g = ((λ i p. refl), refl)
+asides-act (a ∷ l) b g =
+    let r = asides-act l (after a b) (g .1) in
+    ((λ i p. r .0 i p ∙ aside-act b a (g .0) i p), r .1 ∙ act-pools a b (aside-still b a (g .0)))
 
-aside-elsewhere : (b : Body) (a : Act) → Aside b a → (c : Body) → Elsewhere (move c a)
-unfolding move
-aside-elsewhere b a (frees j d w n) c = released-elsewhere (task c j .state) j
-aside-elsewhere b a (sets f n) c = tt
-aside-elsewhere b a elapses c = tt
-
-asides-unmoved : (b : Body) (l : List Act) → Asides b l → Unmoved l
+asides-unmoved : (l : List Act) (b : Body) → Asides b l → Unmoved l
 unfolding acts
-asides-unmoved b [] g v p r = refl
-asides-unmoved b (a ∷ l) g v p r =
-    asides-unmoved b l (g .1) (act a v) p (rw (body-act a v) (exists-before a (v .body) (freeIn p) r)) ∙ act-unmoved a (aside-elsewhere b a (g .0)) v p r
+asides-unmoved [] b g v p r = refl
+asides-unmoved (a ∷ l) b g v p r =
+    asides-unmoved l (after a b) (g .1) (act a v) p (rw (body-act a v) (exists-before a (v .body) (freeIn p) r))
+    ∙ act-unmoved a (act-elsewhere a b (aside-still b a (g .0))) v p r
 
 -- ---- a verdict that hands nothing over and leaves the pools alone
 
@@ -318,8 +326,8 @@ unfolding afters acts
 still-one b a g = record { pools = act-pools a b g; empty = act-empty a b g; unmoved = λ v p r. act-unmoved a (act-elsewhere a b g) v p r }
 
 still-list : (b : Body) (l : List Act) → Asides b l → Still b l
-still-list b l g = let r = asides-act b b l g (λ i p. refl) in
-    record { pools = r .1; empty = λ i. pools-empty (task b i) (task (afters l b) i) (r .0 i); unmoved = asides-unmoved b l g }
+still-list b l g = let r = asides-act l b g in
+    record { pools = r .1; empty = λ i. pools-empty (task b i) (task (afters l b) i) (r .0 i); unmoved = asides-unmoved l b g }
 
 -- the same as a property of verdicts
 abbrev StillVerdict : Body → Verdict → Type 0
@@ -341,6 +349,16 @@ ending-no-pool (some asleep) e p = refl
 ending-no-pool (some (timed t)) e p = refl
 ending-no-pool (some (on k o q m)) e p = absurd (false≢true e)
 
+-- nobody of a list waits on a pool
+abbrev Off-pools : Body → List ℕ → Type 0
+Off-pools b l = (x : ℕ) → times x l ≢ 0 → No-pool (task b x .state)
+
+off-later : (b : Body) (x : ℕ) (l : List ℕ) → Off-pools b (x ∷ l) → Off-pools b l
+off-later b x l h y z = h y (times-tail x y l z)
+
+off-release : (b : Body) (x : ℕ) (c : Code) (w : ℕ) (l : List ℕ) → Off-pools b (x ∷ l) → Off-pools (after (release x c w) b) l
+off-release b x c w l h y z p = aside-act b _ (frees x c w (h x (times-head x l))) y p ∙ off-later b x l h y z p
+
 module _ (v : View) (s : Sound v) where
   waiter-waits : (k : Kind) (o : ℕ) → In o (objects (v .body .store) k) → (x : ℕ) (m : List ℕ) → line v (waiters k o) ≡ x ∷ m → awaits (task (v .body) x .state) k o ≡ true
   unfolding belongs
@@ -356,29 +374,38 @@ module _ (v : View) (s : Sound v) where
   still-to-first k a w r n o h = acts-first (λ e. h) (λ x m e. on-acts (still-one _ (release x OK w) (inr (other-kind k (nat a) n x (waiter-waits k (nat a) (in-by a _ o) x m e)))))
 
   -- set_flg
-  flag-asides : (f have : ℕ) (l : List ℕ) → ((x : ℕ) → times x l ≢ 0 → No-pool (task (v .body) x .state)) → Asides (v .body) (serve-flag (v .body) f have l)
-  flag-asides f have [] h = (sets f have, tt)
-  flag-asides f have (x ∷ l) h =
+  flag-asides : (c : Body) (f have : ℕ) (l : List ℕ) → Off-pools c l → Asides c (serve-flag (v .body) f have l)
+  flag-asides c f have [] h = (sets f have, tt)
+  flag-asides c f have (x ∷ l) h =
       go (met have (wish (waitOf (task (v .body) x .state)) .0) (wish (waitOf (task (v .body) x .state)) .1))
-      (flag-asides f (left have (wish (waitOf (task (v .body) x .state)) .1)) l (λ y z. h y (times-tail x y l z))) (flag-asides f have l (λ y z. h y (times-tail x y l z)))
+      (flag-asides (after (release x OK have) c) f (left have (wish (waitOf (task (v .body) x .state)) .1)) l (off-release c x OK have l h)) (flag-asides c f have l (off-later c x l h))
     where
-      go : (t : Bool) → Asides (v .body) (serve-flag (v .body) f (left have (wish (waitOf (task (v .body) x .state)) .1)) l) → Asides (v .body) (serve-flag (v .body) f have l)
-          → Asides (v .body) (cond t (release x OK have ∷ serve-flag (v .body) f (left have (wish (waitOf (task (v .body) x .state)) .1)) l) (serve-flag (v .body) f have l))
+      go : (t : Bool) → Asides (after (release x OK have) c) (serve-flag (v .body) f (left have (wish (waitOf (task (v .body) x .state)) .1)) l) → Asides c (serve-flag (v .body) f have l)
+          → Asides c (cond t (release x OK have ∷ serve-flag (v .body) f (left have (wish (waitOf (task (v .body) x .state)) .1)) l) (serve-flag (v .body) f have l))
       go true g k = (frees x OK have (h x (times-head x l)), g)
       go false g k = k
 
   still-set : (a b : ℤ) → outside a (objects (v .body .store) flag) ≡ false → StillVerdict (v .body) (set-flg v a b)
   unfolding set-flg belongs
   still-set a b o =
-      on-acts (still-list (v .body) _ (flag-asides (nat a) _ (line v (waiters flag (nat a))) (λ x z. other-kind flag (nat a) refl x (stands-belongs v s (waiters flag (nat a)) (in-by a _ o) x z))))
+      on-acts (still-list (v .body) _ (flag-asides (v .body) (nat a) _ (line v (waiters flag (nat a))) (λ x z. other-kind flag (nat a) refl x (stands-belongs v s (waiters flag (nat a)) (in-by a _ o) x z))))
 
 -- the tick
-tick-asides : (b : Body) (l : List ℕ) → ((x : ℕ) → times x l ≢ 0 → No-pool (task b x .state)) → Asides b (map timeout l ++ elapse ∷ [])
-tick-asides b [] h = (elapses, tt)
-tick-asides b (x ∷ l) h = (frees x E-TMOUT 0 (h x (times-head x l)), tick-asides b l (λ y z. h y (times-tail x y l z)))
+lapse-asides : (b : Body) (l : List ℕ) → Off-pools b l → Asides b (map timeout l ++ elapse ∷ [])
+lapse-asides b [] h = (elapses, tt)
+lapse-asides b (x ∷ l) h = (frees x E-TMOUT 0 (h x (times-head x l)), lapse-asides (after (timeout x) b) l (off-release b x E-TMOUT 0 l h))
 
-pub tick-still : (b : Body) → Still b (map timeout (endings b) ++ elapse ∷ [])
-tick-still b = still-list b _ (tick-asides b (endings b) (λ x z. ending-no-pool (waitOf (task b x .state)) (kept-passes (λ i. ending (waitOf (task b i .state))) x (ids (length (b .tasks))) z)))
+firing-aside : (b : Body) (a : Act) → FiringAct b a → Aside b a
+firing-aside b a (starts i d) = begins i d
+firing-aside b a (wakes i s) = frees i OK 0 (sleeper-no-pool (waitOf (task b i .state)) s)
+firing-aside b a (stores i x d s m) = counts i _
+firing-aside b a (keeps k c g f) = rung k c _
+
+pub tick-still : (b : Body) (n : ℕ) → Still b (lapse b ++ rings (afters (lapse b) b) n 1)
+tick-still b n =
+    still-list b _ (along-append Aside (lapse b) _ b
+    (lapse-asides b (endings b) (λ x z. ending-no-pool (waitOf (task b x .state)) (kept-passes (λ i. ending (waitOf (task b i .state))) x (ids (length (b .tasks))) z)))
+    (rings-along Aside firing-aside n 1 (afters (lapse b) b)))
 
 -- ---- handed over, counted
 
@@ -540,7 +567,7 @@ module _ (v : View) (s : Sound v) (x a y z : ℤ) where
 
   module _ (h : Bool) (me : ℕ) where
     rows : AllRows Deals v h me 1 (table v me a y z)
-    unfolding table staTsk extTsk terTsk chgPri rotRdq relWai susTsk rsmTsk slpTsk waiTsk wupTsk canWup sigSem waiSem preqSem setFlg clrFlg waiFlg polFlg sndMsg rcvMsg prcvMsg getBlk pgetBlk relBlk getTid tskSts semSts flgSts mbxSts mplSts getTim creTsk delTsk exdTsk starting sta-tsk ext-tsk ter-tsk chg-pri rot-rdq rel-wai sus-tsk rsm-tsk take-wakeup slp-tsk wai-tsk waking wup-tsk can-wup get-tid tsk-sts cre-tsk del-tsk exd-tsk obj-sts sig-sem take-sem clr-flg take-flg snd-msg take-msg get-tim bad ok number
+    unfolding table staTsk extTsk terTsk chgPri rotRdq relWai susTsk rsmTsk slpTsk waiTsk wupTsk canWup sigSem waiSem preqSem setFlg clrFlg waiFlg polFlg sndMsg rcvMsg prcvMsg getBlk pgetBlk relBlk getTid tskSts semSts flgSts mbxSts mplSts getTim creTsk delTsk exdTsk setAbs setRel canAlm almSts starting sta-tsk ext-tsk ter-tsk chg-pri rot-rdq rel-wai sus-tsk rsm-tsk take-wakeup slp-tsk wai-tsk waking wup-tsk can-wup get-tid tsk-sts cre-tsk del-tsk exd-tsk obj-sts sig-sem take-sem clr-flg take-flg snd-msg take-msg get-tim set-alm set-abs set-rel can-alm alm-sts bad ok number
     rows =
         (λ t. quiet refl refl refl (search calm depth 9))
         ⊗ (λ t. quiet refl refl refl (search calm depth 9))
@@ -577,6 +604,10 @@ module _ (v : View) (s : Sound v) (x a y z : ℤ) where
         ⊗ (λ t. quiet refl refl refl (search calm depth 9))
         ⊗ (λ t. quiet refl refl refl (search calm depth 9))
         ⊗ (λ t. quiet refl refl refl (search calm depth 9))
+        ⊗ (λ t. quiet refl refl refl (search calm depth 9))
+        ⊗ (λ t. quiet refl refl refl (search calm depth 9))
+        ⊗ (λ t. quiet refl refl refl (search calm depth 9))
+        ⊗ (λ t. quiet refl refl refl (search calm depth 9))
         ⊗ tt
 
 -- ---- an event
@@ -591,7 +622,7 @@ exit-still v = search calm depth 9
 
 pub event-deal : (v : View) → Sound v → (e : Event) → Deal v e (judge v e)
 unfolding judge ticked
-event-deal v s tick = nothing _ (λ p k. refl) (λ p k. refl) (tick-still (v .body))
+event-deal v s tick = nothing _ (λ p k. refl) (λ p k. refl) (tick-still (v .body) _)
 event-deal v s enter = elim (enter-still v) [ on-acts g ↦ nothing _ (λ p k. refl) (λ p k. refl) g ]
 event-deal v s exit = elim (exit-still v) [ on-acts g ↦ nothing _ (λ p k. refl) (λ p k. refl) g ]
 event-deal v s (call x n a y z) = by-call (Deals v s x a y z) (no-way v s x a y z) v a y z (λ h. rows v s x a y z (handles v h) (caller v h)) x n

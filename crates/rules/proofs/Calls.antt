@@ -6,7 +6,7 @@ use mathlib.Core.Logic.{_⊎_, inl, inr, _≢_}
 use mathlib.Core.Option.{Option, none, some}
 use mathlib.Core.Path.{_≡_, refl, sym, ap, _∙_, subst}
 use Prim.Native.Nat.{ℕ, zero, suc, _+_, _*_, _/_, _%_, _^_, _≤_, _<_, min}
-use native.Mathlib.Nat.{le-refl}
+use native.Mathlib.Nat.{le-refl, mod-lt}
 use native.Mathlib.Omega.{arith}
 use lib.Arith.{half-le}
 use lib.Bits.{bitAnd, and-step, and-shr, and-mod, and-le-l, and-le-r, or-lt}
@@ -16,25 +16,27 @@ use lib.ListN.{length}
 use borrow.Author.Tests.{eqb-true, eqb-false, eq-eqb, ne-eqb, leb-false, not-false}
 use Rattle.rules.specs.Ids.{of, from, ids, In, once, times}
 use Rattle.rules.specs.Codes.{Code, OK, E-TMOUT}
-use Rattle.rules.specs.State.{Kind, semaphore, flag, mailbox, pool, Wait, on, State, dormant, ready, suspended, absent, waiting, waiting-suspended, Task, no-handler, depth, Body, task, nobody, objects, waitOf, isDormant, isAbsent, isReady, isWaiting, sleeps, wish}
+use Rattle.rules.specs.State.{Kind, semaphore, flag, mailbox, pool, Wait, on, State, dormant, ready, suspended, absent, waiting, waiting-suspended, Task, no-handler, depth, Setting, unset, due, noAlarm, Counter, alarmOf, alarmCount, Body, task, nobody, objects, waitOf, isDormant, isAbsent, isReady, isWaiting, sleeps, wish}
 use Rattle.rules.specs.Places.{waiters, mail, freeIn, belongs, awaits, lies}
 use Rattle.rules.specs.Setup.{Entry, Setup}
 use Rattle.rules.specs.Events.{Event, tick, enter, exit, call, Word, Words, nat, bits, outside, above}
-use Rattle.rules.specs.Acts.{Act, start, wait, release, wakeups, mark, elapse, after, started, freed, releasedTask, with-state, with-cell}
+use Rattle.rules.specs.Acts.{Act, start, wait, release, wakeups, mark, elapse, alarm, after, afters, started, freed, releasedTask, with-state, with-cell}
 use Rattle.rules.specs.View.{View, line, act, acts}
 use Rattle.rules.specs.Verdicts.{Verdict, waits}
 use Rattle.rules.specs.Tasks.{stateOf, starting, sta-tsk, ext-tsk, ter-tsk, chg-pri, rot-rdq, rel-wai, sus-tsk, rsm-tsk, take-wakeup, slp-tsk, wai-for, wai-tsk, waking, wup-tsk, can-wup, get-tid, tsk-sts, cre-tsk, del-tsk, exd-tsk}
 use Rattle.rules.specs.Objects.{to-first, obj-sts, countOf, sig-sem, take-sem, patternOf, met, left, serve-flag, set-flg, clr-flg, take-flg, snd-msg, take-msg, blocksOf, free, take-blk, rel-blk}
-use Rattle.rules.specs.Time.{get-tim, ending, endings, timeout, ticked}
+use Rattle.rules.specs.Alarms.{fires, again, rings, set-alm, set-abs, set-rel, can-alm, alm-sts}
+use Rattle.rules.specs.Time.{get-tim, ending, endings, timeout, lapse, ticked}
 use Rattle.rules.specs.Handling.{entered, exited}
-use Rattle.rules.specs.Rows.{staTsk, extTsk, terTsk, chgPri, rotRdq, relWai, susTsk, rsmTsk, slpTsk, waiTsk, wupTsk, canWup, sigSem, waiSem, preqSem, setFlg, clrFlg, waiFlg, polFlg, sndMsg, rcvMsg, prcvMsg, getBlk, pgetBlk, relBlk, getTid, tskSts, semSts, flgSts, mbxSts, mplSts, getTim, creTsk, delTsk, exdTsk}
+use Rattle.rules.specs.Rows.{staTsk, extTsk, terTsk, chgPri, rotRdq, relWai, susTsk, rsmTsk, slpTsk, waiTsk, wupTsk, canWup, sigSem, waiSem, preqSem, setFlg, clrFlg, waiFlg, polFlg, sndMsg, rcvMsg, prcvMsg, getBlk, pgetBlk, relBlk, getTid, tskSts, semSts, flgSts, mbxSts, mplSts, getTim, creTsk, delTsk, exdTsk, setAbs, setRel, canAlm, almSts}
 use Rattle.rules.specs.Table.{table, caller, handles, judge}
-use Rattle.rules.specs.Sound.{WishNumbers, WaitNumbers, anyLies, would-serve, Unserved, AllUnserved, SoundBody, Sound}
+use Rattle.rules.specs.Sound.{WishNumbers, WaitNumbers, anyLies, would-serve, Unserved, AllUnserved, SettingFits, SoundBody, Sound}
 use Rattle.rules.specs.Kernel.{frees, starts, begins, next}
 use Rattle.rules.proofs.Ids.{of-put-other, put-all, put-either, inside, tested, times-keep, times-ids}
-use Rattle.rules.proofs.Keeps.{NoneAt, Asks, Pre, asks-waits}
+use Rattle.rules.proofs.Keeps.{NoneAt, Asks, Pre, asks-waits, sound-after}
 use Rattle.rules.proofs.Queues.{sound-act, body-act, empty-belongs, none-waits, belongs-stands}
 use Rattle.rules.proofs.Handling.{calls-alone, caller-ready, inner-fits, outer-fits}
+use Rattle.rules.proofs.Firings.{Along, along-append, along-keeps, FiringAct, starts as begun, wakes, stores, keeps, rings-acts}
 use Rattle.rules.proofs.States.{there-by}
 use Rattle.rules.proofs.Waits.{in-by, waits-asks}
 use Rattle.rules.proofs.Judge.{_⊗_, AllRows, OnActs, on-acts, acts-check, acts-choose, acts-first, acts-count, acts-call}
@@ -42,13 +44,17 @@ use Rattle.rules.proofs.Judge.{_⊗_, AllRows, OnActs, on-acts, acts-ch
 -- ---- a list of acts, each of which finds what it needs
 
 abbrev pub Steps : Body → List Act → Type 0
-Steps b [] = Unit {0}
-Steps b (a ∷ l) = Pre b a × Steps (after a b) l
+Steps = Along Pre
 
 pub sound-acts : (l : List Act) (v : View) → Sound v → Steps (v .body) l → Sound (acts l v)
 unfolding acts
 sound-acts [] v h k = h
 sound-acts (a ∷ l) v h k = sound-acts l (act a v) (sound-act a v h (k .0)) (rw (body-act a v) (k .1))
+
+pub sound-afters : (l : List Act) (b : Body) → SoundBody b → Steps b l → SoundBody (afters l b)
+unfolding afters
+sound-afters [] b h s = h
+sound-afters (a ∷ l) b h s = sound-afters l (after a b) (sound-after a b h (s .0)) (s .1)
 
 -- all tasks are there
 abbrev pub AllThere : Body → Type 0
@@ -94,9 +100,9 @@ Fine b r = OnActs (Steps b) r
 
 -- ---- words
 
-mode-small : (m : ℤ) → above m 3 ≡ false → nat m ≤ 3
-mode-small (pos n) e = omega (arith, leb-false 4 n e)
-mode-small (negsuc n) e = omega arith
+at-most : (m : ℤ) (n : ℕ) → above m n ≡ false → nat m ≤ n
+at-most (pos k) n e = omega (arith, leb-false (suc n) k e)
+at-most (negsuc k) n e = omega arith
 
 nat-small : (a : ℤ) → Word a → nat a < 2 ^ 32
 nat-small (pos n) h = omega arith
@@ -318,11 +324,60 @@ tick-steps c [] g = (λ i. over (ending (waitOf (task c i .state))) (g i), tt)
 tick-steps c (x ∷ l) g = (inr (inl refl, refl), tick-steps (after (timeout x) c) l (ending-release c x l g))
 
 -- those whose wait ends are all listed
-ends-come : (b : Body) → Ending b (endings b)
+pub ends-come : (b : Body) → Ending b (endings b)
 ends-come b i e z =
     let r : In i (length (b .tasks)) = tested (λ t. ending (waitOf (t .state))) (b .tasks) i nobody refl e in
     let k : times i (endings b) ≡ 1 = times-keep i (λ j. ending (waitOf (task b j .state))) (ids (length (b .tasks))) ∙ rw e (times-ids i (length (b .tasks)) r) in
     absurd (omega (arith, sym z ∙ k))
+
+-- ---- alarms
+
+again-fits : (c : Counter) (s : Setting) → SettingFits (c .size) s → SettingFits (c .size) (again c s)
+again-fits c unset f = tt
+again-fits c (due e zero) f = tt
+again-fits c (due e (suc p)) f = (mod-lt (c .now + suc p) (omega (arith, f .0)), f .1)
+
+-- only an alarm that there is fires
+pub fires-there : (c : Counter) (k : ℕ) → fires c (alarmOf c k .setting) ≡ true → In k (length (c .alarms))
+fires-there c k e = tested (λ x. fires c (x .setting)) (c .alarms) k noAlarm refl e
+
+firing-pre : {a : Act} (b : Body) → SoundBody b → FiringAct b a → Pre b a
+firing-pre b h (begun i d) = λ r. there-by isDormant refl (task b i .state) d
+firing-pre b h (wakes i s) = inl (refl, lit< tt)
+firing-pre b h (stores i n d s m) = (omega (arith, leb-false 15 (task b i .wakeups) m), λ x. absurd (false≢true (sym d ∙ x)), λ x. absurd (false≢true (sym s ∙ x)), λ x. absurd (false≢true (sym n ∙ x)))
+firing-pre b h (keeps k c e f) = (e, again-fits (b .counter) (alarmOf (b .counter) k .setting) (h .counter .alarms k (fires-there (b .counter) k f) .setting))
+
+pub rings-steps : (n k : ℕ) (b : Body) → SoundBody b → Steps b (rings b n k)
+rings-steps n k b h = along-keeps FiringAct Pre SoundBody (λ b a s f. (firing-pre b s f, sound-after a b s (firing-pre b s f))) (rings b n k) b h (rings-acts n k b) .0
+
+pub lapse-steps : (b : Body) → Steps b (lapse b)
+lapse-steps b = tick-steps b (endings b) (ends-come b)
+
+-- where an alarm is there is a counter
+pub counted : (m n k : ℕ) → n ≡ alarmCount m → In k n → 0 < m
+counted zero n k e i = absurd (omega (arith, e, i .0, i .1))
+counted (suc m) n k e i = omega arith
+
+-- the calls on alarms
+module _ (v : View) (h : Sound v) (a : ℤ) (r : In (nat a) (length (v .body .counter .alarms))) where
+  some-size : 0 < v .body .counter .size
+  some-size = counted (v .body .counter .size) (length (v .body .counter .alarms)) (nat a) (h .body .counter .count) r
+
+  alm-fine : (e : ℕ) (c : ℤ) → e < v .body .counter .size → above c (v .body .counter .size) ≡ false → Fine (v .body) (set-alm v a e c)
+  unfolding set-alm
+  alm-fine e c l p = acts-check _ tt (λ u. on-acts ((h .body .counter .alarms (nat a) r .kept, (l, at-most c _ p)), tt))
+
+  abs-fine : (x c : ℤ) → above c (v .body .counter .size) ≡ false → Fine (v .body) (set-abs v a x c)
+  unfolding set-abs
+  abs-fine x c p = alm-fine _ c (mod-lt (nat x) some-size) p
+
+  set-rel-fine : (x c : ℤ) → above c (v .body .counter .size) ≡ false → Fine (v .body) (set-rel v a x c)
+  unfolding set-rel
+  set-rel-fine x c p = alm-fine _ c (mod-lt (v .body .counter .now + nat x) some-size) p
+
+  can-alm-fine : Fine (v .body) (can-alm v a)
+  unfolding can-alm
+  can-alm-fine = acts-check _ tt (λ u. on-acts ((h .body .counter .alarms (nat a) r .kept, tt), tt))
 
 -- ---- the calls on tasks
 
@@ -508,10 +563,10 @@ module _ (v : View) (h : Sound v) (x : Bool) (a p c : ℤ) (wa : Word a) (wp : W
   here k e = in-by a (objects (v .body .store) k) e
 
   wish-well : eqb (bits p) 0 ≡ false → above c 3 ≡ false → WishNumbers flag (bits p) (nat c)
-  wish-well z m = (eqb-false (bits p) 0 z, bits-small p wp, mode-small c m)
+  wish-well z m = (eqb-false (bits p) 0 z, bits-small p wp, at-most c 3 m)
 
   all-rows : AllRows (λ n r. Fine (v .body) r) v (handles v x) me 1 (table v me a p c)
-  unfolding table staTsk extTsk terTsk chgPri rotRdq relWai susTsk rsmTsk slpTsk waiTsk wupTsk canWup sigSem waiSem preqSem setFlg clrFlg waiFlg polFlg sndMsg rcvMsg prcvMsg getBlk pgetBlk relBlk getTid tskSts semSts flgSts mbxSts mplSts getTim creTsk delTsk exdTsk get-tid tsk-sts cre-tsk del-tsk exd-tsk obj-sts get-tim
+  unfolding table staTsk extTsk terTsk chgPri rotRdq relWai susTsk rsmTsk slpTsk waiTsk wupTsk canWup sigSem waiSem preqSem setFlg clrFlg waiFlg polFlg sndMsg rcvMsg prcvMsg getBlk pgetBlk relBlk getTid tskSts semSts flgSts mbxSts mplSts getTim creTsk delTsk exdTsk setAbs setRel canAlm almSts alm-sts get-tid tsk-sts cre-tsk del-tsk exd-tsk obj-sts get-tim
   all-rows =
       (λ t. sta-fine v h a)
       ⊗ (λ t. ext-fine v h me (alone (t .context)) (there (t .context)))
@@ -548,6 +603,10 @@ module _ (v : View) (h : Sound v) (x : Bool) (a p c : ℤ) (wa : Word a) (wp : W
       ⊗ (λ t. cre-fine v h a p (alone (t .context)) (in-by p _ (t .words .1 .0)))
       ⊗ (λ t. del-fine v h a (alone (t .context)))
       ⊗ (λ t. exd-fine v h me (alone (t .context)))
+      ⊗ (λ t. abs-fine v h a (in-by a _ (t .words .0)) p c (t .words .1 .1 .0))
+      ⊗ (λ t. set-rel-fine v h a (in-by a _ (t .words .0)) p c (t .words .1 .1 .0))
+      ⊗ (λ t. can-alm-fine v h a (in-by a _ (t .words .0)))
+      ⊗ (λ t. on-acts tt)
       ⊗ tt
 
 -- ---- handlers
@@ -566,7 +625,9 @@ module _ (v : View) (h : Sound v) where
 -- each act of an event finds what it needs
 pub steps-of-judge : (v : View) (e : Event) → Sound v → Words e → Steps (v .body) (judge v e .acts)
 unfolding judge ticked
-steps-of-judge v tick h w = tick-steps (v .body) (endings (v .body)) (ends-come (v .body))
+steps-of-judge v tick h w =
+    let b = v .body in
+    along-append Pre (lapse b) _ b (lapse-steps b) (rings-steps (length (b .counter .alarms)) 1 (afters (lapse b) b) (sound-afters (lapse b) b (h .body) (lapse-steps b)))
 steps-of-judge v enter h w = elim (enter-fine v h) [ on-acts k ↦ k ]
 steps-of-judge v exit h w = elim (exit-fine v h) [ on-acts k ↦ k ]
 steps-of-judge v (call x n a p c) h w = acts-call (Steps (v .body)) tt v a p c (λ y. all-rows v h y a p c (w .2) (w .3)) x n

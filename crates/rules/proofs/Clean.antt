@@ -7,6 +7,7 @@ use mathlib.Core.Path.{_≡_, refl, sym, ap, _∙_}
 use Prim.Native.Nat.{ℕ, zero, suc}
 use native.Mathlib.Omega.{arith}
 use lib.IntN.{ℤ, pos, negsuc}
+use lib.ListN.{length}
 use borrow.Author.Tests.{not-false}
 use Rattle.rules.specs.Codes.{Code, E-CTX, H-NEST, E-RLWAI, tellsDamage}
 use Rattle.rules.specs.State.{Wait, Handlers, Body}
@@ -16,9 +17,10 @@ use Rattle.rules.specs.View.{View}
 use Rattle.rules.specs.Verdicts.{Verdict, refuse, gives, done, waits, check, choose, onFirst, onCount}
 use Rattle.rules.specs.Tasks.{starting, sta-tsk, ext-tsk, ter-tsk, chg-pri, rot-rdq, rel-wai, sus-tsk, rsm-tsk, take-wakeup, slp-tsk, wai-for, wai-tsk, waking, wup-tsk, can-wup, get-tid, tsk-sts, cre-tsk, del-tsk, exd-tsk}
 use Rattle.rules.specs.Objects.{to-first, obj-sts, sig-sem, take-sem, set-flg, clr-flg, take-flg, snd-msg, take-msg, take-blk, rel-blk}
-use Rattle.rules.specs.Time.{get-tim, ticked, endings}
+use Rattle.rules.specs.Alarms.{set-alm, set-abs, set-rel, can-alm, alm-sts}
+use Rattle.rules.specs.Time.{get-tim, ticked}
 use Rattle.rules.specs.Handling.{entered, exited}
-use Rattle.rules.specs.Rows.{Row, staTsk, extTsk, terTsk, chgPri, rotRdq, relWai, susTsk, rsmTsk, slpTsk, waiTsk, wupTsk, canWup, sigSem, waiSem, preqSem, setFlg, clrFlg, waiFlg, polFlg, sndMsg, rcvMsg, prcvMsg, getBlk, pgetBlk, relBlk, getTid, tskSts, semSts, flgSts, mbxSts, mplSts, getTim, creTsk, delTsk, exdTsk}
+use Rattle.rules.specs.Rows.{Row, staTsk, extTsk, terTsk, chgPri, rotRdq, relWai, susTsk, rsmTsk, slpTsk, waiTsk, wupTsk, canWup, sigSem, waiSem, preqSem, setFlg, clrFlg, waiFlg, polFlg, sndMsg, rcvMsg, prcvMsg, getBlk, pgetBlk, relBlk, getTid, tskSts, semSts, flgSts, mbxSts, mplSts, getTim, creTsk, delTsk, exdTsk, setAbs, setRel, canAlm, almSts}
 use Rattle.rules.specs.Table.{caller, handles, table, judge}
 use Rattle.rules.proofs.Judge.{_⊗_, bad, bad-not-damage, AllRows, by-call}
 use Rattle.rules.proofs.Cells.{Careful-list, nothing, one, several, flag-gentle, tick-gentle}
@@ -73,9 +75,13 @@ all-rows b v h me k [] g = tt
 all-rows b v h me k (r ∷ l) g = (λ t. g .0, all-rows b v h me (suc k) l (g .1))
 
 rules : (v : View) (me : ℕ) (a b c : ℤ) → Rules (v .body) (table v me a b c)
-unfolding table staTsk extTsk terTsk chgPri rotRdq relWai susTsk rsmTsk slpTsk waiTsk wupTsk canWup sigSem waiSem preqSem setFlg clrFlg waiFlg polFlg sndMsg rcvMsg prcvMsg getBlk pgetBlk relBlk getTid tskSts semSts flgSts mbxSts mplSts getTim creTsk delTsk exdTsk starting sta-tsk ext-tsk ter-tsk chg-pri rot-rdq rel-wai sus-tsk rsm-tsk take-wakeup slp-tsk wai-tsk waking wup-tsk can-wup get-tid tsk-sts cre-tsk del-tsk exd-tsk to-first obj-sts sig-sem take-sem set-flg clr-flg take-flg snd-msg take-msg take-blk rel-blk get-tim bad
+unfolding table staTsk extTsk terTsk chgPri rotRdq relWai susTsk rsmTsk slpTsk waiTsk wupTsk canWup sigSem waiSem preqSem setFlg clrFlg waiFlg polFlg sndMsg rcvMsg prcvMsg getBlk pgetBlk relBlk getTid tskSts semSts flgSts mbxSts mplSts getTim creTsk delTsk exdTsk setAbs setRel canAlm almSts set-alm set-abs set-rel can-alm alm-sts starting sta-tsk ext-tsk ter-tsk chg-pri rot-rdq rel-wai sus-tsk rsm-tsk take-wakeup slp-tsk wai-tsk waking wup-tsk can-wup get-tid tsk-sts cre-tsk del-tsk exd-tsk to-first obj-sts sig-sem take-sem set-flg clr-flg take-flg snd-msg take-msg take-blk rel-blk get-tim bad
 rules v me a b c =
     (search clean depth 9)
+    ⊗ (search clean depth 9)
+    ⊗ (search clean depth 9)
+    ⊗ (search clean depth 9)
+    ⊗ (search clean depth 9)
     ⊗ (search clean depth 9)
     ⊗ (search clean depth 9)
     ⊗ (search clean depth 9)
@@ -114,7 +120,7 @@ rules v me a b c =
 
 pub tick-clean : (v : View) → Clean (v .body) (judge v tick)
 unfolding judge ticked
-tick-clean v = given 0 0 _ (several _ (tick-gentle (endings (v .body))))
+tick-clean v = given 0 0 _ (several _ (tick-gentle (v .body) (length (v .body .counter .alarms))))
 
 pub call-clean : (v : View) (x n a b c : ℤ) → Clean (v .body) (judge v (call x n a b c))
 call-clean v x n a b c =

@@ -27,7 +27,7 @@ put-put l (suc i) a b = set-set l i a b
 -- the same body
 after-both : (i : ℕ) (b : Body) → after (delete i) (after (retire i) b) ≡ after (delete i) b
 unfolding after
-after-both i b = λ z. record { tasks = put-put (b .tasks) i (retired (task b i)) nobody z; store = b .store; handlers = b .handlers }
+after-both i b = λ z. record { tasks = put-put (b .tasks) i (retired (task b i)) nobody z; store = b .store; handlers = b .handlers; counter = b .counter }
 
 both-same : (t : Bool) → (t && t) ≡ t
 both-same true = refl

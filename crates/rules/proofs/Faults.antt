@@ -1,7 +1,7 @@
 -- A setup is refused exactly for its first fault. Along the words of a setup in range the reader goes on to the next word, which is not
 -- whole, outside its range, or stands in another setup in range (`Next`); so it ends at the first fault. Assumes nothing.
 use mathlib.Core.Bool.{Bool, true, false, cond}
-use mathlib.Core.List.{List, [], _∷_, _++_, map, tail}
+use mathlib.Core.List.{List, [], _∷_, _++_, map, tail, append-nil}
 use mathlib.Core.Logic.{_⊎_, inl, inr, _↔_}
 use mathlib.Core.Path.{_≡_, refl, sym, ap, _∙_, subst}
 use Prim.Native.Nat.{ℕ, zero, suc, _+_, _*_, _-_, _≤_, _<_}
@@ -12,14 +12,14 @@ use lib.ListN.{length, getD, take, length-append, length-map, length-replicate, 
 use lib.Seq.{getD-append-add, getD-take}
 use borrow.Author.Tests.{le-leb, lt-leb, leb-true, leb-false}
 use Rattle.rules.specs.Ids.{In, Each}
-use Rattle.rules.specs.Setup.{Fault, S1, S2, S3, S4, Read, got, refused, and-then, wordAt, Range, to, within, readWord, Section, priorities, sections, readEntry, readEntries, readSection, readSections, Setup, GoodSetup, setupOf, readSetup, at-end, setup}
-use Rattle.rules.specs.Writing.{joined, setupSections, setupWords, wordBytes, setupBytes, Bytes}
-use Rattle.rules.specs.Faults.{sectionFaults, wordFaults, Begins, Needs, Outside, HasFault}
+use Rattle.rules.specs.Setup.{Fault, S1, S2, S3, S4, Read, got, refused, and-then, wordAt, Range, to, within, readWord, Section, priorities, sections, alarmRanges, counters, readEntry, readEntries, readSection, readSections, Setup, GoodSetup, entriesOf, setupOf, readWith, readSetup, perhaps, at-end, setup}
+use Rattle.rules.specs.Writing.{joined, taskWords, sevenSections, setupSections, setupWords, wordBytes, setupBytes, sevenBytes, Alone, Bytes}
+use Rattle.rules.specs.Faults.{sectionFaults, wordFaults, Begins, Needs, Outside, EndsAfterSeven, HasFault}
 use Rattle.rules.proofs.Waits.{both-true}
 use Rattle.rules.proofs.Judge.{_⊗_}
-use Rattle.rules.proofs.Accepted.{InRange, Fits, SectionFits, SectionsFit, good-sections}
-use Rattle.rules.proofs.Spelled.{Spells, word-got, entry-got, sectionWords, sectionsWords, section-got, wordAt-behind, word-bytes, length-written, written-spells}
-use Rattle.rules.proofs.Setups.{sectionsOf, sections-of, sections-setup, good-fits, setup-got, narrow, accepted-written, accepted-exactly, each-replicate}
+use Rattle.rules.proofs.Accepted.{Reads, InRange, Fits, SectionFits, SectionsFit, good-sections}
+use Rattle.rules.proofs.Spelled.{Spells, word-got, entry-got, sectionWords, sectionsWords, section-got, Stands, wordAt-behind, word-bytes, length-written, written-spells, spells-written}
+use Rattle.rules.proofs.Setups.{sectionsOf, countersOf, sevenWords, seven-of, joined-append, eight-words, seven-words, sections-setup, counters-back, good-fits, counters-fit, seven-got, setup-got, priorities-known, six-known, seven-stand, narrow, narrow-seven, seven-back, accepted-written, accepted-exactly, each-replicate}
 
 module _ (s : List ℕ) where
   -- ---- the first k words stand in the bytes from an offset on
@@ -212,7 +212,7 @@ sections-open P h =
 
 -- the smallest setup with P priorities: one task
 smallest : ℕ → Setup
-smallest P = record { priorities = P; tasks = record { priority = 1; started = false } ∷ []; semaphores = []; flags = []; mailboxes = 0; messages = 0; pools = [] }
+smallest P = record { priorities = P; tasks = record { priority = 1; started = false } ∷ []; semaphores = []; flags = []; mailboxes = 0; messages = 0; pools = []; counters = [] }
 
 smallest-good : (P : ℕ) → In P 16 → GoodSetup (smallest P)
 unfolding smallest
@@ -228,15 +228,39 @@ smallest-good P h = record {
   messages = omega arith;
   pools = omega arith;
   blocks = tt;
+  counters = omega arith;
+  counter = tt;
 }
 
--- the words behind the priorities, and their faults
-behind : Setup → List (List ℕ)
-behind u = tail (setupSections u)
+-- the words of the six sections behind the priorities, and their faults
+six : Setup → List (List ℕ)
+six u = tail (sevenSections u)
 
-behind-of : (u : Setup) → behind u ≡ map sectionWords (sectionsOf u)
-unfolding behind
-behind-of u = ap (λ (l : List (List ℕ)). tail l) (sections-of u)
+six-of : (u : Setup) → six u ≡ map sectionWords (sectionsOf u)
+unfolding six
+six-of u = ap (λ (l : List (List ℕ)). tail l) (seven-of u)
+
+-- the faults of the words of the seven sections, then those of the eighth
+abbrev faultsOf : List (List ℕ) → List Fault
+faultsOf l = joined (map sectionFaults l)
+
+faults-split : (u : Setup) → wordFaults u ≡ faultsOf (sevenSections u) ++ sectionFaults (sectionWords (countersOf u))
+faults-split u =
+    joined-append (map sectionFaults (sevenSections u)) (sectionFaults (sectionWords (countersOf u)) ∷ [])
+    ∙ ap (λ (l : List Fault). faultsOf (sevenSections u) ++ l) (append-nil (sectionFaults (sectionWords (countersOf u))))
+
+as-many-faults : (l : List (List ℕ)) → length (faultsOf l) ≡ length (joined l)
+as-many-faults [] = refl
+as-many-faults ([] ∷ l) = as-many-faults l
+as-many-faults ((n ∷ x) ∷ l) =
+    ap suc (length-append (map (λ w. S3) x) (faultsOf l) ∙ (λ z. length-map x (λ w. S3) z + as-many-faults l z) ∙ sym (length-append x (joined l)))
+
+counter-open : (n : ℕ) → 1 ≤ n → Open (counters n .entry)
+counter-open n h = (omega arith, alarms 8)
+  where
+    alarms : (k : ℕ) → Open (alarmRanges n k)
+    alarms zero = tt
+    alarms (suc k) = (h, (omega arith, alarms k))
 
 module _ (s : List ℕ) where
   -- the priorities are read: as many empty entries
@@ -245,31 +269,86 @@ module _ (s : List ℕ) where
   none-read zero j = refl
   none-read (suc n) j = rw (none-read n j)
 
-  priorities-read : (P : ℕ) → In P 16 → 0 + 4 ≤ length s → wordAt s 0 ≡ P → readSetup s 0 ≡ and-then (readSections s (sections P) (0 + 4)) (λ l k. got (setupOf P l) k)
-  unfolding readSetup readSection and-then
+  priorities-read : (P : ℕ) → In P 16 → 0 + 4 ≤ length s → wordAt s 0 ≡ P
+      → readSetup s 0 ≡ and-then (readSections s (sections P) (0 + 4)) (λ l k. and-then (readSection s (counters (length (entriesOf l 0))) k) (λ c m. got (setupOf P l c) m))
+  unfolding readSetup readWith readSection and-then
   priorities-read P r h e = rw (word-got s (to 1 16) S2 0 P r h e, none-read P (0 + 4), length-replicate {A = List ℕ} P [])
 
   setup-next : (u : Setup) → GoodSetup u → (k : ℕ) → k < length (setupWords u) → Follows s 0 k (setupWords u) → Next s setupWords GoodSetup (getD (wordFaults u) k S1) 0 k (readSetup s 0)
-  unfolding behind
+  unfolding six
   setup-next u g zero b h =
       carry s (λ n. n ∷ []) (InRange (to 1 16)) setupWords GoodSetup S2 0 0 0 0 (readWord s (to 1 16) S2 0) (readSetup s 0) refl
-      (λ d p q. unfold readSetup readSection in stops s (and-then (readWord s (to 1 16) S2 0) (λ n j. readEntries s [] n j)) _ d p (stops s (readWord s (to 1 16) S2 0) _ d p q))
+      (λ d p q. unfold readSetup readWith readSection in stops s (and-then (readWord s (to 1 16) S2 0) (λ n j. readEntries s [] n j)) _ d p (stops s (readWord s (to 1 16) S2 0) _ d p q))
       (λ n r f. (smallest n, smallest-good n r, unfold smallest in (f .0, f .1, tt))) (word-next s (to 1 16) S2 0)
-  setup-next u g (suc k) b h =
-      subst (λ (f : Fault). Next s setupWords GoodSetup f 0 (suc k) (readSetup s 0)) (ap (λ (l : List (List ℕ)). getD (joined (map sectionFaults l)) k S1) (sym (behind-of u)))
-      (carry s sectionsWords (SectionsFit (sections P)) setupWords GoodSetup (getD (joined (map sectionFaults (map sectionWords (sectionsOf u)))) k S1) (0 + 4) k 0 (suc k) (readSections s (sections P) (0 + 4)) (readSetup s 0) (omega arith)
-      (λ d p q. priorities-read P (g .priorities) (h .0) (h .1) ∙ stops s (readSections s (sections P) (0 + 4)) _ d p q)
-      (λ l o f. (setupOf P l, good-sections P l (g .priorities) o, (h .0, h .1, subst (Follows s (0 + 4) (suc k)) (sym (back l o)) f)))
-      (sections-next s (sections P) (sectionsOf u) (0 + 4) k (sections-open P (g .priorities .0)) (good-fits u g) (omega (arith, b, ap length words)) (subst (Follows s (0 + 4) k) words (h .2))))
+  setup-next u g (suc k) b h = go (decLt (suc k) (length (sevenWords u)))
     where
       P : ℕ
       P = u .priorities
 
-      words : joined (behind u) ≡ sectionsWords (sectionsOf u)
-      words = ap joined (behind-of u)
+      n : ℕ
+      n = length (u .tasks)
 
-      back : (l : List (List (List ℕ))) → SectionsFit (sections P) l → joined (behind (setupOf P l)) ≡ sectionsWords l
-      back l o = ap joined (behind-of (setupOf P l)) ∙ ap sectionsWords (sections-setup P l o)
+      c : List (List ℕ)
+      c = countersOf u
+
+      h′ : Follows s 0 (suc k) (sevenWords u ++ sectionWords c)
+      h′ = subst (Follows s 0 (suc k)) (eight-words u) h
+
+      Target : Fault → Type 0
+      Target f = Next s setupWords GoodSetup f 0 (suc k) (readSetup s 0)
+
+      -- in the first seven sections: another setup need have no counter
+      early : suc k < length (sevenWords u) → Target (getD (wordFaults u) (suc k) S1)
+      early a =
+          subst Target (sym (ap (λ (l : List Fault). getD l (suc k) S1) (faults-split u) ∙ List·getD-append (faultsOf (sevenSections u)) _ S1 (suc k) (omega (arith, a, as-many-faults (sevenSections u))) ∙ ap (λ (l : List (List ℕ)). getD (faultsOf l) k S1) (six-of u)))
+          (carry s sectionsWords (SectionsFit (sections P)) setupWords GoodSetup (getD (faultsOf (map sectionWords (sectionsOf u))) k S1) (0 + 4) k 0 (suc k) (readSections s (sections P) (0 + 4)) (readSetup s 0) (omega arith)
+          (λ d p q. priorities-read P (g .priorities) (f .0) (f .1) ∙ stops s (readSections s (sections P) (0 + 4)) _ d p q)
+          (λ l o x. (setupOf P l [], good-sections P l [] (g .priorities) o ((omega arith, omega arith), tt), subst (Follows s 0 (suc (suc k))) (sym (eight-words (setupOf P l []))) (follows-left s 0 (suc (suc k)) (sevenWords (setupOf P l [])) _ (f .0, f .1, subst (Follows s (0 + 4) (suc k)) (sym (back l o)) x))))
+          (sections-next s (sections P) (sectionsOf u) (0 + 4) k (sections-open P (g .priorities .0)) (good-fits u g) (omega (arith, a, ap length words)) (subst (Follows s (0 + 4) k) words (f .2))))
+        where
+          f : Follows s 0 (suc k) (sevenWords u)
+          f = follows-first s 0 (suc k) (sevenWords u) (sectionWords c) (omega arith) h′
+
+          words : joined (six u) ≡ sectionsWords (sectionsOf u)
+          words = ap joined (six-of u)
+
+          back : (l : List (List (List ℕ))) → SectionsFit (sections P) l → joined (six (setupOf P l [])) ≡ sectionsWords l
+          back l o = ap joined (six-of (setupOf P l [])) ∙ ap sectionsWords (sections-setup P l [] o)
+
+      -- in the eighth: the seven before it stay
+      late : length (sevenWords u) ≤ suc k → Target (getD (wordFaults u) (suc k) S1)
+      late a =
+          subst Target (sym (ap (λ (l : List Fault). getD l (suc k) S1) (faults-split u) ∙ ap (λ (i : ℕ). getD (faultsOf (sevenSections u) ++ sectionFaults (sectionWords c)) i S1) (sym at ∙ ap (λ (i : ℕ). i + m) (sym (as-many-faults (sevenSections u)))) ∙ getD-append-add (faultsOf (sevenSections u)) (sectionFaults (sectionWords c)) m S1))
+          (carry s sectionWords (SectionFits (counters n)) setupWords GoodSetup (getD (sectionFaults (sectionWords c)) m S1) j m 0 (suc k) (readSection s (counters n) j) (readSetup s 0) (omega arith)
+          (λ d p q. unfold readSetup in seven-got u g readSection s 0 there ∙ stops s (readSection s (counters n) j) _ d p q)
+          (λ x o f. (
+            setupOf P (sectionsOf u) x,
+            good-sections P (sectionsOf u) x (g .priorities) (good-fits u g) (subst (λ (i : ℕ). SectionFits (counters i) x) (sym (length-map (u .tasks) taskWords)) o),
+            subst (Follows s 0 (suc (suc k))) (sym (back x o)) (follows-at s 0 0 (length (sevenWords u) + suc m) (suc (suc k)) (sevenWords u ++ sectionWords x) refl (omega arith) (follows-both s 0 (suc m) (sevenWords u) (sectionWords x) there f)),
+          ))
+          (section-next s (counters n) c j m (counter-open n (g .tasks .0)) (counters-fit u g) (omega (arith, b, ap length (eight-words u), length-append (sevenWords u) (sectionWords c)))
+          (follows-rest s 0 m (sevenWords u) (sectionWords c) (follows-at s 0 0 (suc k) (length (sevenWords u) + m) (sevenWords u ++ sectionWords c) refl (sym at) h′))))
+        where
+          m : ℕ
+          m = suc k - length (sevenWords u)
+
+          j : ℕ
+          j = 0 + 4 * length (sevenWords u)
+
+          at : length (sevenWords u) + m ≡ suc k
+          at = omega arith
+
+          there : Spells s 0 (sevenWords u)
+          there = follows-spells s 0 (suc k) (sevenWords u) (sectionWords c) a h′
+
+          back : (x : List (List ℕ)) → SectionFits (counters n) x → setupWords (setupOf P (sectionsOf u) x) ≡ sevenWords u ++ sectionWords x
+          back x o =
+              eight-words (setupOf P (sectionsOf u) x)
+              ∙ (λ z. (seven-words (setupOf P (sectionsOf u) x) ∙ ap (λ (l : List (List (List ℕ))). sectionWords (replicate P []) ++ sectionsWords l) (sections-setup P (sectionsOf u) x (good-fits u g)) ∙ sym (seven-words u)) z ++ sectionWords (counters-back n x (o .1) z))
+
+      go : Dec (suc k < length (sevenWords u)) → Target (getD (wordFaults u) (suc k) S1)
+      go (yes a) = early a
+      go (no a) = late (omega arith)
 
 -- ---- along the bytes: the reader comes to the end of a setup in range, or stops at a fault, not before word k
 
@@ -398,16 +477,63 @@ kind-at ((n ∷ x) ∷ l) (suc j) h = go x j (λ k. kind-at l k) (omega (arith, 
     go (w ∷ x) zero f h = inr refl
     go (w ∷ x) (suc j) f h = go x j f (omega (arith, h))
 
+-- ---- a setup alone: read like a recorded one, or its bytes end after seven sections
+
+module _ {A B : Type 0} (E : Type 0) where
+  same-or : (P : A → ℕ → Type 0) (r : Read A) (f g : A → ℕ → Read B) → Reads P r → ((a : A) (i : ℕ) → P a i → (f a i ≡ g a i) ⊎ E) → (and-then r f ≡ and-then r g) ⊎ E
+  unfolding and-then
+  same-or P (got a i) f g h k = k a i h
+  same-or P (refused d p) f g h k = inl refl
+
+module _ (s : List ℕ) where
+  alone-or-seven : Bytes s → (readWith perhaps s 0 ≡ readSetup s 0) ⊎ EndsAfterSeven s
+  unfolding readSetup readWith perhaps
+  alone-or-seven b =
+      same-or (EndsAfterSeven s) _ (readSection s priorities 0) _ _ (priorities-known s 0)
+      (λ p j g. same-or (EndsAfterSeven s) _ (readSections s (sections (length p)) j) _ _ (six-known s (length p) j (g .0 .1))
+      (λ l k h. go p j l k (g .0 .0) (g .1) (h .0 .0) (h .0 .1) (h .1) (leb (length s) k) refl))
+    where
+      go : (p : List (List ℕ)) (j : ℕ) (l : List (List (List ℕ))) (k : ℕ) → SectionFits priorities p → Stands s sectionWords 0 p j
+          → SectionsFit (sections (length p)) l → k ≤ length s → Stands s sectionsWords j l k → (t : Bool) → leb (length s) k ≡ t
+          → (and-then (cond t (got [] k) (readSection s (counters (length (entriesOf l 0))) k)) (λ c n. got (setupOf (length p) l c) n) ≡ and-then (readSection s (counters (length (entriesOf l 0))) k) (λ c n. got (setupOf (length p) l c) n)) ⊎ EndsAfterSeven s
+      go p j l k f g e d h true q = inr (record {
+        setup = setupOf (length p) l [];
+        good = good-sections (length p) l [] (f .0) e ((omega arith, omega arith), tt);
+        none = refl;
+        bytes = let x = seven-stand s 0 p j l k [] f g e h in spells-written (sevenWords (setupOf (length p) l [])) s b (x .1) (omega (arith, x .0, d, leb-true (length s) k q));
+      })
+      go p j l k f g e d h false q = inl refl
+
+  module _ (q : EndsAfterSeven s) where
+    seven-there : (length s ≡ 4 * length (sevenWords (q .setup))) × Spells s 0 (sevenWords (q .setup))
+    seven-there = subst (λ (t : List ℕ). (length t ≡ 4 * length (sevenWords (q .setup))) × Spells t 0 (sevenWords (q .setup))) (sym (q .bytes))
+        (length-written (sevenWords (q .setup)), written-spells (sevenWords (q .setup)) (narrow-seven (q .setup) (q .good)))
+
+    -- Alone it is that setup;
+    pub seven-accepted : setup s ≡ got (q .setup) (length s)
+    seven-accepted = subst (λ (t : List ℕ). setup t ≡ got (q .setup) (length t)) (sym (q .bytes)) (seven-back (q .setup) (q .good) (q .none))
+
+    -- recorded it lacks a word.
+    pub seven-short : readSetup s 0 ≡ refused S1 (length s)
+    unfolding readSetup readSection readWord and-then
+    seven-short =
+        seven-got (q .setup) (q .good) readSection s 0 (seven-there .1)
+        ∙ rw (lt-leb (0 + 4 * length (sevenWords (q .setup)) + 4) (length s) (omega (arith, seven-there .0))) (ap (λ (i : ℕ). refused S1 i) (omega (arith, seven-there .0)))
+
 -- ---- the first fault
 
 module _ (s : List ℕ) (b : Bytes s) where
-  setup-refused : (d : Fault) (p : ℕ) → readSetup s 0 ≡ refused d p → setup s ≡ refused d p
-  unfolding setup at-end
-  setup-refused d p e = rw e
+  -- where a setup alone is read like a recorded one
+  abbrev Same : Type 0
+  Same = readWith perhaps s 0 ≡ readSetup s 0
 
-  left-over : (u : Setup) (i : ℕ) → readSetup s 0 ≡ got u i → i < length s → setup s ≡ refused S4 i
+  setup-refused : Same → (d : Fault) (p : ℕ) → readSetup s 0 ≡ refused d p → setup s ≡ refused d p
   unfolding setup at-end
-  left-over u i e h = rw (e, lt-leb (length s) i h)
+  setup-refused a d p e = rw (a, e)
+
+  left-over : Same → (u : Setup) (i : ℕ) → readSetup s 0 ≡ got u i → i < length s → setup s ≡ refused S4 i
+  unfolding setup at-end
+  left-over a u i e h = rw (a, e, lt-leb (length s) i h)
 
   -- where the reader stops at word j, no setup in range has the bytes up to that word's end
   none-begins : (f : Fault) (j : ℕ) → readSetup s 0 ≡ refused f (4 * j) → (u : Setup) → GoodSetup u → Begins s (4 * j + 4) u → ⊥
@@ -428,15 +554,22 @@ module _ (s : List ℕ) (b : Bytes s) where
 
   -- a word outside its range is refused by its fault
   outside-told : (f : Fault) (p : ℕ) (n : Needs s p) → getD (wordFaults (n .setup)) (n .word) S1 ≡ f → Outside s p → setup s ≡ refused f p
-  outside-told f p n e o = go (setup-next s (n .setup) (n .good) (n .word) (n .there) (needed p n))
+  outside-told f p n e o = elim (alone-or-seven s b) [ inl a ↦ go a (setup-next s (n .setup) (n .good) (n .word) (n .there) (needed p n)) | inr q ↦ absurd (begins q) ]
     where
-      go : Next s setupWords GoodSetup (getD (wordFaults (n .setup)) (n .word) S1) 0 (n .word) (readSetup s 0) → setup s ≡ refused f p
-      go (short c q) = absurd (omega (arith, o .0, n .place))
-      go (bad c q) = setup-refused f p (q ∙ (λ z. refused (e z) (at z)))
+      -- the bytes of the seven sections begin their setup
+      begins : EndsAfterSeven s → ⊥
+      begins q =
+          o .1 (q .setup) (q .good) (subst (λ (i : ℕ). Begins s i (q .setup)) (omega (arith, n .place)) (follows-begins s (suc (n .word)) (q .setup) (q .good) b
+          (subst (Follows s 0 (suc (n .word))) (sym (eight-words (q .setup))) (follows-left s 0 (suc (n .word)) (sevenWords (q .setup)) _
+          (spells-follow s s (length s) refl 0 (suc (n .word)) (sevenWords (q .setup)) (omega (arith, o .0, n .place)) (omega arith) (omega (arith, o .0, n .place, seven-there s q .0)) (seven-there s q .1))))))
+
+      go : Same → Next s setupWords GoodSetup (getD (wordFaults (n .setup)) (n .word) S1) 0 (n .word) (readSetup s 0) → setup s ≡ refused f p
+      go a (short c q) = absurd (omega (arith, o .0, n .place))
+      go a (bad c q) = setup-refused a f p (q ∙ (λ z. refused (e z) (at z)))
         where
           at : 0 + 4 * n .word ≡ p
           at = omega (arith, n .place)
-      go (good u g h) = absurd (o .1 u g (subst (λ (i : ℕ). Begins s i u) at (follows-begins s (suc (n .word)) u g b h)))
+      go a (good u g h) = absurd (o .1 u g (subst (λ (i : ℕ). Begins s i u) at (follows-begins s (suc (n .word)) u g b h)))
         where
           at : 4 * suc (n .word) ≡ p + 4
           at = omega (arith, n .place)
@@ -447,25 +580,27 @@ module _ (s : List ℕ) (b : Bytes s) where
     faulty : (d : Fault) (p : ℕ) → setup s ≡ refused d p → HasFault s d p → Decided
 
   decided : Decided
-  decided = go (from-word s 0 (smallest 1) (smallest-good 1 (omega arith, omega arith)) tt)
+  decided = elim (alone-or-seven s b) [ inl a ↦ go a (from-word s 0 (smallest 1) (smallest-good 1 (omega arith, omega arith)) tt) | inr q ↦ accepted (q .setup) (q .good) (seven-accepted s q) ]
     where
       needs : (u : Setup) → GoodSetup u → (j : ℕ) → j < length (setupWords u) → Follows s 0 j (setupWords u) → Needs s (4 * j)
       needs u g j c h = record { setup = u; good = g; word = j; there = c; place = refl; begins = follows-begins s j u g b h }
 
-      stopped : (u : Setup) (g : GoodSetup u) (j : ℕ) → j < length (setupWords u) → Follows s 0 j (setupWords u) → Stops s u j → Decided
-      stopped u g j c h (inl r) = faulty S1 (4 * j) (setup-refused S1 (4 * j) (r .1)) (needs u g j c h, r .0)
-      stopped u g j c h (inr r) = kind (getD (wordFaults u) j S1) refl (kind-at (setupSections u) j c) (r .1)
+      stopped : Same → (u : Setup) (g : GoodSetup u) (j : ℕ) → j < length (setupWords u) → Follows s 0 j (setupWords u) → Stops s u j → Decided
+      stopped a u g j c h (inl r) =
+          let e = setup-refused a S1 (4 * j) (r .1) in
+          faulty S1 (4 * j) e (needs u g j c h, r .0, λ q. got-refused (q .setup) (length s) S1 (4 * j) (sym (seven-accepted s q) ∙ e))
+      stopped a u g j c h (inr r) = kind (getD (wordFaults u) j S1) refl (kind-at (setupSections u) j c) (r .1)
         where
           outside : (f : Fault) → readSetup s 0 ≡ refused f (4 * j) → Outside s (4 * j)
           outside f q = (r .0, none-begins f j q)
 
           kind : (f : Fault) → getD (wordFaults u) j S1 ≡ f → Kind f → readSetup s 0 ≡ refused f (4 * j) → Decided
-          kind f e (inl k) q = faulty S2 (4 * j) (setup-refused S2 (4 * j) (q ∙ ap (λ (d : Fault). refused d (4 * j)) k)) (needs u g j c h, e ∙ k, outside f q)
-          kind f e (inr k) q = faulty S3 (4 * j) (setup-refused S3 (4 * j) (q ∙ ap (λ (d : Fault). refused d (4 * j)) k)) (needs u g j c h, e ∙ k, outside f q)
+          kind f e (inl k) q = faulty S2 (4 * j) (setup-refused a S2 (4 * j) (q ∙ ap (λ (d : Fault). refused d (4 * j)) k)) (needs u g j c h, e ∙ k, outside f q)
+          kind f e (inr k) q = faulty S3 (4 * j) (setup-refused a S3 (4 * j) (q ∙ ap (λ (d : Fault). refused d (4 * j)) k)) (needs u g j c h, e ∙ k, outside f q)
 
       -- a setup in range stands there whole: nothing follows, or bytes are left over
-      ended : (u : Setup) → GoodSetup u → Spells s 0 (setupWords u) → Decided
-      ended u g h = left (decLt n (length s))
+      ended : Same → (u : Setup) → GoodSetup u → Spells s 0 (setupWords u) → Decided
+      ended a u g h = left (decLt n (length s))
         where
           n : ℕ
           n = 4 * length (setupWords u)
@@ -477,30 +612,30 @@ module _ (s : List ℕ) (b : Bytes s) where
           read = setup-got u g s 0 h ∙ ap (λ (i : ℕ). got u i) (omega arith)
 
           left : Dec (n < length s) → Decided
-          left (yes c) = faulty S4 n (left-over u n read c) (u, g, starts, sym (length-written (setupWords u)), c)
+          left (yes c) = faulty S4 n (left-over a u n read c) (u, g, starts, sym (length-written (setupWords u)), c)
           left (no c) = accepted u g (whole (omega (arith, starts .0)))
             where
               whole : n ≡ length s → setup s ≡ got u (length s)
-              whole e = unfold setup at-end in rw (read, e, le-leb (length s) (length s) (omega arith))
+              whole e = unfold setup at-end in rw (a, read, e, le-leb (length s) (length s) (omega arith))
 
-      go : Outcome s 0 → Decided
-      go (ends u g c h) = ended u g h
-      go (fails u g j a c h r) = stopped u g j c h r
+      go : Same → Outcome s 0 → Decided
+      go a (ends u g c h) = ended a u g h
+      go a (fails u g j e c h r) = stopped a u g j c h r
 
   -- a fault that is there is the one that is told
   told : (d : Fault) (p : ℕ) → HasFault s d p → setup s ≡ refused d p
-  told S1 p h = go (setup-next s (n .setup) (n .good) (n .word) (n .there) (needed p n))
+  told S1 p h = elim (alone-or-seven s b) [ inl a ↦ go a (setup-next s (n .setup) (n .good) (n .word) (n .there) (needed p n)) | inr q ↦ absurd (h .2 q) ]
     where
       n : Needs s p
       n = h .0
 
-      go : Next s setupWords GoodSetup (getD (wordFaults (n .setup)) (n .word) S1) 0 (n .word) (readSetup s 0) → setup s ≡ refused S1 p
-      go (short c q) = setup-refused S1 p (q ∙ ap (λ (i : ℕ). refused S1 i) (omega (arith, n .place)))
-      go (bad c q) = absurd (omega (arith, h .1, n .place))
-      go (good u g f) = absurd (omega (arith, h .1, n .place, follows-long s 0 (suc (n .word)) (setupWords u) (omega arith) f))
+      go : Same → Next s setupWords GoodSetup (getD (wordFaults (n .setup)) (n .word) S1) 0 (n .word) (readSetup s 0) → setup s ≡ refused S1 p
+      go a (short c q) = setup-refused a S1 p (q ∙ ap (λ (i : ℕ). refused S1 i) (omega (arith, n .place)))
+      go a (bad c q) = absurd (omega (arith, h .1, n .place))
+      go a (good u g f) = absurd (omega (arith, h .1, n .place, follows-long s 0 (suc (n .word)) (setupWords u) (omega arith) f))
   told S2 p h = outside-told S2 p (h .0) (h .1) (h .2)
   told S3 p h = outside-told S3 p (h .0) (h .1) (h .2)
-  told S4 p h = left-over u p (setup-got u g s 0 there ∙ ap (λ (i : ℕ). got u i) (omega (arith, at))) (h .4)
+  told S4 p h = elim (alone-or-seven s b) [ inl a ↦ left-over a u p read (h .4) | inr q ↦ absurd (got-refused u p S1 (length s) (sym read ∙ seven-short s q)) ]
     where
       u : Setup
       u = h .0
@@ -516,6 +651,9 @@ module _ (s : List ℕ) (b : Bytes s) where
           follows-spells s 0 (length (setupWords u)) (setupWords u) [] (omega arith)
           (follows-left s 0 (length (setupWords u)) (setupWords u) [] (begins-follows s (length (setupWords u)) u g (subst (λ (i : ℕ). Begins s i u) at (h .2))))
 
+      read : readSetup s 0 ≡ got u p
+      read = setup-got u g s 0 there ∙ ap (λ (i : ℕ). got u i) (omega (arith, at))
+
   -- A list of bytes is refused with a fault and a place exactly if it has that fault there.
   pub refused-exactly : (d : Fault) (p : ℕ) → (setup s ≡ refused d p) ↔ HasFault s d p
   refused-exactly d p = (λ e. go e decided, told d p)
@@ -527,11 +665,11 @@ module _ (s : List ℕ) (b : Bytes s) where
           place : i ≡ p
           place = let z : suc i ≡ suc p = ap stoppedAt (sym q ∙ e) in omega arith
 
-  -- It is the bytes of a setup in range, or it has a fault;
-  pub setup-or-fault : ((u : Setup) × GoodSetup u × (s ≡ setupBytes u)) ⊎ ((d : Fault) × (p : ℕ) × HasFault s d p)
+  -- It is a setup in range, or it has a fault;
+  pub setup-or-fault : ((u : Setup) × GoodSetup u × Alone u s) ⊎ ((d : Fault) × (p : ℕ) × HasFault s d p)
   setup-or-fault = go decided
     where
-      go : Decided → ((u : Setup) × GoodSetup u × (s ≡ setupBytes u)) ⊎ ((d : Fault) × (p : ℕ) × HasFault s d p)
+      go : Decided → ((u : Setup) × GoodSetup u × Alone u s) ⊎ ((d : Fault) × (p : ℕ) × HasFault s d p)
       go (accepted u g e) = inl (u, g, accepted-written s u (length s) e b)
       go (faulty d p e h) = inr (d, p, h)
 
@@ -546,5 +684,5 @@ module _ (s : List ℕ) (b : Bytes s) where
       place = let z : suc p ≡ suc q = ap stoppedAt same in omega arith
 
   -- and not both.
-  pub fault-no-setup : (d : Fault) (p : ℕ) → HasFault s d p → (u : Setup) → GoodSetup u → s ≡ setupBytes u → ⊥
+  pub fault-no-setup : (d : Fault) (p : ℕ) → HasFault s d p → (u : Setup) → GoodSetup u → Alone u s → ⊥
   fault-no-setup d p h u g e = got-refused u (length s) d p (sym (accepted-exactly s b u .1 (g, e)) ∙ told d p h)

@@ -9,7 +9,7 @@ use Rattle.rules.specs.Ids.{of, put, In}
 use Rattle.rules.specs.Codes.{Code}
 use Rattle.rules.specs.State.{Kind, Wait, State, dormant, ready, suspended, absent, waiting, waiting-suspended, Task, Body, task, nobody, isReady, isWaiting}
 use Rattle.rules.specs.Places.{Place, readyAt, waiters, mail, freeIn, Sort, tasks, messages, blocks, aTask, aMessage, aBlock, item, same, population, many, belongs, awaits, lies}
-use Rattle.rules.specs.Acts.{Act, start, retire, create, delete, rotate, regrade, wait, release, suspend, resume, wakeups, count, pattern, post, receive, mark, elapse, nest, after, Move, stay, leave, last, move, change, started, retired, created, releasedTask, halted, resumed, older, with-state, with-priority, with-wakeups, releasedMove, haltedMove, resumedMove, regradedMove, markedMove}
+use Rattle.rules.specs.Acts.{Act, start, retire, create, delete, rotate, regrade, wait, release, suspend, resume, wakeups, count, pattern, post, receive, mark, elapse, nest, alarm, after, Move, stay, leave, last, move, change, started, retired, created, releasedTask, halted, resumed, older, with-state, with-priority, with-wakeups, releasedMove, haltedMove, resumedMove, regradedMove, markedMove}
 use Rattle.rules.proofs.Sizes.{sizes-after}
 use Rattle.rules.proofs.States.{older-same}
 use Rattle.rules.proofs.Ids.{of-put-other, of-put-test, of-put-change, put-empty, put-gone, of-map, tested}
@@ -204,6 +204,7 @@ fits (receive j) b = receive-fits j b
 fits (mark p k t) b = mark-fits p k t b
 fits elapse b = elapse-fits b
 fits (nest h) b = untouched b _ refl refl refl
+fits (alarm k c s) b = untouched b _ refl refl refl
 
 -- ---- no task, no message and no block comes into being, and whoever belongs to a queue is there
 

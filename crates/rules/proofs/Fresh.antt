@@ -8,12 +8,12 @@ use lib.Dec.{eqb}
 use lib.ListN.{length, getD, replicate, length-map, length-replicate}
 use borrow.Author.Tests.{eqb-true, eq-eqb, ne-eqb}
 use Rattle.rules.specs.Ids.{of, from, ids, In, keep, once, times}
-use Rattle.rules.specs.State.{pool}
+use Rattle.rules.specs.State.{pool, Body}
 use Rattle.rules.specs.Setup.{got, setup, Entry, Setup}
 use Rattle.rules.specs.Places.{freeIn, belongs, tabulate}
 use Rattle.rules.specs.Acts.{Act, start, mark, move, after}
 use Rattle.rules.specs.View.{View, line, moved, act, acts}
-use Rattle.rules.specs.Kernel.{idle, frees, starts, begins, fresh}
+use Rattle.rules.specs.Kernel.{idleCounter, idle, frees, starts, begins, fresh}
 use Rattle.rules.specs.Blocks.{isFree}
 use Rattle.rules.proofs.Ids.{of-put-same, times-append, times-ids, keep-all, absent-leaves}
 use Rattle.rules.proofs.Sizes.{SameSizes, sizes-after, sizes-afters}
@@ -160,6 +160,39 @@ fresh-in-order u (suc i) r =
 
     empty : line (unstartedView u) (freeIn (suc i)) ≡ []
     empty = line-tabulate (idle u .store) (λ q. []) (freeIn (suc i)) there
+
+-- ---- the counter: blocks and started tasks leave it alone
+
+marks-counter : (p : ℕ) (l : List ℕ) (v : View) → acts (map (λ k. mark p k true) l) v .body .counter ≡ v .body .counter
+unfolding acts after
+marks-counter p [] v = refl
+marks-counter p (k ∷ l) v = marks-counter p l (act (mark p k true) v) ∙ ap (λ (b : Body). b .counter) (body-act (mark p k true) v)
+
+frees-counter : (p : ℕ) (l : List ℕ) (v : View) → acts (frees p l) v .body .counter ≡ v .body .counter
+unfolding frees acts
+frees-counter p [] v = refl
+frees-counter p (n ∷ l) v =
+    ap (λ (w : View). w .body .counter) (acts-join (map (λ k. mark p k true) (ids n)) (frees (suc p) l) v)
+    ∙ frees-counter (suc p) l (acts (map (λ k. mark p k true) (ids n)) v) ∙ marks-counter p (ids n) v
+
+starts-counter : (i : ℕ) (l : List Entry) (v : View) → acts (starts i l) v .body .counter ≡ v .body .counter
+unfolding starts acts after
+starts-counter i [] v = refl
+starts-counter i (e ∷ l) v = go (e .started) (starts-counter (suc i) l (act (start i) v) ∙ ap (λ (b : Body). b .counter) (body-act (start i) v)) (starts-counter (suc i) l v)
+  where
+    go : (t : Bool) → acts (starts (suc i) l) (act (start i) v) .body .counter ≡ v .body .counter → acts (starts (suc i) l) v .body .counter ≡ v .body .counter
+        → acts (cond t (start i ∷ starts (suc i) l) (starts (suc i) l)) v .body .counter ≡ v .body .counter
+    go true a b = a
+    go false a b = b
+
+-- Fresh at 0 with all alarms idle.
+pub fresh-counter : (u : Setup) → fresh u .body .counter ≡ idleCounter (u .counters)
+unfolding fresh begins idle
+fresh-counter u =
+    ap (λ (w : View). w .body .counter) (acts-join (frees 1 (u .pools)) (starts 1 (u .tasks)) (unstartedView u))
+    ∙ starts-counter 1 (u .tasks) (acts (frees 1 (u .pools)) (unstartedView u)) ∙ frees-counter 1 (u .pools) (unstartedView u)
+
+-- ---- the blocks
 
 -- Every block is free.
 pub fresh-free : (s : List ℕ) (u : Setup) (i : ℕ) → setup s ≡ got u i

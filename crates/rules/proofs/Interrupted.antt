@@ -6,17 +6,19 @@ use mathlib.Core.Logic.{_⊎_, inl, inr, _≢_}
 use mathlib.Core.Path.{_≡_, refl, sym, ap, _∙_, subst}
 use Prim.Native.Nat.{ℕ, zero, suc, _<_}
 use lib.IntN.{ℤ, pos, negsuc}
+use lib.ListN.{length}
 use borrow.Author.Tests.{eq-eqb, ne-eqb, lt-leb}
 use Rattle.rules.specs.Ids.{keep}
 use Rattle.rules.specs.Codes.{Code, OK, H-CALL, E-CTX, H-NEST}
-use Rattle.rules.specs.State.{State, dormant, ready, suspended, waiting, waiting-suspended, absent, Handlers, no-handler, in-handler, depth, isOpen, Body, task, isReady, isSuspended, isFreed}
+use Rattle.rules.specs.State.{State, dormant, ready, suspended, waiting, waiting-suspended, absent, Handlers, no-handler, in-handler, depth, isOpen, alarmOf, Body, task, isReady, isSuspended, isFreed}
 use Rattle.rules.specs.Places.{Place, readyAt, waiters, mail, freeIn, belongs, tabulate}
 use Rattle.rules.specs.Events.{Event, tick, enter, exit, call, eventOf, AllWords}
-use Rattle.rules.specs.Acts.{Act, rotate, wait, release, pattern, elapse, nest, with-handlers, after, afters, Move, stay, leave, last, move}
+use Rattle.rules.specs.Acts.{Act, start, rotate, wait, release, wakeups, pattern, elapse, nest, alarm, with-handlers, after, afters, Move, stay, leave, last, move}
 use Rattle.rules.specs.View.{View, line, best, head, reported, running, alone, without, moved, act, acts}
 use Rattle.rules.specs.Verdicts.{Verdict, refuse, done, check, onFirst}
-use Rattle.rules.specs.Tasks.{rot-rdq, stateNumber, tsk-sts}
-use Rattle.rules.specs.Time.{endings, ticked}
+use Rattle.rules.specs.Tasks.{starting, rot-rdq, waking, stateNumber, tsk-sts}
+use Rattle.rules.specs.Alarms.{fires, fired, firing, rings}
+use Rattle.rules.specs.Time.{lapse, ticked}
 use Rattle.rules.specs.Handling.{inner, outer, entered, exited}
 use Rattle.rules.specs.Rows.{Context, T, both}
 use Rattle.rules.specs.Table.{misplaced, caller, handles, called, judge}
@@ -26,7 +28,9 @@ use Rattle.rules.specs.Check.{sound?}
 use Rattle.rules.specs.Kernel.{Outcome, next, served, damaged, event}
 use Rattle.rules.specs.Interrupted.{handled, StaysOpen, Reports}
 use Rattle.rules.proofs.Lines.{tabulate-lines}
-use Rattle.rules.proofs.Cells.{body-acts, Gentle, releases, sets, elapses, AllGentle, tick-gentle, nothing, one, handlers-kept}
+use Rattle.rules.proofs.Queues.{body-act}
+use Rattle.rules.proofs.Firings.{FiringAct, along-keeps, firing-acts}
+use Rattle.rules.proofs.Cells.{body-acts, Gentle, releases, begins, counts, sets, elapses, rung, AllGentle, firing-gentle, lapse-gentle, tick-gentle, nothing, one, handlers-kept}
 use Rattle.rules.proofs.Clean.{Clean, refused, given, waited, tick-clean, call-clean}
 use Rattle.rules.proofs.Refused.{none-released}
 use Rattle.rules.proofs.Events.{event-served, event-damaged, event-next, sound-event}
@@ -156,29 +160,77 @@ moved-under h b (leave x) q l = refl
 moved-under h b (last x) q l = λ z. without x q l ++ keep (λ i. belongs-under h b q i z) (alone x q)
 
 -- the acts of a tick do not look at the handlers
-act-under : {a : Act} → Gentle a → (h : Handlers) (v : View) → act a (under h v) ≡ under h (act a v)
+act-under : {a : Act} (v : View) → Gentle (v .body) a → (h : Handlers) → act a (under h v) ≡ under h (act a v)
 unfolding act after move
-act-under (releases i c w n) h v = let b = after (release i c w) (v .body) in λ z. record {
+act-under v (releases i c w n) h = let b = after (release i c w) (v .body) in λ z. record {
   body = with-handlers h b;
   lines = tabulate (b .store) (λ q. moved-under h b (move (v .body) (release i c w)) q (line v q) z);
 }
-act-under (sets f n) h v = let b = after (pattern f n) (v .body) in λ z. record {
+act-under v (sets f n) h = let b = after (pattern f n) (v .body) in λ z. record {
   body = with-handlers h b;
   lines = tabulate (b .store) (λ q. moved-under h b (move (v .body) (pattern f n)) q (line v q) z);
 }
-act-under elapses h v = let b = after elapse (v .body) in λ z. record {
+act-under v elapses h = let b = after elapse (v .body) in λ z. record {
   body = with-handlers h b;
   lines = tabulate (b .store) (λ q. moved-under h b (move (v .body) elapse) q (line v q) z);
 }
+act-under v (begins i d) h = let b = after (start i) (v .body) in λ z. record {
+  body = with-handlers h b;
+  lines = tabulate (b .store) (λ q. moved-under h b (move (v .body) (start i)) q (line v q) z);
+}
+act-under v (counts i n) h = let b = after (wakeups i n) (v .body) in λ z. record {
+  body = with-handlers h b;
+  lines = tabulate (b .store) (λ q. moved-under h b (move (v .body) (wakeups i n)) q (line v q) z);
+}
+act-under v (rung k c s) h = let b = after (alarm k c s) (v .body) in λ z. record {
+  body = with-handlers h b;
+  lines = tabulate (b .store) (λ q. moved-under h b (move (v .body) (alarm k c s)) q (line v q) z);
+}
 
-acts-under : (l : List Act) → AllGentle l → (h : Handlers) (v : View) → acts l (under h v) ≡ under h (acts l v)
+acts-under : (l : List Act) (v : View) → AllGentle (v .body) l → (h : Handlers) → acts l (under h v) ≡ under h (acts l v)
 unfolding acts
-acts-under [] g h v = refl
-acts-under (a ∷ l) g h v = ap (acts l) (act-under (g .0) h v) ∙ acts-under l (g .1) h (act a v)
+acts-under [] v g h = refl
+acts-under (a ∷ l) v g h = ap (acts l) (act-under v (g .0) h) ∙ acts-under l (act a v) (rw (body-act a v) (g .1)) h
+
+after-under : {a : Act} (b : Body) → Gentle b a → (h : Handlers) → after a (with-handlers h b) ≡ with-handlers h (after a b)
+unfolding after
+after-under b (releases i c w n) h = refl
+after-under b (begins i d) h = refl
+after-under b (counts i n) h = refl
+after-under b (sets f n) h = refl
+after-under b elapses h = refl
+after-under b (rung k c s) h = refl
+
+afters-under : (l : List Act) (b : Body) → AllGentle b l → (h : Handlers) → afters l (with-handlers h b) ≡ with-handlers h (afters l b)
+unfolding afters
+afters-under [] b g h = refl
+afters-under (a ∷ l) b g h = ap (afters l) (after-under b (g .0) h) ∙ afters-under l (after a b) (g .1) h
+
+-- and no more do the alarms that fire
+rings-under : (h : Handlers) (n k : ℕ) (b : Body) → rings (with-handlers h b) n k ≡ rings b n k
+unfolding rings fired starting waking
+rings-under h zero k b = refl
+rings-under h (suc n) k b = go (fires (b .counter) (alarmOf (b .counter) k .setting)) refl (λ e. ap (λ (c : Body). rings c n (suc k)) (afters-under these b (gentle e) h) ∙ rings-under h n (suc k) (afters these b)) (rings-under h n (suc k) b)
+  where
+    these : List Act
+    these = firing b k (alarmOf (b .counter) k)
+
+    gentle : fires (b .counter) (alarmOf (b .counter) k .setting) ≡ true → AllGentle b these
+    gentle e = along-keeps FiringAct Gentle (λ c. Unit {0}) (λ c a h g. (firing-gentle c a g, tt)) these b tt (firing-acts b k e) .0
+
+    go : (t : Bool) → fires (b .counter) (alarmOf (b .counter) k .setting) ≡ t
+        → (fires (b .counter) (alarmOf (b .counter) k .setting) ≡ true → rings (afters these (with-handlers h b)) n (suc k) ≡ rings (afters these b) n (suc k)) → rings (with-handlers h b) n (suc k) ≡ rings b n (suc k)
+        → cond t (these ++ rings (afters these (with-handlers h b)) n (suc k)) (rings (with-handlers h b) n (suc k)) ≡ cond t (these ++ rings (afters these b) n (suc k)) (rings b n (suc k))
+    go true e p q = ap (λ (l : List Act). these ++ l) (p e)
+    go false e p q = q
 
 tick-under : (h : Handlers) (v : View) → next (under h v) tick ≡ under h (next v tick)
 unfolding next judge ticked
-tick-under h v = acts-under (ticked v .acts) (tick-gentle (endings (v .body))) h v
+tick-under h v =
+    let b = v .body in
+    let n = length (b .counter .alarms) in
+    ap (λ (l : List Act). acts (lapse b ++ l) (under h v)) (ap (λ (c : Body). rings c n 1) (afters-under (lapse b) b (lapse-gentle b) h) ∙ rings-under h n 1 (afters (lapse b) b))
+    ∙ acts-under (lapse b ++ rings (afters (lapse b) b) n 1) v (tick-gentle b n) h
 
 -- ---- an entry at depth 0, and the return to it
 

@@ -16,7 +16,7 @@ use Rattle.rules.specs.Acts.{Act, wait}
 use Rattle.rules.specs.View.{View}
 use Rattle.rules.specs.Verdicts.{Verdict, refuse, check, choose, onFirst, onCount}
 use Rattle.rules.specs.Tasks.{wai-for}
-use Rattle.rules.specs.Rows.{Refusal, Row, staTsk, extTsk, terTsk, chgPri, rotRdq, relWai, susTsk, rsmTsk, slpTsk, waiTsk, wupTsk, canWup, sigSem, waiSem, preqSem, setFlg, clrFlg, waiFlg, polFlg, sndMsg, rcvMsg, prcvMsg, getBlk, pgetBlk, relBlk, getTid, tskSts, semSts, flgSts, mbxSts, mplSts, getTim, creTsk, delTsk, exdTsk}
+use Rattle.rules.specs.Rows.{Refusal, Row, staTsk, extTsk, terTsk, chgPri, rotRdq, relWai, susTsk, rsmTsk, slpTsk, waiTsk, wupTsk, canWup, sigSem, waiSem, preqSem, setFlg, clrFlg, waiFlg, polFlg, sndMsg, rcvMsg, prcvMsg, getBlk, pgetBlk, relBlk, getTid, tskSts, semSts, flgSts, mbxSts, mplSts, getTim, creTsk, delTsk, exdTsk, setAbs, setRel, canAlm, almSts}
 use Rattle.rules.specs.Table.{refusals, misplaced, names-absent, names-self, names-dormant, judged, table, handler, caller, handles, looked-up, entry, numbered, called, judge}
 use Rattle.rules.specs.Blocks.{is, ok}
 use Rattle.rules.proofs.Waits.{both-true}
@@ -72,7 +72,7 @@ rows-bad [] = true
 rows-bad (r ∷ l) = all-bad (r .words) && rows-bad l
 
 table-bad : (v : View) (me : ℕ) (a b c : ℤ) → rows-bad (table v me a b c) ≡ true
-unfolding table staTsk extTsk terTsk chgPri rotRdq relWai susTsk rsmTsk slpTsk waiTsk wupTsk canWup sigSem waiSem preqSem setFlg clrFlg waiFlg polFlg sndMsg rcvMsg prcvMsg getBlk pgetBlk relBlk getTid tskSts semSts flgSts mbxSts mplSts getTim creTsk delTsk exdTsk bad
+unfolding table staTsk extTsk terTsk chgPri rotRdq relWai susTsk rsmTsk slpTsk waiTsk wupTsk canWup sigSem waiSem preqSem setFlg clrFlg waiFlg polFlg sndMsg rcvMsg prcvMsg getBlk pgetBlk relBlk getTid tskSts semSts flgSts mbxSts mplSts getTim creTsk delTsk exdTsk setAbs setRel canAlm almSts bad
 table-bad v me a b c = refl
 
 -- ---- the tests that a row has passed

@@ -8,17 +8,17 @@ use mathlib.Core.Path.{_≡_, refl, sym, ap, _∙_, subst}
 use Prim.Native.Nat.{ℕ, zero, suc, pred, _≤_, _<_, _^_}
 use native.Mathlib.Nat.{mod-lt}
 use native.Mathlib.Omega.{arith}
-use lib.Dec.{eqb, lit<}
+use lib.Dec.{eqb, leb, lit<}
 use lib.ListN.{length, length-map, set}
-use borrow.Author.Tests.{eqb-true, eqb-false, eq-eqb, not-false}
+use borrow.Author.Tests.{eqb-true, eqb-false, eq-eqb, leb-false, not-false}
 use Rattle.rules.specs.Ids.{of, put, In}
 use Rattle.rules.specs.Codes.{Code}
-use Rattle.rules.specs.State.{Kind, semaphore, flag, mailbox, pool, Wait, asleep, timed, on, State, dormant, ready, suspended, absent, waiting, waiting-suspended, Cell, Task, Store, Handlers, no-handler, in-handler, Body, task, nobody, objects, waitOf, isDormant, isAbsent, isWaiting, isFreed, sleeps}
+use Rattle.rules.specs.State.{Kind, semaphore, flag, mailbox, pool, Wait, asleep, timed, on, State, dormant, ready, suspended, absent, waiting, waiting-suspended, Cell, Task, Store, Handlers, no-handler, in-handler, Setting, Alarm, Counter, alarmOf, noAlarm, Body, task, nobody, objects, waitOf, isDormant, isAbsent, isWaiting, isFreed, sleeps}
 use Rattle.rules.specs.Places.{sameKind, waitsOn, awaits, lies}
-use Rattle.rules.specs.Acts.{Act, start, retire, create, delete, rotate, regrade, wait, release, suspend, resume, wakeups, count, pattern, post, receive, mark, elapse, nest, with-state, with-priority, with-wakeups, with-cell, with-semaphores, with-flags, with-messages, with-pools, with-clock, with-tasks, with-store, change, started, retired, created, freed, releasedTask, halted, resumed, older, after}
+use Rattle.rules.specs.Acts.{Act, start, retire, create, delete, rotate, regrade, wait, release, suspend, resume, wakeups, count, pattern, post, receive, mark, elapse, nest, alarm, with-state, with-priority, with-wakeups, with-cell, with-semaphores, with-flags, with-messages, with-pools, with-clock, with-tasks, with-store, with-counter, with-setting, stepped, changeAlarm, change, started, retired, created, freed, releasedTask, halted, resumed, older, after}
 use Rattle.rules.specs.Objects.{met, free}
 use Rattle.rules.specs.Time.{ending}
-use Rattle.rules.specs.Sound.{Sizes, LiesWell, StoreNumbers, CellNumbers, WaitNumbers, anyLies, would-serve, Unserved, AllUnserved, SoundTask, HandlersFit, SoundBody}
+use Rattle.rules.specs.Sound.{Sizes, LiesWell, StoreNumbers, CellNumbers, WaitNumbers, anyLies, would-serve, Unserved, AllUnserved, SoundTask, HandlersFit, KeptFits, SettingFits, AlarmFits, CounterFits, SoundBody}
 use Rattle.rules.proofs.Sizes.{SameSizes, sizes-tasks, sizes-clock, sizes-after}
 use Rattle.rules.proofs.States.{waiting-tells, freed-tells, halted-same, resumed-same, older-same}
 use Rattle.rules.proofs.Waits.{neither}
@@ -56,6 +56,7 @@ Pre b (receive j) = Unit {0}
 Pre b (mark p k t) = (t ≡ false) ⊎ NoneAt b pool p
 Pre b elapse = (i : ℕ) → ending (waitOf (task b i .state)) ≡ false
 Pre b (nest h) = HandlersFit (b .tasks) h
+Pre b (alarm k c s) = KeptFits (alarmOf (b .counter) k .wakes) c × SettingFits (b .counter .size) s
 
 -- ---- one task is changed
 
@@ -228,6 +229,7 @@ sound-change f i b h k g = record {
   store = h .store;
   tasks = put-all (SoundTask (b .store)) (b .tasks) i (f (task b i)) nobody (h .tasks) (λ r. g r (h .tasks i r));
   handlers = fit-change f i b k (h .handlers);
+  counter = rw (length-put (b .tasks) i (f (task b i))) (h .counter);
 }
 
 -- ---- the store is changed
@@ -281,6 +283,7 @@ sound-store b w h k n = record {
   store = n;
   tasks = λ i r. task-kept (b .store) w (task b i) (k .priorities) (k .objects) (h .tasks i r);
   handlers = h .handlers;
+  counter = h .counter;
 }
 
 module _ {ℓ} {A : Type ℓ} where
@@ -465,7 +468,37 @@ older-sound b h e = record {
   store = h .store;
   tasks = λ i r. rw (of-map olderTask (b .tasks) i nobody refl) (older-well (b .store) (task b i) (e i) (h .tasks i (rw (length-map (b .tasks) olderTask) at r)));
   handlers = fit-by (b .tasks) _ (b .handlers) (λ i. map-each Held (λ t e. e) olderTask (λ t. rw (older-same (t .state) .freed) (λ e. e)) (b .tasks) i nobody) (h .handlers);
+  counter = rw (length-map (b .tasks) olderTask) (h .counter);
 }
+
+-- ---- the counter is changed
+
+sound-counter : (b : Body) (c : Counter) → SoundBody b → CounterFits (length (b .tasks)) c → SoundBody (with-counter c b)
+sound-counter b c h k = record {
+  sizes = record { priorities = h .sizes .priorities; tasks = h .sizes .tasks; semaphores = h .sizes .semaphores; flags = h .sizes .flags; mailboxes = h .sizes .mailboxes; messages = h .sizes .messages; pools = h .sizes .pools };
+  store = h .store;
+  tasks = h .tasks;
+  handlers = h .handlers;
+  counter = k;
+}
+
+stepped-fits : (n : ℕ) (c : Counter) → CounterFits n c → CounterFits n (stepped c)
+stepped-fits n c h = record { size = h .size; now = go (leb (c .size) (suc (c .now))) refl; count = h .count; alarms = h .alarms }
+  where
+    go : (t : Bool) → leb (c .size) (suc (c .now)) ≡ t → (cond t 0 (suc (c .now)) ≡ 0) ⊎ (cond t 0 (suc (c .now)) < c .size)
+    go true e = inl refl
+    go false e = inr (omega (arith, leb-false (c .size) (suc (c .now)) e))
+
+alarm-fits : (n : ℕ) (r : Counter) (k : ℕ) (c : Code) (s : Setting) → CounterFits n r → KeptFits (alarmOf r k .wakes) c → SettingFits (r .size) s → CounterFits n (changeAlarm k c s r)
+alarm-fits n r k c s h d g = record {
+  size = h .size;
+  now = h .now;
+  count = rw (length-put (r .alarms) k changed) (h .count);
+  alarms = put-all (AlarmFits n (r .size)) (r .alarms) k changed noAlarm (h .alarms) (λ e. record { task = h .alarms k e .task; kept = d; setting = g });
+}
+  where
+    changed : Alarm
+    changed = with-setting c s (alarmOf r k)
 
 -- ---- every act
 
@@ -492,8 +525,10 @@ sound-after (post j m) b h p = sound-store b _ h (sizes-after (post j m) b) (mes
 sound-after (receive j) b h p = sound-store b _ h (sizes-after (receive j) b) (messages-numbers (b .store) (h .store) j none tt)
 sound-after (mark q k t) b h p = sound-store b _ h (sizes-after (mark q k t) b) (pools-numbers (b .store) (h .store) q k t)
 sound-after elapse b h p =
-    sound-store _ _ (older-sound b h p) (sizes-clock _ _) (clock-numbers (b .store) (h .store) _ (mod-lt (suc (b .store .clock)) (lit< tt)))
-sound-after (nest x) b h p = record { sizes = sizes-same (sizes-after (nest x) b) (h .sizes); store = h .store; tasks = h .tasks; handlers = p }
+    sound-counter _ _ (sound-store _ _ (older-sound b h p) (sizes-clock _ _) (clock-numbers (b .store) (h .store) _ (mod-lt (suc (b .store .clock)) (lit< tt))))
+    (rw (length-map (b .tasks) olderTask) (stepped-fits (length (b .tasks)) (b .counter) (h .counter)))
+sound-after (nest x) b h p = record { sizes = sizes-same (sizes-after (nest x) b) (h .sizes); store = h .store; tasks = h .tasks; handlers = p; counter = h .counter }
+sound-after (alarm k c s) b h p = sound-counter b _ h (alarm-fits (length (b .tasks)) (b .counter) k c s (h .counter) (p .0) (p .1))
 
 -- ---- nobody comes to wait beside what would serve him
 
@@ -536,3 +571,4 @@ unserved-after elapse b s h p =
     (λ i r. rw (of-map olderTask (b .tasks) i nobody refl) (older-unserved (b .store) (task b i .state) (h i (rw (length-map (b .tasks) olderTask) at r))))
     (λ i k o y m w. clock-less b i _ k o y m)
 unserved-after (nest x) b s h p = h
+unserved-after (alarm k c x) b s h p = h

@@ -12,12 +12,14 @@ pub mod Lines
 pub mod Keeps
 pub mod Queues
 pub mod Handling
+pub mod Firings
 pub mod Calls
 pub mod FlagWalk
 pub mod Accepted
 pub mod Spelled
 pub mod Setups
 pub mod Faults
+pub mod Recorded
 pub mod Events
 pub mod Looks
 pub mod Cells
@@ -29,6 +31,7 @@ pub mod Absent
 pub mod Deleted
 pub mod Broken
 pub mod OnlyBroken
+pub mod Alarms
 pub mod Agree
 pub mod Rising
 pub mod Blocks

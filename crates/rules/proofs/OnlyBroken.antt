@@ -17,14 +17,15 @@ use Rattle.rules.specs.State.{Wait, State, dormant, ready, suspended, ab
 use Rattle.rules.specs.Places.{tabulate}
 use Rattle.rules.specs.Setup.{got, Entry, Setup, setup}
 use Rattle.rules.specs.Events.{Event, tick, enter, exit, call, Words, AllWords, nat, outside}
-use Rattle.rules.specs.Acts.{Act, start, retire, create, delete, rotate, regrade, wait, release, suspend, resume, wakeups, count, pattern, post, receive, mark, elapse, nest, change, started, retired, created, releasedTask, halted, resumed, older, with-state, with-priority, with-wakeups, after, afters}
+use Rattle.rules.specs.Acts.{Act, start, retire, create, delete, rotate, regrade, wait, release, suspend, resume, wakeups, count, pattern, post, receive, mark, elapse, nest, alarm, change, started, retired, created, releasedTask, halted, resumed, older, with-state, with-priority, with-wakeups, after, afters}
 use Rattle.rules.specs.View.{View}
 use Rattle.rules.specs.Verdicts.{Verdict, done}
 use Rattle.rules.specs.Tasks.{starting, sta-tsk, ext-tsk, ter-tsk, chg-pri, rot-rdq, rel-wai, sus-tsk, rsm-tsk, take-wakeup, slp-tsk, wai-tsk, waking, wup-tsk, can-wup, get-tid, tsk-sts, cre-tsk, del-tsk, exd-tsk}
 use Rattle.rules.specs.Objects.{to-first, obj-sts, sig-sem, take-sem, set-flg, clr-flg, take-flg, snd-msg, take-msg, take-blk, rel-blk}
-use Rattle.rules.specs.Time.{get-tim, endings, ticked}
+use Rattle.rules.specs.Alarms.{set-alm, set-abs, set-rel, can-alm, alm-sts}
+use Rattle.rules.specs.Time.{get-tim, ticked}
 use Rattle.rules.specs.Handling.{entered, exited}
-use Rattle.rules.specs.Rows.{staTsk, extTsk, terTsk, chgPri, rotRdq, relWai, susTsk, rsmTsk, slpTsk, waiTsk, wupTsk, canWup, sigSem, waiSem, preqSem, setFlg, clrFlg, waiFlg, polFlg, sndMsg, rcvMsg, prcvMsg, getBlk, pgetBlk, relBlk, getTid, tskSts, semSts, flgSts, mbxSts, mplSts, getTim, creTsk, delTsk, exdTsk}
+use Rattle.rules.specs.Rows.{staTsk, extTsk, terTsk, chgPri, rotRdq, relWai, susTsk, rsmTsk, slpTsk, waiTsk, wupTsk, canWup, sigSem, waiSem, preqSem, setFlg, clrFlg, waiFlg, polFlg, sndMsg, rcvMsg, prcvMsg, getBlk, pgetBlk, relBlk, getTid, tskSts, semSts, flgSts, mbxSts, mplSts, getTim, creTsk, delTsk, exdTsk, setAbs, setRel, canAlm, almSts}
 use Rattle.rules.specs.Table.{caller, handles, table, judge}
 use Rattle.rules.specs.Sound.{CellNumbers, Sound}
 use Rattle.rules.specs.Check.{sound?}
@@ -39,7 +40,7 @@ use Rattle.rules.proofs.Handling.{caller-ready}
 use Rattle.rules.proofs.Waits.{in-by}
 use Rattle.rules.proofs.States.{older-same}
 use Rattle.rules.proofs.Judge.{_⊗_, bad, AllRows, by-check, by-call, OnActs, on-acts, acts-check, acts-choose, acts-first, acts-count, acts-wait}
-use Rattle.rules.proofs.Cells.{change-each, map-each, body-acts, Gentle, releases, sets, elapses, AllGentle, flag-gentle, tick-gentle, served-whole}
+use Rattle.rules.proofs.Cells.{change-each, map-each, body-acts, Gentle, releases, begins as begun, counts, sets, elapses, rung, AllGentle, flag-gentle, tick-gentle, served-whole}
 use Rattle.rules.proofs.Clean.{judge-not-broken}
 use Rattle.rules.proofs.Breach.{breach-tells}
 use Rattle.rules.proofs.Events.{event-next, cell-reads, sound-event, fresh-sound}
@@ -97,16 +98,19 @@ released-spared c w n t = go (isWaiting (t .state)) refl
 older-spared : (t : Task) → Spared t (with-state (older (t .state)) t)
 older-spared t = left-alone refl (λ s. rw (older-same (t .state) .waiting, older-same (t .state) .dormant, older-same (t .state) .absent))
 
-gentle-spared : {a : Act} → Gentle a → (b : Body) (i : ℕ) → Spared (task b i) (task (after a b) i)
+gentle-spared : {a : Act} (b : Body) → Gentle b a → (i : ℕ) → Spared (task b i) (task (after a b) i)
 unfolding after
-gentle-spared (releases j c w n) b i = change-each Spared spared-same (releasedTask c w) j b (λ t e. released-spared c w n t) i
-gentle-spared (sets f n) b i = spared-same _
-gentle-spared elapses b i = map-each Spared spared-same _ older-spared (b .tasks) i nobody
+gentle-spared b (releases j c w n) i = change-each Spared spared-same (releasedTask c w) j b (λ t e. released-spared c w n t) i
+gentle-spared b (begun j d) i = change-each Spared spared-same started j b (λ t e. rewritten served-whole) i
+gentle-spared b (counts j n) i = change-each Spared spared-same (with-wakeups n) j b (λ t e. left-alone refl (λ s. refl)) i
+gentle-spared b (sets f n) i = spared-same _
+gentle-spared b elapses i = map-each Spared spared-same _ older-spared (b .tasks) i nobody
+gentle-spared b (rung k c s) i = spared-same _
 
-list-spared : (l : List Act) → AllGentle l → (b : Body) (i : ℕ) → Spared (task b i) (task (afters l b) i)
+list-spared : (l : List Act) (b : Body) → AllGentle b l → (i : ℕ) → Spared (task b i) (task (afters l b) i)
 unfolding afters
-list-spared [] g b i = spared-same _
-list-spared (a ∷ l) g b i = spared-then (gentle-spared (g .0) b i) (list-spared l (g .1) (after a b) i)
+list-spared [] b g i = spared-same _
+list-spared (a ∷ l) b g i = spared-then (gentle-spared b (g .0) i) (list-spared l (after a b) (g .1) i)
 
 -- ---- one act
 
@@ -130,6 +134,7 @@ Sparing b (receive j) = Unit {0}
 Sparing b (mark p k t) = Unit {0}
 Sparing b elapse = Unit {0}
 Sparing b (nest h) = Unit {0}
+Sparing b (alarm k c s) = Unit {0}
 
 module _ (b : Body) (f : Task → Task) (j : ℕ) where
   -- an act that changes a task but not its cell, and neither releases nor starts it
@@ -145,7 +150,7 @@ act-whole (delete j) b d i = change-each Whole whole-same (λ t. nobody) j b (λ
 act-whole (rotate j) b d i = whole-same (task b i)
 act-whole (regrade j p) b d i = changed b (with-priority p) j (λ t. refl) (λ t e. unfresh (t .state) .same) i
 act-whole (wait j w) b d i = changed b (with-state (waiting w)) j (λ t. refl) (λ t e. unfresh (t .state) .waits w (rw e d)) i
-act-whole (release j c w) b d i = spared-whole (gentle-spared (releases j c w d) b i)
+act-whole (release j c w) b d i = spared-whole (gentle-spared b (releases j c w d) i)
 act-whole (suspend j) b d i = changed b (λ t. with-state (halted (t .state)) t) j (λ t. refl) (λ t e. unfresh (t .state) .halted) i
 act-whole (resume j) b d i = changed b (λ t. with-state (resumed (t .state)) t) j (λ t. refl) (λ t e. unfresh (t .state) .resumed) i
 act-whole (wakeups j n) b d i = changed b (with-wakeups n) j (λ t. refl) (λ t e. unfresh (t .state) .same) i
@@ -154,8 +159,9 @@ act-whole (pattern f n) b d i = whole-same (task b i)
 act-whole (post j m) b d i = whole-same (task b i)
 act-whole (receive j) b d i = whole-same (task b i)
 act-whole (mark p k t) b d i = whole-same (task b i)
-act-whole elapse b d i = spared-whole (gentle-spared elapses b i)
+act-whole elapse b d i = spared-whole (gentle-spared b elapses i)
 act-whole (nest h) b d i = whole-same (task b i)
+act-whole (alarm k c s) b d i = whole-same (task b i)
 
 -- ---- every call: the calls but rel_wai break nobody off
 
@@ -183,8 +189,8 @@ module _ (b : Body) where
   unfolding afters
   whole-one a d i = act-whole a b d i
 
-  whole-list : (l : List Act) → AllGentle l → AllWhole l
-  whole-list l g i = spared-whole (list-spared l g b i)
+  whole-list : (l : List Act) → AllGentle b l → AllWhole l
+  whole-list l g i = spared-whole (list-spared l b g i)
 
 ruleset sparing = (acts-check, acts-choose, acts-first, acts-count, acts-wait, on-acts, whole-none, whole-one, whole-list, flag-gentle, served-whole)
 
@@ -201,7 +207,7 @@ module _ (v : View) (s : Sound v) (a y z : ℤ) where
   rel-wai-spares = by-check (Spares (v .body) a) (λ n c e. inl (on-acts (whole-none (v .body)))) E-NOWAI (unfold bad in refl) (λ e. inr (refl, refl))
 
   rows : (h : Bool) → AllRows (Spares (v .body) a) v (handles v h) (caller v h) 1 (table v (caller v h) a y z)
-  unfolding table staTsk extTsk terTsk chgPri rotRdq relWai susTsk rsmTsk slpTsk waiTsk wupTsk canWup sigSem waiSem preqSem setFlg clrFlg waiFlg polFlg sndMsg rcvMsg prcvMsg getBlk pgetBlk relBlk getTid tskSts semSts flgSts mbxSts mplSts getTim creTsk delTsk exdTsk starting sta-tsk ext-tsk ter-tsk chg-pri rot-rdq sus-tsk rsm-tsk take-wakeup slp-tsk wai-tsk waking wup-tsk can-wup get-tid tsk-sts cre-tsk del-tsk exd-tsk to-first obj-sts sig-sem take-sem set-flg clr-flg take-flg snd-msg take-msg take-blk rel-blk get-tim
+  unfolding table staTsk extTsk terTsk chgPri rotRdq relWai susTsk rsmTsk slpTsk waiTsk wupTsk canWup sigSem waiSem preqSem setFlg clrFlg waiFlg polFlg sndMsg rcvMsg prcvMsg getBlk pgetBlk relBlk getTid tskSts semSts flgSts mbxSts mplSts getTim creTsk delTsk exdTsk setAbs setRel canAlm almSts starting sta-tsk ext-tsk ter-tsk chg-pri rot-rdq sus-tsk rsm-tsk take-wakeup slp-tsk wai-tsk waking wup-tsk can-wup get-tid tsk-sts cre-tsk del-tsk exd-tsk to-first obj-sts sig-sem take-sem set-flg clr-flg take-flg snd-msg take-msg take-blk rel-blk get-tim set-alm set-abs set-rel can-alm alm-sts
   rows h =
       (λ t. inl (search sparing depth 9))
       ⊗ (λ t. inl (search sparing depth 9))
@@ -226,6 +232,10 @@ module _ (v : View) (s : Sound v) (a y z : ℤ) where
       ⊗ (λ t. inl (search (sparing, caller-awake v s h (t .context)) depth 9))
       ⊗ (λ t. inl (search sparing depth 9))
       ⊗ (λ t. inl (search (sparing, caller-awake v s h (t .context)) depth 9))
+      ⊗ (λ t. inl (search sparing depth 9))
+      ⊗ (λ t. inl (search sparing depth 9))
+      ⊗ (λ t. inl (search sparing depth 9))
+      ⊗ (λ t. inl (search sparing depth 9))
       ⊗ (λ t. inl (search sparing depth 9))
       ⊗ (λ t. inl (search sparing depth 9))
       ⊗ (λ t. inl (search sparing depth 9))
@@ -272,7 +282,7 @@ module _ (v : View) (s : Sound v) (i : ℕ) where
   unfolding judge ticked entered exited
   acts-only enter = handled enter (entered v) (search sparing depth 9)
   acts-only exit = handled exit (exited v) (search sparing depth 9)
-  acts-only tick = whole-only i tick (number OK) (task (v .body) i) (task (afters (ticked v .acts) (v .body)) i) (whole-list (v .body) _ (tick-gentle (endings (v .body))) i)
+  acts-only tick = whole-only i tick (number OK) (task (v .body) i) (task (afters (ticked v .acts) (v .body)) i) (whole-list (v .body) _ (tick-gentle (v .body) _) i)
   acts-only (call x n a y z) =
       call-only (v .body) i x n a y z (judge v (call x n a y z)) (by-call (Spares (v .body) a) (λ n c e. inl (on-acts (whole-none (v .body)))) v a y z (rows v s a y z) x n)
 

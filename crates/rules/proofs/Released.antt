@@ -16,14 +16,15 @@ use Rattle.rules.specs.Codes.{Code, OK}
 use Rattle.rules.specs.State.{Kind, semaphore, flag, mailbox, pool, State, dormant, ready, suspended, absent, waiting, waiting-suspended, Task, Handlers, Body, task, nobody, objects, waitOf, wish, isDormant, isWaiting, isFreed, sleeps}
 use Rattle.rules.specs.Places.{waiters, belongs, waitsOn, at, lineAt}
 use Rattle.rules.specs.Events.{Event, tick, enter, exit, call, nat, outside}
-use Rattle.rules.specs.Acts.{Act, start, retire, create, delete, rotate, regrade, wait, release, suspend, resume, wakeups, count, pattern, post, receive, mark, elapse, nest, with-state, freed, halted, resumed, older, after, afters}
+use Rattle.rules.specs.Acts.{Act, start, retire, create, delete, rotate, regrade, wait, release, suspend, resume, wakeups, count, pattern, post, receive, mark, elapse, nest, alarm, with-state, freed, halted, resumed, older, after, afters}
 use Rattle.rules.specs.View.{View, line}
 use Rattle.rules.specs.Verdicts.{Verdict, waits}
 use Rattle.rules.specs.Tasks.{stateOf, starting, sta-tsk, ext-tsk, ter-tsk, chg-pri, rot-rdq, rel-wai, sus-tsk, rsm-tsk, take-wakeup, slp-tsk, wai-tsk, waking, wup-tsk, can-wup, get-tid, tsk-sts, cre-tsk, del-tsk, exd-tsk}
 use Rattle.rules.specs.Objects.{to-first, obj-sts, met, left, serve-flag, sig-sem, take-sem, set-flg, clr-flg, take-flg, snd-msg, take-msg, take-blk, rel-blk}
-use Rattle.rules.specs.Time.{get-tim, ending, endings, timeout, ticked}
+use Rattle.rules.specs.Alarms.{rings, set-alm, set-abs, set-rel, can-alm, alm-sts}
+use Rattle.rules.specs.Time.{get-tim, ending, endings, timeout, lapse, ticked}
 use Rattle.rules.specs.Handling.{entered, exited}
-use Rattle.rules.specs.Rows.{staTsk, extTsk, terTsk, chgPri, rotRdq, relWai, susTsk, rsmTsk, slpTsk, waiTsk, wupTsk, canWup, sigSem, waiSem, preqSem, setFlg, clrFlg, waiFlg, polFlg, sndMsg, rcvMsg, prcvMsg, getBlk, pgetBlk, relBlk, getTid, tskSts, semSts, flgSts, mbxSts, mplSts, getTim, creTsk, delTsk, exdTsk}
+use Rattle.rules.specs.Rows.{staTsk, extTsk, terTsk, chgPri, rotRdq, relWai, susTsk, rsmTsk, slpTsk, waiTsk, wupTsk, canWup, sigSem, waiSem, preqSem, setFlg, clrFlg, waiFlg, polFlg, sndMsg, rcvMsg, prcvMsg, getBlk, pgetBlk, relBlk, getTid, tskSts, semSts, flgSts, mbxSts, mplSts, getTim, creTsk, delTsk, exdTsk, setAbs, setRel, canAlm, almSts}
 use Rattle.rules.specs.Table.{caller, handles, table, judge}
 use Rattle.rules.specs.Answers.{isReleased, releasedCount}
 use Rattle.rules.specs.Sound.{Sound}
@@ -32,7 +33,8 @@ use Rattle.rules.specs.Releases.{isRelease, releases}
 use Rattle.rules.proofs.Ids.{of-put-other, inside, tested, times-keep, kept-passes, times-head, times-tail, times-ids}
 use Rattle.rules.proofs.Waits.{in-by}
 use Rattle.rules.proofs.Queues.{stands-belongs, first-belongs, belongs-stands}
-use Rattle.rules.proofs.Cells.{body-acts, Careful}
+use Rattle.rules.proofs.Firings.{Along, FiringAct, starts, wakes, stores, keeps, rings-acts}
+use Rattle.rules.proofs.Cells.{body-acts, rest-tells, dormant-rests, Mild, untouched, let-go, mild-then, gentle-mild, list-mild, lapse-gentle, firing-gentle, Careful}
 use Rattle.rules.proofs.States.{waits-by, waiting-tells, freed-tells, older-same}
 use Rattle.rules.proofs.Refused.{released-none, none-released}
 use Rattle.rules.proofs.Judge.{_⊗_, AllRows, OnActs, on-acts, acts-check, acts-choose, acts-first, acts-count, acts-wait, acts-call}
@@ -85,13 +87,14 @@ act-unreleased (receive j) b n d = none-released (b .tasks)
 act-unreleased (mark p k t) b n d = none-released (b .tasks)
 act-unreleased elapse b n d = released-older (b .tasks) (b .tasks) ∙ none-released (b .tasks)
 act-unreleased (nest h) b n d = absurd d
+act-unreleased (alarm k c s) b n d = none-released (b .tasks)
 
 -- ---- a list of releases, each of a task that waits at the start, in b, and still when its turn comes, in c
 
 data Frees (b : Body) : Body → List Act → Type 0 where
   ends : (c : Body) → Frees b c []
-  sets : (c : Body) (f n : ℕ) → Frees b c (pattern f n ∷ [])
-  elapses : (c : Body) → Frees b c (elapse ∷ [])
+  -- an act that is no release and lets nobody go
+  passes : (c : Body) (a : Act) (l : List Act) → isRelease a ≡ false → releasedCount (b .tasks) (after a c .tasks) ≡ releasedCount (b .tasks) (c .tasks) → Frees b (after a c) l → Frees b c (a ∷ l)
   frees : (c : Body) (i : ℕ) (d : Code) (w : ℕ) (l : List Act) → isWaiting (task b i .state) ≡ true → isWaiting (task c i .state) ≡ true
       → Frees b (after (release i d w) c) l → Frees b c (release i d w ∷ l)
 
@@ -112,8 +115,7 @@ one-more b c (suc i) d w e f = one-more-set (b .tasks) (c .tasks) i _ e f (rw f 
 frees-count : {b c : Body} {l : List Act} → Frees b c l → releasedCount (b .tasks) (afters l c .tasks) ≡ releasedCount (b .tasks) (c .tasks) + releases l
 unfolding afters after
 frees-count (ends c) = sym (add-zero _)
-frees-count (sets c f n) = sym (add-zero _)
-frees-count {b} (elapses c) = released-older (b .tasks) (c .tasks) ∙ sym (add-zero _)
+frees-count (passes c a l n e g) = frees-count g ∙ rw (e, n) (omega arith)
 frees-count {b} (frees c i d w l e f g) = rw (frees-count g, one-more b c i d w e f) (omega arith)
 
 counted : (b : Body) (l : List Act) → Frees b b l → releasedCount (b .tasks) (afters l b .tasks) ≡ releases l
@@ -143,7 +145,8 @@ module _ (b : Body) where
   first-comes c x d w l m h g = let r = h x (times-head x l) in frees c x d w m (r .1) (r .2) g
 
   flag-frees : (c : Body) (f have : ℕ) (l : List ℕ) → Coming c l → Frees b c (serve-flag b f have l)
-  flag-frees c f have [] h = sets c f have
+  unfolding after
+  flag-frees c f have [] h = passes c (pattern f have) [] refl refl (ends _)
   flag-frees c f have (x ∷ l) h =
       go (met have (wish (waitOf (task b x .state)) .0) (wish (waitOf (task b x .state)) .1))
       (flag-frees (after (release x OK have) c) f (left have (wish (waitOf (task b x .state)) .1)) l (coming-release c x OK have l h)) (flag-frees c f have l (coming-skip c x l h))
@@ -153,9 +156,10 @@ module _ (b : Body) where
       go true g k = first-comes c x OK have l _ h g
       go false g k = k
 
-  tick-frees : (c : Body) (l : List ℕ) → Coming c l → Frees b c (map timeout l ++ elapse ∷ [])
-  tick-frees c [] h = elapses c
-  tick-frees c (x ∷ l) h = first-comes c x _ 0 l _ h (tick-frees (after (timeout x) c) l (coming-release c x _ 0 l h))
+  lapse-frees : (c : Body) (l : List ℕ) → Coming c l → Frees b c (map timeout l ++ elapse ∷ [])
+  unfolding after
+  lapse-frees c [] h = passes c elapse [] refl (released-older (b .tasks) (c .tasks)) (ends _)
+  lapse-frees c (x ∷ l) h = first-comes c x _ 0 l _ h (lapse-frees (after (timeout x) c) l (coming-release c x _ 0 l h))
 
 -- those whose wait ends
 endings-come : (b : Body) → Coming b b (endings b)
@@ -172,6 +176,59 @@ endings-come b y z = (times-keep y test (ids (length (b .tasks))) ∙ rw ends (t
 
     waits : isWaiting (task b y .state) ≡ true
     waits = waits-by ending refl (task b y .state) ends
+
+-- ---- alarms: whoever is at rest when they fire was so before the tick
+
+frees-append : {b c : Body} {l : List Act} (m : List Act) → Frees b c l → Frees b (afters l c) m → Frees b c (l ++ m)
+unfolding afters
+frees-append m (ends c) h = h
+frees-append m (passes c a l n e g) h = passes c a (l ++ m) n e (frees-append m g h)
+frees-append m (frees c i d w l e f g) h = frees c i d w (l ++ m) e f (frees-append m g h)
+
+-- one task is changed, and it was released before if and only if it is so now
+count-set : (l m : List Task) (i : ℕ) (u : Task) → isReleased (getD l i nobody .state) (u .state) ≡ isReleased (getD l i nobody .state) (getD m i nobody .state)
+    → releasedCount l (set m i u) ≡ releasedCount l m
+unfolding releasedCount
+count-set [] m i u h = refl
+count-set (t ∷ l) [] i u h = refl
+count-set (t ∷ l) (s ∷ m) zero u h = rw h
+count-set (t ∷ l) (s ∷ m) (suc i) u h = rw (count-set l m i u h)
+
+count-put : (l m : List Task) (i : ℕ) (u : Task) → isReleased (of l i nobody .state) (u .state) ≡ isReleased (of l i nobody .state) (of m i nobody .state)
+    → releasedCount l (put m i u) ≡ releasedCount l m
+count-put l m zero u h = refl
+count-put l m (suc i) u h = count-set l m i u h
+
+module _ (b : Body) where
+  abbrev MildSince : Body → Type 0
+  MildSince c = (i : ℕ) → Mild (task b i) (task c i)
+
+  -- who rests waits now if and only if it waited then
+  waited : {t u : Task} → Mild t u → isFreed (u .state) ≡ false → isWaiting (t .state) ≡ isWaiting (u .state)
+  waited (untouched a w c d) e = sym w
+  waited (let-go x y) e = absurd (false≢true (sym e ∙ y))
+
+  firing-frees : (c : Body) (a : Act) (l : List Act) → MildSince c → FiringAct c a → Frees b (after a c) l → Frees b c (a ∷ l)
+  unfolding after
+  firing-frees c a l h (starts i d) g = passes c a l refl (count-put (b .tasks) (c .tasks) i _ still) g
+    where
+      still : isReleased (task b i .state) ready ≡ isReleased (task b i .state) (task c i .state)
+      still =
+          rw (waited (h i) (rest-tells (task c i .state) (dormant-rests (task c i .state) d)))
+          (unreleased (task c i .state) .2 d ∙ sym (released-none (task c i .state)))
+  firing-frees c a l h (wakes i s) g =
+      let w = waits-by sleeps refl (task c i .state) s in
+      frees c i OK 0 l (waited (h i) (waiting-tells (task c i .state) w .1) ∙ w) w g
+  firing-frees c a l h (stores i x d s m) g = passes c a l refl (count-put (b .tasks) (c .tasks) i _ refl) g
+  firing-frees c a l h (keeps k x y f) g = passes c a l refl refl g
+
+  rings-frees : (l : List Act) (c : Body) → MildSince c → Along FiringAct c l → Frees b c l
+  rings-frees [] c h g = ends c
+  rings-frees (a ∷ l) c h g = firing-frees c a l h (g .0) (rings-frees l (after a c) (λ i. mild-then (h i) (gentle-mild c (firing-gentle c a (g .0)) i)) (g .1))
+
+  tick-frees : (n : ℕ) → Frees b b (lapse b ++ rings (afters (lapse b) b) n 1)
+  tick-frees n =
+      frees-append _ (lapse-frees b b (endings b) (endings-come b)) (rings-frees _ (afters (lapse b) b) (list-mild (lapse b) b (lapse-gentle b)) (rings-acts n 1 (afters (lapse b) b)))
 
 -- the waiters on an object
 module _ (v : View) (s : Sound v) (k : Kind) (o : ℕ) where
@@ -239,7 +296,7 @@ module _ (v : View) (s : Sound v) (a y z : ℤ) where
   set-counts o = on-acts (counted (v .body) _ (flag-frees (v .body) (v .body) (nat a) _ _ (waiters-come v s flag (nat a) (in-by a _ o))))
 
   rows : (h : Bool) (me : ℕ) → AllRows (λ n r. Counts (v .body) r) v h me 1 (table v me a y z)
-  unfolding table staTsk extTsk terTsk chgPri rotRdq relWai susTsk rsmTsk slpTsk waiTsk wupTsk canWup sigSem waiSem preqSem setFlg clrFlg waiFlg polFlg sndMsg rcvMsg prcvMsg getBlk pgetBlk relBlk getTid tskSts semSts flgSts mbxSts mplSts getTim creTsk delTsk exdTsk starting sta-tsk ext-tsk ter-tsk chg-pri rot-rdq rel-wai sus-tsk rsm-tsk take-wakeup slp-tsk wai-tsk can-wup get-tid tsk-sts cre-tsk del-tsk exd-tsk obj-sts sig-sem take-sem clr-flg take-flg snd-msg take-msg take-blk rel-blk get-tim
+  unfolding table staTsk extTsk terTsk chgPri rotRdq relWai susTsk rsmTsk slpTsk waiTsk wupTsk canWup sigSem waiSem preqSem setFlg clrFlg waiFlg polFlg sndMsg rcvMsg prcvMsg getBlk pgetBlk relBlk getTid tskSts semSts flgSts mbxSts mplSts getTim creTsk delTsk exdTsk setAbs setRel canAlm almSts starting sta-tsk ext-tsk ter-tsk chg-pri rot-rdq rel-wai sus-tsk rsm-tsk take-wakeup slp-tsk wai-tsk can-wup get-tid tsk-sts cre-tsk del-tsk exd-tsk obj-sts sig-sem take-sem clr-flg take-flg snd-msg take-msg take-blk rel-blk get-tim set-alm set-abs set-rel can-alm alm-sts
   rows h me =
       (λ t. search counting depth 9)
       ⊗ (λ t. search counting depth 9)
@@ -276,6 +333,10 @@ module _ (v : View) (s : Sound v) (a y z : ℤ) where
       ⊗ (λ t. search counting depth 9)
       ⊗ (λ t. search counting depth 9)
       ⊗ (λ t. search counting depth 9)
+      ⊗ (λ t. search counting depth 9)
+      ⊗ (λ t. search counting depth 9)
+      ⊗ (λ t. search counting depth 9)
+      ⊗ (λ t. search counting depth 9)
       ⊗ tt
 
 -- ---- an event
@@ -291,7 +352,7 @@ exit-counts v = acts-check _ (count-none (v .body)) (λ e. on-acts (count-nest (
 -- the number released is the number of release acts
 pub released-by-acts : (v : View) (e : Event) → Sound v → releasedCount (v .body .tasks) (next v e .body .tasks) ≡ releases (judge v e .acts)
 unfolding next judge ticked entered exited
-released-by-acts v tick s = rw (body-acts (ticked v .acts) v) (counted (v .body) _ (tick-frees (v .body) (v .body) (endings (v .body)) (endings-come (v .body))))
+released-by-acts v tick s = rw (body-acts (ticked v .acts) v) (counted (v .body) _ (tick-frees (v .body) _))
 released-by-acts v enter s = rw (body-acts (entered v .acts) v) (elim (enter-counts v) [ on-acts k ↦ k ])
 released-by-acts v exit s = rw (body-acts (exited v .acts) v) (elim (exit-counts v) [ on-acts k ↦ k ])
 released-by-acts v (call x n a y z) s =

@@ -3,9 +3,10 @@ use mathlib.Core.Bool.{Bool, true, false, cond}
 use mathlib.Core.List.{List, [], _∷_, map}
 use mathlib.Core.Option.{Option, none, some}
 use Prim.Native.Nat.{ℕ, suc, pred, _%_, _^_}
+use lib.Dec.{leb}
 use Rattle.rules.specs.Ids.{of, put}
 use Rattle.rules.specs.Codes.{Code, OK}
-use Rattle.rules.specs.State.{Wait, asleep, timed, on, State, dormant, ready, suspended, absent, waiting, waiting-suspended, Cell, Task, Store, Handlers, Body, task, nobody, isWaiting}
+use Rattle.rules.specs.State.{Wait, asleep, timed, on, State, dormant, ready, suspended, absent, waiting, waiting-suspended, Cell, Task, Store, Handlers, Setting, Alarm, Counter, alarmOf, Body, task, nobody, isWaiting}
 use Rattle.rules.specs.Places.{Item, aTask, aMessage, aBlock}
 
 pub data Act : Type 0 where
@@ -32,6 +33,8 @@ pub data Act : Type 0 where
   elapse : Act
   -- a handler begins or ends: those that are open then
   nest : Handlers → Act
+  -- the kept code and the setting of alarm k
+  alarm : ℕ → Code → Setting → Act
 
 -- ---- a record with one field changed
 
@@ -63,13 +66,22 @@ abbrev pub with-clock : ℕ → Store → Store
 with-clock x u = record { priorities = u .priorities; semaphores = u .semaphores; flags = u .flags; mailboxes = u .mailboxes; messages = u .messages; pools = u .pools; clock = x }
 
 abbrev pub with-tasks : List Task → Body → Body
-with-tasks l b = record { tasks = l; store = b .store; handlers = b .handlers }
+with-tasks l b = record { tasks = l; store = b .store; handlers = b .handlers; counter = b .counter }
 
 abbrev pub with-store : Store → Body → Body
-with-store u b = record { tasks = b .tasks; store = u; handlers = b .handlers }
+with-store u b = record { tasks = b .tasks; store = u; handlers = b .handlers; counter = b .counter }
 
 abbrev pub with-handlers : Handlers → Body → Body
-with-handlers h b = record { tasks = b .tasks; store = b .store; handlers = h }
+with-handlers h b = record { tasks = b .tasks; store = b .store; handlers = h; counter = b .counter }
+
+abbrev pub with-counter : Counter → Body → Body
+with-counter c b = record { tasks = b .tasks; store = b .store; handlers = b .handlers; counter = c }
+
+abbrev pub with-alarms : List Alarm → Counter → Counter
+with-alarms l c = record { size = c .size; now = c .now; alarms = l }
+
+abbrev pub with-setting : Code → Setting → Alarm → Alarm
+with-setting c s x = record { task = x .task; wakes = x .wakes; kept = c; setting = s }
 
 -- task i changed by f
 abbrev pub change : (Task → Task) → ℕ → Body → Body
@@ -137,6 +149,19 @@ older (waiting-suspended (on k o p m)) = waiting-suspended (on k o p m)
 abbrev pub clockAfter : ℕ → ℕ
 clockAfter n = suc n % 2 ^ 48
 
+-- ---- what an act makes of the counter
+
+-- The counter goes to m - 1 and round, one step a tick.
+abbrev pub countAfter : ℕ → ℕ → ℕ
+countAfter m n = cond (leb m (suc n)) 0 (suc n)
+
+abbrev pub stepped : Counter → Counter
+stepped c = record { size = c .size; now = countAfter (c .size) (c .now); alarms = c .alarms }
+
+-- alarm k with another kept code and setting
+abbrev pub changeAlarm : ℕ → Code → Setting → Counter → Counter
+changeAlarm k c s r = with-alarms (put (r .alarms) k (with-setting c s (alarmOf r k))) r
+
 -- ---- the state after an act
 
 unfoldable pub after : Act → Body → Body
@@ -156,8 +181,9 @@ after (pattern f n) b = with-store (with-flags (put (b .store .flags) f n) (b .s
 after (post j m) b = with-store (with-messages (put (b .store .messages) j (some m)) (b .store)) b
 after (receive j) b = with-store (with-messages (put (b .store .messages) j none) (b .store)) b
 after (mark p k t) b = with-store (with-pools (put (b .store .pools) p (put (of (b .store .pools) p []) k t)) (b .store)) b
-after elapse b = record { tasks = map (λ t. with-state (older (t .state)) t) (b .tasks); store = with-clock (clockAfter (b .store .clock)) (b .store); handlers = b .handlers }
+after elapse b = record { tasks = map (λ t. with-state (older (t .state)) t) (b .tasks); store = with-clock (clockAfter (b .store .clock)) (b .store); handlers = b .handlers; counter = stepped (b .counter) }
 after (nest h) b = with-handlers h b
+after (alarm k c s) b = with-counter (changeAlarm k c s (b .counter)) b
 
 unfoldable pub afters : List Act → Body → Body
 afters [] b = b
@@ -228,3 +254,4 @@ move b (receive j) = leave (aMessage j)
 move b (mark p k t) = markedMove t (aBlock p k)
 move b elapse = stay
 move b (nest h) = stay
+move b (alarm k c s) = stay

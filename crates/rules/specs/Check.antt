@@ -10,10 +10,10 @@ use native.Mathlib.Nat.{eq-or-lt-of-le}
 use native.Mathlib.Omega.{arith}
 use lib.ListN.{length}
 use Rattle.rules.specs.Ids.{of, In, times}
-use Rattle.rules.specs.Codes.{OK, E-TMOUT, E-RLWAI, Code-discrete}
-use Rattle.rules.specs.State.{Kind, semaphore, flag, mailbox, pool, Wait, asleep, timed, on, Cell, Task, Store, Handlers, no-handler, in-handler, Body, task, objects, waitOf, isDormant, isAbsent, sleeps}
+use Rattle.rules.specs.Codes.{Code, OK, E-NOEXS, E-DMT, H-NODMT, E-QOVR, E-TMOUT, E-RLWAI, Code-discrete}
+use Rattle.rules.specs.State.{Kind, semaphore, flag, mailbox, pool, Wait, asleep, timed, on, Cell, Task, Store, Handlers, no-handler, in-handler, Setting, unset, due, Alarm, Counter, alarmOf, alarmCount, Body, task, objects, waitOf, isDormant, isAbsent, sleeps}
 use Rattle.rules.specs.Places.{Place, readyAt, waiters, mail, freeIn, many, at, Lines, Exists}
-use Rattle.rules.specs.Sound.{Sizes, LiesWell, StoreNumbers, CellNumbers, WishNumbers, WaitNumbers, Unserved, Vacant, SoundTask, HandlersFit, SoundBody, Shape, Known, Queue, Sound}
+use Rattle.rules.specs.Sound.{Sizes, LiesWell, StoreNumbers, CellNumbers, WishNumbers, WaitNumbers, Unserved, Vacant, SoundTask, HandlersFit, KeptFits, SettingFits, AlarmFits, CounterFits, SoundBody, Shape, Known, Queue, Sound}
 use Rattle.rules.specs.View.{View, line}
 
 module _ {A B : Type 0} where
@@ -146,11 +146,32 @@ unfolding both? either? decLe ℕ-discrete
 handlers? l no-handler = yes tt
 handlers? l (in-handler n i) = both? (decLe (suc n) 15) (either? (ℕ-discrete i 0) (Bool-discrete _ true))
 
+unfoldable pub kept? : (t : Bool) (c : Code) → Dec (KeptFits t c)
+unfolding either?
+kept? false c = either? (Code-discrete c OK) (either? (Code-discrete c E-NOEXS) (Code-discrete c H-NODMT))
+kept? true c = either? (Code-discrete c OK) (either? (Code-discrete c E-NOEXS) (either? (Code-discrete c E-DMT) (Code-discrete c E-QOVR)))
+
+unfoldable pub setting? : (m : ℕ) (x : Setting) → Dec (SettingFits m x)
+unfolding both? decLe decLt
+setting? m unset = yes tt
+setting? m (due e p) = both? (decLt e m) (decLe p m)
+
+unfoldable pub alarm? : (n m : ℕ) (x : Alarm) → Dec (AlarmFits n m x)
+unfolding convert both? in? kept? setting?
+alarm? n m x = convert (λ t. record { task = t .0; kept = t .1 .0; setting = t .1 .1 }) (λ r. (r .task, (r .kept, r .setting))) (both? (in? (x .task) n) (both? (kept? (x .wakes) (x .kept)) (setting? m (x .setting))))
+
+unfoldable pub counter? : (n : ℕ) (c : Counter) → Dec (CounterFits n c)
+unfolding convert both? either? every? alarm? decLe decLt ℕ-discrete
+counter? n c =
+    convert (λ t. record { size = t .0 .0; now = t .0 .1; count = t .1 .0; alarms = t .1 .1 }) (λ r. ((r .size, r .now), (r .count, r .alarms)))
+    (both? (both? (decLe (c .size) 65535) (either? (ℕ-discrete (c .now) 0) (decLt (c .now) (c .size))))
+    (both? (ℕ-discrete (length (c .alarms)) (alarmCount (c .size))) (every? (length (c .alarms)) (λ k. alarm? n (c .size) (alarmOf c k)))))
+
 unfoldable pub body? : (b : Body) → Dec (SoundBody b)
-unfolding convert both? every? sizes? store? task? handlers?
+unfolding convert both? every? sizes? store? task? handlers? counter?
 body? b =
-    convert (λ t. record { sizes = t .0; store = t .1 .0; tasks = t .1 .1 .0; handlers = t .1 .1 .1 }) (λ r. (r .sizes, (r .store, (r .tasks, r .handlers))))
-    (both? (sizes? b) (both? (store? (b .store)) (both? (every? (length (b .tasks)) (λ i. task? (b .store) (task b i))) (handlers? (b .tasks) (b .handlers)))))
+    convert (λ t. record { sizes = t .0; store = t .1 .0; tasks = t .1 .1 .0; handlers = t .1 .1 .1 .0; counter = t .1 .1 .1 .1 }) (λ r. (r .sizes, (r .store, (r .tasks, (r .handlers, r .counter)))))
+    (both? (sizes? b) (both? (store? (b .store)) (both? (every? (length (b .tasks)) (λ i. task? (b .store) (task b i))) (both? (handlers? (b .tasks) (b .handlers)) (counter? (length (b .tasks)) (b .counter))))))
 
 unfoldable pub shape? : (u : Store) (l : Lines) → Dec (Shape u l)
 unfolding convert both? kinds? ℕ-discrete

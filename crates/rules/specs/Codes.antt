@@ -5,7 +5,7 @@ use lib.Dec.{leb}
 use lib.IntN.{ℤ, pos, negsuc, negℤ}
 
 pub data Code : Type 0 where
-  OK WAITS H-NUMBER H-QUEUE H-SERVED H-TWICE H-FREE H-CALL H-PAR E-NOEXS E-TPRI E-ILTIME E-CTX E-SELF E-DMT H-NODMT H-SUS E-NOSUS E-NOWAI E-QOVR H-POLL H-MSG H-NEST H-EXIST H-ILBLK E-TMOUT E-RLWAI : Code
+  OK WAITS H-NUMBER H-QUEUE H-SERVED H-TWICE H-FREE H-CALL H-PAR E-NOEXS E-TPRI E-ILTIME E-CTX E-SELF E-DMT H-NODMT H-SUS E-NOSUS E-NOWAI E-QOVR H-POLL H-MSG H-NEST H-EXIST H-ILBLK H-USED H-IDLE E-TMOUT E-RLWAI : Code
   deriving Discrete as Code-discrete
 
 abbrev pub minus : ℕ → ℤ
@@ -38,6 +38,8 @@ number H-MSG = minus 6
 number H-NEST = minus 7
 number H-EXIST = minus 8
 number H-ILBLK = minus 10
+number H-USED = minus 11
+number H-IDLE = minus 12
 number E-TMOUT = minus 3413
 number E-RLWAI = minus 3414
 

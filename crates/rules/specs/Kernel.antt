@@ -7,9 +7,9 @@ use lib.IntN.{ℤ}
 use lib.ListN.{replicate}
 use Rattle.rules.specs.Ids.{ids}
 use Rattle.rules.specs.Codes.{Code, OK}
-use Rattle.rules.specs.State.{dormant, Cell, Task, no-handler, Body}
+use Rattle.rules.specs.State.{dormant, Cell, Task, no-handler, unset, Alarm, Counter, Body}
 use Rattle.rules.specs.Places.{tabulate}
-use Rattle.rules.specs.Setup.{Entry, Setup}
+use Rattle.rules.specs.Setup.{Entry, AlarmEntry, CounterEntry, Setup}
 use Rattle.rules.specs.Events.{Event}
 use Rattle.rules.specs.Acts.{Act, start, mark}
 use Rattle.rules.specs.View.{View, running, acts}
@@ -24,7 +24,16 @@ use Rattle.rules.specs.Breach.{breach}
 abbrev pub idleTask : Entry → Task
 idleTask e = record { state = dormant; priority = e .priority; start = e .priority; wakeups = 0; cell = record { code = OK; word = 0 } }
 
--- before the start: every task dormant, every block out, every mailbox empty, clock 0, wake-up counts 0, answer cells 0 and 0, no handler open
+abbrev pub idleAlarm : AlarmEntry → Alarm
+idleAlarm e = record { task = e .task; wakes = e .wakes; kept = OK; setting = unset }
+
+-- at 0, with all alarms idle
+abbrev pub idleCounter : List CounterEntry → Counter
+idleCounter [] = record { size = 0; now = 0; alarms = [] }
+idleCounter (c ∷ l) = record { size = c .size; now = 0; alarms = map idleAlarm (c .alarms) }
+
+-- before the start: every task dormant, every block out, every mailbox empty, clock 0, wake-up counts 0, answer cells 0 and 0, no handler open,
+-- the counter at 0 with all alarms idle
 unfoldable pub idle : Setup → Body
 idle u = record {
   tasks = map idleTask (u .tasks);
@@ -38,6 +47,7 @@ idle u = record {
     clock = 0;
   };
   handlers = no-handler;
+  counter = idleCounter (u .counters);
 }
 
 -- Every block is free: those of each pool, from pool p on, in the order of their numbers.

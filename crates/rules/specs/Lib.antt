@@ -13,6 +13,7 @@ pub mod Verdicts
 pub mod Tasks
 pub mod Objects
 pub mod FlagWalk
+pub mod Alarms
 pub mod Time
 pub mod Handling
 pub mod Rows

@@ -3,7 +3,7 @@ use mathlib.Core.Bool.{Bool, true, false}
 use mathlib.Core.List.{List, [], _∷_}
 use Prim.Native.Nat.{ℕ, _+_}
 use Rattle.rules.specs.Ids.{once}
-use Rattle.rules.specs.Acts.{Act, start, retire, create, delete, rotate, regrade, wait, release, suspend, resume, wakeups, count, pattern, post, receive, mark, elapse, nest}
+use Rattle.rules.specs.Acts.{Act, start, retire, create, delete, rotate, regrade, wait, release, suspend, resume, wakeups, count, pattern, post, receive, mark, elapse, nest, alarm}
 
 abbrev pub isRelease : Act → Bool
 isRelease (start i) = false
@@ -24,6 +24,7 @@ isRelease (receive j) = false
 isRelease (mark p k t) = false
 isRelease elapse = false
 isRelease (nest h) = false
+isRelease (alarm k c s) = false
 
 abbrev pub releases : List Act → ℕ
 releases [] = 0

@@ -15,6 +15,7 @@ use Rattle.rules.specs.Verdicts.{Verdict, waits}
 use Rattle.rules.specs.Tasks.{sta-tsk, ext-tsk, ter-tsk, chg-pri, rot-rdq, rel-wai, sus-tsk, rsm-tsk, slp-tsk, wai-tsk, wup-tsk, can-wup, get-tid, tsk-sts, cre-tsk, del-tsk, exd-tsk}
 use Rattle.rules.specs.Objects.{polls, waits-on, obj-sts, countOf, sig-sem, take-sem, patternOf, set-flg, clr-flg, take-flg, snd-msg, take-msg, blocksOf, free, take-blk, rel-blk}
 use Rattle.rules.specs.Time.{get-tim}
+use Rattle.rules.specs.Alarms.{set-abs, set-rel, can-alm, alm-sts}
 
 -- a reason to refuse, if it applies
 pub record Refusal : Type 0 where
@@ -72,6 +73,14 @@ module _ (v : View) where
   -- message number outside 1..count
   abbrev pub message : ℤ → Refusal
   message j = record { applies = outside j (length (v .body .store .messages)); code = H-PAR }
+
+  -- alarm number outside 1..8, or no counter
+  abbrev pub alarm-number : ℤ → Refusal
+  alarm-number a = record { applies = outside a (length (v .body .counter .alarms)); code = H-PAR }
+
+  -- count or period outside 0..m
+  abbrev pub ticks : ℤ → Refusal
+  ticks n = record { applies = above n (v .body .counter .size); code = H-PAR }
 
   -- ---- the calls on tasks. `me` is the caller.
 
@@ -185,3 +194,17 @@ module _ (v : View) where
 
   unfoldable pub exdTsk : ℕ → Row
   exdTsk me = row [] T unnamed (exd-tsk me)
+
+  -- ---- the calls on alarms
+
+  unfoldable pub setAbs : ℤ → ℤ → ℤ → Row
+  setAbs a b c = row (alarm-number a ∷ ticks b ∷ ticks c ∷ []) both unnamed (set-abs v a b c)
+
+  unfoldable pub setRel : ℤ → ℤ → ℤ → Row
+  setRel a b c = row (alarm-number a ∷ ticks b ∷ ticks c ∷ []) both unnamed (set-rel v a b c)
+
+  unfoldable pub canAlm : ℤ → Row
+  canAlm a = row (alarm-number a ∷ []) both unnamed (can-alm v a)
+
+  unfoldable pub almSts : ℤ → Row
+  almSts a = row (alarm-number a ∷ []) both unnamed (alm-sts v a)

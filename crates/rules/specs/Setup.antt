@@ -1,6 +1,7 @@
 -- The setup as bytes: read left to right, the first fault decides. Numbers are four bytes, least significant first, unsigned.
 use mathlib.Core.Bool.{Bool, cond, _&&_}
 use mathlib.Core.List.{List, [], _∷_, map}
+use mathlib.Core.Path.{_≡_}
 use Prim.Native.Nat.{ℕ, zero, suc, _+_, _-_, _*_, _≤_, _<_, _^_}
 use lib.Dec.{eqb, leb}
 use lib.ListN.{length, getD}
@@ -55,7 +56,7 @@ pub record Section : Type 0 where
 abbrev pub section : Range → List Range → Section
 section c e = record { count = c; entry = e }
 
--- the seven sections in order; priorities, whose count is called P, come first
+-- the first seven sections in order; priorities, whose count is called P, come first
 abbrev pub priorities : Section
 priorities = section (to 1 16) []
 
@@ -68,6 +69,15 @@ sections P =
     ∷ section (to 0 256) []
     ∷ section (to 0 8) (to 1 32 ∷ [])
     ∷ []
+
+-- for each of k alarms a task id, of n tasks, and 0 to start or 1 to wake it
+abbrev pub alarmRanges : ℕ → ℕ → List Range
+alarmRanges n zero = []
+alarmRanges n (suc k) = to 1 n ∷ to 0 1 ∷ alarmRanges n k
+
+-- the eighth: counters, one at most; m, and its eight alarms
+abbrev pub counters : ℕ → Section
+counters n = section (to 0 1) (to 1 65535 ∷ alarmRanges n 8)
 
 -- the words of one entry
 unfoldable pub readEntry : List ℕ → List Range → ℕ → Read (List ℕ)
@@ -94,6 +104,16 @@ pub record Entry : Type 0 where
   pub priority : ℕ
   pub started : Bool
 
+pub record AlarmEntry : Type 0 where
+  -- the task that it starts or wakes
+  pub task : ℕ
+  pub wakes : Bool
+
+pub record CounterEntry : Type 0 where
+  -- m
+  pub size : ℕ
+  pub alarms : List AlarmEntry
+
 pub record Setup : Type 0 where
   pub priorities : ℕ
   pub tasks : List Entry
@@ -103,6 +123,13 @@ pub record Setup : Type 0 where
   pub messages : ℕ
   -- the number of blocks of each
   pub pools : List ℕ
+  pub counters : List CounterEntry
+
+-- a counter in range, of n tasks
+pub record GoodCounter (n : ℕ) (c : CounterEntry) : Type 0 where
+  pub size : In (c .size) 65535
+  pub eight : length (c .alarms) ≡ 8
+  pub alarms : Each (λ a. In (a .task) n) (c .alarms)
 
 -- a setup in range: its counts and its entries lie in their ranges
 pub record GoodSetup (u : Setup) : Type 0 where
@@ -118,6 +145,8 @@ pub record GoodSetup (u : Setup) : Type 0 where
   pub messages : u .messages ≤ 256
   pub pools : length (u .pools) ≤ 8
   pub blocks : Each (λ n. In n 32) (u .pools)
+  pub counters : length (u .counters) ≤ 1
+  pub counter : Each (GoodCounter (length (u .tasks))) (u .counters)
 
 -- the i-th section's entries; the i-th word of an entry
 abbrev pub entriesOf : List (List (List ℕ)) → ℕ → List (List ℕ)
@@ -130,8 +159,19 @@ wordOf i w = getD w i 0
 abbrev pub taskEntry : List ℕ → Entry
 taskEntry w = record { priority = wordOf 0 w; started = eqb (wordOf 1 w) 1 }
 
-abbrev pub setupOf : ℕ → List (List (List ℕ)) → Setup
-setupOf P l = record {
+-- 1 if it wakes its task, 0 if it starts it; two words for each alarm
+abbrev pub alarmEntries : List ℕ → List AlarmEntry
+alarmEntries [] = []
+alarmEntries (t ∷ []) = []
+alarmEntries (t ∷ w ∷ l) = record { task = t; wakes = eqb w 1 } ∷ alarmEntries l
+
+abbrev pub counterEntry : List ℕ → CounterEntry
+counterEntry [] = record { size = 0; alarms = [] }
+counterEntry (m ∷ l) = record { size = m; alarms = alarmEntries l }
+
+-- from P, the entries of the next six sections, and those of the eighth
+abbrev pub setupOf : ℕ → List (List (List ℕ)) → List (List ℕ) → Setup
+setupOf P l c = record {
   priorities = P;
   tasks = map taskEntry (entriesOf l 0);
   semaphores = map (wordOf 0) (entriesOf l 1);
@@ -139,17 +179,28 @@ setupOf P l = record {
   mailboxes = length (entriesOf l 3);
   messages = length (entriesOf l 4);
   pools = map (wordOf 0) (entriesOf l 5);
+  counters = map counterEntry c;
 }
 
--- the setup whose bytes begin at an offset, and the offset behind it
+-- the setup whose bytes begin at an offset, and the offset behind it; its eighth section is read as told
+unfoldable pub readWith : (List ℕ → Section → ℕ → Read (List (List ℕ))) → List ℕ → ℕ → Read Setup
+readWith eighth s i =
+    and-then (readSection s priorities i) (λ p j. and-then (readSections s (sections (length p)) j)
+    (λ l k. and-then (eighth s (counters (length (entriesOf l 0))) k) (λ c n. got (setupOf (length p) l c) n)))
+
+-- In a recorded run the eighth always stands.
 unfoldable pub readSetup : List ℕ → ℕ → Read Setup
-readSetup s i = and-then (readSection s priorities i) (λ p j. and-then (readSections s (sections (length p)) j) (λ l k. got (setupOf (length p) l) k))
+readSetup s i = readWith readSection s i
+
+-- a section that may be left out where the bytes end
+unfoldable pub perhaps : List ℕ → Section → ℕ → Read (List (List ℕ))
+perhaps s t i = cond (leb (length s) i) (got [] i) (readSection s t i)
 
 -- Nothing may follow. The place of a fault is the offset of the first byte left over.
 unfoldable pub at-end : {A : Type 0} → List ℕ → Read A → Read A
 at-end s (got a i) = cond (leb (length s) i) (got a i) (refused S4 i)
 at-end s (refused d place) = refused d place
 
--- a setup alone
+-- A setup alone that ends after seven counts as none.
 unfoldable pub setup : List ℕ → Read Setup
-setup s = at-end s (readSetup s 0)
+setup s = at-end s (readWith perhaps s 0)

@@ -8,8 +8,8 @@ use Prim.Native.Nat.{ℕ, _≤_, _<_, _^_}
 use lib.Dec.{eqb}
 use lib.ListN.{length}
 use Rattle.rules.specs.Ids.{of, In, once, times}
-use Rattle.rules.specs.Codes.{OK, E-TMOUT, E-RLWAI}
-use Rattle.rules.specs.State.{Kind, semaphore, flag, mailbox, pool, Wait, asleep, timed, on, Cell, Task, Store, Handlers, no-handler, in-handler, depth, Body, task, nobody, objects, waitOf, isDormant, isAbsent, isFreed, sleeps}
+use Rattle.rules.specs.Codes.{Code, OK, E-NOEXS, E-DMT, H-NODMT, E-QOVR, E-TMOUT, E-RLWAI}
+use Rattle.rules.specs.State.{Kind, semaphore, flag, mailbox, pool, Wait, asleep, timed, on, Cell, Task, Store, Handlers, no-handler, in-handler, depth, Setting, unset, due, Alarm, Counter, alarmOf, alarmCount, Body, task, nobody, objects, waitOf, isDormant, isAbsent, isFreed, sleeps}
 use Rattle.rules.specs.Places.{Place, many, lies, belongs, at, Lines, Exists}
 use Rattle.rules.specs.Objects.{met, free}
 use Rattle.rules.specs.View.{View, line}
@@ -82,11 +82,35 @@ abbrev pub HandlersFit : List Task → Handlers → Type 0
 HandlersFit l no-handler = Unit {0}
 HandlersFit l (in-handler n i) = (depth (in-handler n i) ≤ 15) × ((i ≡ 0) ⊎ (isFreed (of l i nobody .state) ≡ true))
 
+-- ---- The counter: eight alarms if there is one, each of a task of the setup; expiry 0..m - 1, period 0..m.
+
+-- kept code 0, E_NOEXS, or H_NODMT for a start, E_DMT or E_QOVR for a wake
+abbrev pub KeptFits : Bool → Code → Type 0
+KeptFits false c = (c ≡ OK) ⊎ ((c ≡ E-NOEXS) ⊎ (c ≡ H-NODMT))
+KeptFits true c = (c ≡ OK) ⊎ ((c ≡ E-NOEXS) ⊎ ((c ≡ E-DMT) ⊎ (c ≡ E-QOVR)))
+
+abbrev pub SettingFits : ℕ → Setting → Type 0
+SettingFits m unset = Unit {0}
+SettingFits m (due e p) = (e < m) × (p ≤ m)
+
+pub record AlarmFits (n m : ℕ) (x : Alarm) : Type 0 where
+  pub task : In (x .task) n
+  pub kept : KeptFits (x .wakes) (x .kept)
+  pub setting : SettingFits m (x .setting)
+
+-- of n tasks
+pub record CounterFits (n : ℕ) (c : Counter) : Type 0 where
+  pub size : c .size ≤ 65535
+  pub now : (c .now ≡ 0) ⊎ (c .now < c .size)
+  pub count : length (c .alarms) ≡ alarmCount (c .size)
+  pub alarms : (k : ℕ) → In k (length (c .alarms)) → AlarmFits n (c .size) (alarmOf c k)
+
 pub record SoundBody (b : Body) : Type 0 where
   pub sizes : Sizes b
   pub store : StoreNumbers (b .store)
   pub tasks : (i : ℕ) → In i (length (b .tasks)) → SoundTask (b .store) (task b i)
   pub handlers : HandlersFit (b .tasks) (b .handlers)
+  pub counter : CounterFits (length (b .tasks)) (b .counter)
 
 -- ---- the queues
 

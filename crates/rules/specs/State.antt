@@ -2,7 +2,7 @@
 use mathlib.Core.Bool.{Bool, true, false}
 use mathlib.Core.List.{List}
 use mathlib.Core.Option.{Option, none, some}
-use Prim.Native.Nat.{ℕ, suc}
+use Prim.Native.Nat.{ℕ, zero, suc}
 use lib.ListN.{length}
 use Rattle.rules.specs.Ids.{of}
 use Rattle.rules.specs.Codes.{Code, OK}
@@ -61,10 +61,35 @@ abbrev pub isOpen : Handlers → Bool
 isOpen no-handler = false
 isOpen (in-handler n i) = true
 
+-- An alarm is idle, or due: at a count of the counter, and with its period (0: once).
+pub data Setting : Type 0 where
+  unset : Setting
+  due : ℕ → ℕ → Setting
+
+abbrev pub inUse : Setting → Bool
+inUse unset = false
+inUse (due e p) = true
+
+pub record Alarm : Type 0 where
+  -- the task that it starts or wakes
+  pub task : ℕ
+  pub wakes : Bool
+  -- its kept code: how its last firing ended
+  pub kept : Code
+  pub setting : Setting
+
+pub record Counter : Type 0 where
+  -- m; 0 where there is no counter
+  pub size : ℕ
+  -- the present count
+  pub now : ℕ
+  pub alarms : List Alarm
+
 pub record Body : Type 0 where
   pub tasks : List Task
   pub store : Store
   pub handlers : Handlers
+  pub counter : Counter
 
 -- what is read at an id that no task has, and what a task that is not there has: no priority, no wake-ups, cell 0 and 0
 abbrev pub nobody : Task
@@ -72,6 +97,18 @@ nobody = record { state = absent; priority = 0; start = 0; wakeups = 0; cell = r
 
 abbrev pub task : Body → ℕ → Task
 task b i = of (b .tasks) i nobody
+
+-- what is read at a number that no alarm has
+abbrev pub noAlarm : Alarm
+noAlarm = record { task = 0; wakes = false; kept = OK; setting = unset }
+
+abbrev pub alarmOf : Counter → ℕ → Alarm
+alarmOf c k = of (c .alarms) k noAlarm
+
+-- eight alarms; none where there is no counter
+abbrev pub alarmCount : ℕ → ℕ
+alarmCount zero = 0
+alarmCount (suc m) = 8
 
 -- how many objects of a kind there are
 abbrev pub objects : Store → Kind → ℕ

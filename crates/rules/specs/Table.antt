@@ -10,7 +10,7 @@ use Rattle.rules.specs.State.{Body, task, isDormant, isAbsent, isOpen}
 use Rattle.rules.specs.Events.{Event, tick, enter, exit, call}
 use Rattle.rules.specs.View.{View, running}
 use Rattle.rules.specs.Verdicts.{Verdict, refuse, check}
-use Rattle.rules.specs.Rows.{Refusal, Context, T, both, Target, unnamed, anyone, alive, another, Row, staTsk, extTsk, terTsk, chgPri, rotRdq, relWai, susTsk, rsmTsk, slpTsk, waiTsk, wupTsk, canWup, sigSem, waiSem, preqSem, setFlg, clrFlg, waiFlg, polFlg, sndMsg, rcvMsg, prcvMsg, getBlk, pgetBlk, relBlk, getTid, tskSts, semSts, flgSts, mbxSts, mplSts, getTim, creTsk, delTsk, exdTsk}
+use Rattle.rules.specs.Rows.{Refusal, Context, T, both, Target, unnamed, anyone, alive, another, Row, staTsk, extTsk, terTsk, chgPri, rotRdq, relWai, susTsk, rsmTsk, slpTsk, waiTsk, wupTsk, canWup, sigSem, waiSem, preqSem, setFlg, clrFlg, waiFlg, polFlg, sndMsg, rcvMsg, prcvMsg, getBlk, pgetBlk, relBlk, getTid, tskSts, semSts, flgSts, mbxSts, mplSts, getTim, creTsk, delTsk, exdTsk, setAbs, setRel, canAlm, almSts}
 use Rattle.rules.specs.Time.{ticked}
 use Rattle.rules.specs.Handling.{entered, exited}
 
@@ -97,11 +97,15 @@ table v me a b c =
     ∷ creTsk v a b
     ∷ delTsk v a
     ∷ exdTsk v me
+    ∷ setAbs v a b c
+    ∷ setRel v a b c
+    ∷ canAlm v a
+    ∷ almSts v a
     ∷ []
 
 -- how many calls there are
 abbrev pub callCount : ℕ
-callCount = 35
+callCount = 39
 
 -- judged, where the table has the call
 unfoldable pub looked-up : View → Bool → ℕ → Option Row → Verdict
@@ -113,7 +117,7 @@ entry [] n = none
 entry (r ∷ l) zero = some r
 entry (r ∷ l) (suc n) = entry l n
 
--- call number n (H_CALL: not 1..35), from a handler or not, by `me`
+-- call number n (H_CALL: not 1..39), from a handler or not, by `me`
 unfoldable pub numbered : View → Bool → ℕ → ℕ → ℤ → ℤ → ℤ → Verdict
 numbered v h me zero a b c = refuse H-CALL
 numbered v h me (suc n) a b c = looked-up v h me (entry (table v me a b c) n)

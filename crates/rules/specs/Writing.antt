@@ -1,9 +1,11 @@
--- The bytes of a setup: the seven sections in their order, each after its count; every number is four bytes, least significant first.
+-- The bytes of a setup: the eight sections in their order, each after its count; every number is four bytes, least significant first.
 use mathlib.Core.List.{List, [], _∷_, _++_, map}
+use mathlib.Core.Logic.{_⊎_}
+use mathlib.Core.Path.{_≡_}
 use Prim.Native.Nat.{ℕ, _<_, _/_, _%_}
 use lib.ListN.{length}
 use Rattle.rules.specs.Ids.{Each, once}
-use Rattle.rules.specs.Setup.{Entry, Setup}
+use Rattle.rules.specs.Setup.{Entry, AlarmEntry, CounterEntry, Setup}
 
 module _ {A : Type 0} where
   abbrev pub joined : List (List A) → List A
@@ -16,9 +18,17 @@ module _ {A : Type 0} where
 abbrev pub taskWords : Entry → List ℕ
 taskWords e = e .priority ∷ once (e .started) ∷ []
 
--- its sections, each after its count
-abbrev pub setupSections : Setup → List (List ℕ)
-setupSections u =
+-- a task id; 1 to wake it, 0 to start it
+abbrev pub alarmWords : AlarmEntry → List ℕ
+alarmWords e = e .task ∷ once (e .wakes) ∷ []
+
+-- m, then the alarms
+abbrev pub counterWords : CounterEntry → List ℕ
+counterWords c = c .size ∷ joined (map alarmWords (c .alarms))
+
+-- the first seven sections, each after its count
+abbrev pub sevenSections : Setup → List (List ℕ)
+sevenSections u =
     (u .priorities ∷ [])
     ∷ (length (u .tasks) ∷ joined (map taskWords (u .tasks)))
     ∷ (length (u .semaphores) ∷ u .semaphores)
@@ -27,6 +37,10 @@ setupSections u =
     ∷ (u .messages ∷ [])
     ∷ (length (u .pools) ∷ u .pools)
     ∷ []
+
+-- all eight
+abbrev pub setupSections : Setup → List (List ℕ)
+setupSections u = sevenSections u ++ (length (u .counters) ∷ joined (map counterWords (u .counters))) ∷ []
 
 abbrev pub setupWords : Setup → List ℕ
 setupWords u = joined (setupSections u)
@@ -39,6 +53,14 @@ wordBytes w = w % 256 ∷ w / 256 % 256 ∷ w / 65536 % 256 ∷ w / 16777216 % 2
 
 abbrev pub setupBytes : Setup → List ℕ
 setupBytes u = joined (map wordBytes (setupWords u))
+
+-- of the first seven sections alone
+abbrev pub sevenBytes : Setup → List ℕ
+sevenBytes u = joined (map wordBytes (joined (sevenSections u)))
+
+-- a setup alone: its bytes, or those of the seven where it has no counter
+abbrev pub Alone : Setup → List ℕ → Type 0
+Alone u s = (s ≡ setupBytes u) ⊎ ((u .counters ≡ []) × (s ≡ sevenBytes u))
 
 -- a list of bytes
 abbrev pub Bytes : List ℕ → Type 0

@@ -7,5 +7,5 @@ ghost use Rattle.rules.specs.Table.{callCount};
 pub fn call_count() -> u32
     ensures { λ r. ⌜ r ≡ callCount ⌝ }
 {
-    35
+    39
 }

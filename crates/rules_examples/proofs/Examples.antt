@@ -6,6 +6,7 @@ use lib.IntN.{ℤ, pos}
 use Rattle.rules.specs.Codes.{minus}
 use Rattle.rules.specs.Setup.{got}
 use Rattle.rules.specs.Events.{Event, enter}
+use Rattle.rules.specs.View.{View}
 use Rattle.rules.specs.Runs.{play, plainPlay}
 use Rattle.rules_examples.specs.BenchSheet.{set-flg, slp-tsk, wai-tsk, get-tid, taskCall, handlerCall, ran, plainRan, expected, Holds}
 use Rattle.rules_examples.specs.Examples.{taskExamples, objectExamples, waitInTurn, fullSays, handlerExamples, comingExamples, leaves, runBytes, runWords, runAnswers, Damage, damages, severalIds, severalRules, repairs, openRepairs, touched, damageTold, unchanged, readings, read}
@@ -50,7 +51,7 @@ unfolding leaves
 waits-for-ever = refl
 
 -- any event, and the cell of any task: the first rule broken, and the smallest id
-abbrev Told : List Damage → Type 0
+abbrev pub Told : List Damage → Type 0
 Told l = (e : Event) (a : ℤ) → touched (map (λ d. d .made) l) e a ≡ damageTold l
 
 pub damage-told : Told damages
@@ -66,7 +67,10 @@ unfolding touched damageTold
 several-rules-told e a = refl
 
 -- get_tid is served: w1 the running task, 1
-pub repair-served : touched repairs (taskCall get-tid (pos 0) (pos 0) (pos 0)) (pos 1) ≡ unchanged repairs (pos 0 ∷ pos 1 ∷ pos 0 ∷ pos 1 ∷ pos 0 ∷ []) (pos 0)
+abbrev pub Served : List (View → View) → Type 0
+Served l = touched l (taskCall get-tid (pos 0) (pos 0) (pos 0)) (pos 1) ≡ unchanged l (pos 0 ∷ pos 1 ∷ pos 0 ∷ pos 1 ∷ pos 0 ∷ []) (pos 0)
+
+pub repair-served : Served repairs
 unfolding touched unchanged
 repair-served = refl
 

@@ -1,3 +1,4 @@
 -- The worked cases hold.
 pub mod BenchSheet
 pub mod Examples
+pub mod Alarms

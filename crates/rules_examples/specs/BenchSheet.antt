@@ -31,6 +31,7 @@ pub data Call : Type 0 where
   sig-sem wai-sem preq-sem set-flg clr-flg wai-flg pol-flg snd-msg rcv-msg prcv-msg get-blk pget-blk rel-blk : Call
   get-tid tsk-sts sem-sts flg-sts mbx-sts mpl-sts get-tim : Call
   cre-tsk del-tsk exd-tsk : Call
+  set-abs set-rel can-alm alm-sts : Call
 
 abbrev pub callNumber : Call → ℕ
 callNumber sta-tsk = 1
@@ -68,6 +69,10 @@ callNumber get-tim = 32
 callNumber cre-tsk = 33
 callNumber del-tsk = 34
 callNumber exd-tsk = 35
+callNumber set-abs = 36
+callNumber set-rel = 37
+callNumber can-alm = 38
+callNumber alm-sts = 39
 
 -- a call from task context, and one from a handler
 abbrev pub taskCall : Call → ℤ → ℤ → ℤ → Event

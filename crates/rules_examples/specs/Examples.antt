@@ -808,10 +808,10 @@ objectExamples = record {
       ∷ X flg-sts 1 0 0 ∷ X mbx-sts 1 0 0 ∷ X mpl-sts 1 0 0 ∷ X get-tim 0 0 0
       ∷ H wai-tsk 0 0 0 ∷ []))
       1 (pos 0) 0
-      -- H_CALL: call number not 1..35, or context not 0 or 1; before the parameters.
+      -- H_CALL: call number not 1..39, or context not 0 or 1; before the parameters.
       ∷ case 0 1
       (step (alone (call (pos 0) (pos 0) (pos 0) (pos 0) (pos 0))) (minus 1) 0 0 1 0
-      ∷ step (alone (call (pos 0) (pos 36) (pos 0) (pos 0) (pos 0))) (minus 1) 0 0 1 0
+      ∷ step (alone (call (pos 0) (pos 40) (pos 0) (pos 0) (pos 0))) (minus 1) 0 0 1 0
       ∷ step (alone (call (pos 1) (minus 1) (pos 0) (pos 0) (pos 0))) (minus 1) 0 0 1 0
       ∷ step (alone (call (pos 2) (pos 26) (pos 0) (pos 0) (pos 0))) (minus 1) 0 0 1 0
       ∷ step (alone (call (minus 1) (pos 26) (pos 0) (pos 0) (pos 0))) (minus 1) 0 0 1 0
@@ -1012,7 +1012,7 @@ handlerExamples = record {
       ∷ I wai-sem 2 0 0 ∷ I wai-flg 2 5 0 ∷ I rcv-msg 1 0 0 ∷ I get-blk 1 0 0 ∷ [])
       ++ (step (X sus-tsk 6 0 0) (minus 2100) 0 0 1 0
       ∷ step (alone (call (pos 2) (pos 26) (pos 0) (pos 0) (pos 0))) (minus 1) 0 0 1 0
-      ∷ step (alone (call (pos 0) (pos 36) (pos 0) (pos 0) (pos 0))) (minus 1) 0 0 1 0
+      ∷ step (alone (call (pos 0) (pos 40) (pos 0) (pos 0) (pos 0))) (minus 1) 0 0 1 0
       ∷ step (I wup-tsk 1 0 0) (pos 0) 0 0 1 0
       ∷ step (alone exit) (pos 0) 0 0 1 0
       ∷ step (X can-wup 1 0 0) (pos 0) 1 0 1 0
@@ -1180,11 +1180,11 @@ runAnswers =
 
 -- ---- damaged states
 
-abbrev with-body : (Body → Body) → View → View
+abbrev pub with-body : (Body → Body) → View → View
 with-body f v = record { body = f (v .body); lines = v .lines }
 
 -- the lines of a priority, of an object, of a mailbox and of a pool changed
-abbrev with-ready : ℕ → List ℕ → View → View
+abbrev pub with-ready : ℕ → List ℕ → View → View
 with-ready p l v = record { body = v .body; lines = record { ready = put (v .lines .ready) p l; waiting = v .lines .waiting; mail = v .lines .mail; free = v .lines .free } }
 
 abbrev with-waiters : Kind → ℕ → List ℕ → View → View
@@ -1511,14 +1511,29 @@ readings =
     ∷ refuses (bytes (4 ∷ 1 ∷ 4 ∷ 1 ∷ 0 ∷ 0 ∷ 0 ∷ 0 ∷ 9 ∷ [])) S2 32
     ∷ refuses (bytes (4 ∷ 1 ∷ 4 ∷ 1 ∷ 0 ∷ 0 ∷ 0 ∷ 0 ∷ 1 ∷ 0 ∷ [])) S3 36
     ∷ refuses (bytes (4 ∷ 1 ∷ 4 ∷ 1 ∷ 0 ∷ 0 ∷ 0 ∷ 0 ∷ 1 ∷ 33 ∷ [])) S3 36
+    -- One to three bytes after section seven are a word that is not whole.
+    ∷ refuses (benchBytes ++ 0 ∷ []) S1 64
+    ∷ refuses (benchBytes ++ 0 ∷ 0 ∷ 0 ∷ []) S1 64
+    -- counters 0 or 1; m 1 to 65535, then for each of eight alarms a task id of the setup and 0 to start or 1 to wake it
+    ∷ refuses (benchBytes ++ bytes (2 ∷ [])) S2 64
+    ∷ refuses (benchBytes ++ bytes (1 ∷ [])) S1 68
+    ∷ refuses (benchBytes ++ bytes (1 ∷ 0 ∷ replicate 16 1)) S3 68
+    ∷ refuses (benchBytes ++ bytes (1 ∷ 65536 ∷ replicate 16 1)) S3 68
+    ∷ refuses (benchBytes ++ bytes (1 ∷ 1 ∷ 0 ∷ replicate 15 1)) S3 72
+    ∷ refuses (benchBytes ++ bytes (1 ∷ 1 ∷ replicate 14 1 ++ 4 ∷ 1 ∷ [])) S3 128
+    ∷ refuses (benchBytes ++ bytes (1 ∷ 1 ∷ replicate 15 1 ++ 2 ∷ [])) S3 132
+    ∷ refuses (benchBytes ++ bytes (1 ∷ 1 ∷ replicate 15 1)) S1 132
     -- S4 bytes left over. The place is the offset of the first byte left over.
-    ∷ refuses (benchBytes ++ 0 ∷ []) S4 64
-    ∷ refuses (benchBytes ++ benchBytes) S4 64
-    -- one without a fault is accepted: the bench sheet's; the shortest
+    ∷ refuses (benchBytes ++ bytes (0 ∷ []) ++ 0 ∷ []) S4 68
+    ∷ refuses (benchBytes ++ bytes (0 ∷ 1 ∷ [])) S4 68
+    ∷ refuses (benchBytes ++ bytes (1 ∷ 1 ∷ replicate 17 1)) S4 136
+    -- one without a fault is accepted: the bench sheet's; the shortest; one that ends after seven counts as none
     ∷ accepts benchBytes 64
+    ∷ accepts (benchBytes ++ bytes (0 ∷ [])) 68
+    ∷ accepts (benchBytes ++ bytes (1 ∷ 65535 ∷ replicate 14 1 ++ 3 ∷ 0 ∷ [])) 136
     ∷ accepts (bytes (1 ∷ 1 ∷ 1 ∷ 0 ∷ 0 ∷ 0 ∷ 0 ∷ 0 ∷ 0 ∷ [])) 36
-    -- The longest is 111 words, 444 bytes.
-    ∷ accepts (bytes (16 ∷ 32 ∷ replicate 64 1 ++ 16 ∷ replicate 16 65535 ++ 16 ∷ replicate 16 (2 ^ 32 - 1) ++ 16 ∷ 256 ∷ 8 ∷ replicate 8 32)) 444
+    -- The longest is 129 words, 516 bytes.
+    ∷ accepts (bytes (16 ∷ 32 ∷ replicate 64 1 ++ 16 ∷ replicate 16 65535 ++ 16 ∷ replicate 16 (2 ^ 32 - 1) ++ 16 ∷ 256 ∷ 8 ∷ replicate 8 32 ++ 1 ∷ 65535 ∷ replicate 16 1)) 516
     ∷ []
 
 unfoldable pub read : List Reading → List (Read (Unit {0}))
