@@ -14,7 +14,7 @@ use Rattle.memory_rings.specs.Links.{nexts, prevs}
 use Rattle.memory_rings.proofs.Columns.{col-same, col-above, col-below, length-store, length-col, length-splice, col-splice-outside}
 use Rattle.memory_rings.proofs.Halves.{nexts-col, prevs-col}
 use Rattle.memory_rings.proofs.Lists.{and-of}
-use Rattle.memory_columns.specs.Layout.{Column, next, prev, mailNext, mailPrev, system, handling, nonempty, blockNext, blockPrev, taskColumns, objectColumns, columns, stateWords, apart, fits, same, among, clear, back, both, words, entry, put, Only}
+use Rattle.memory_columns.specs.Layout.{Column, next, prev, mailNext, mailPrev, system, handling, nonempty, blockNext, blockPrev, counter, taskColumns, objectColumns, alarmColumns, columns, stateWords, apart, fits, same, among, clear, back, both, words, entry, put, Only}
 use Rattle.memory_columns.proofs.Tiling.{either, either-right, same-is, same-itself, columns-apart}
 
 -- the memory has its size
@@ -128,11 +128,18 @@ among-last : (l m : List Column) (d : Column) → among m d ≡ true → among (
 among-last [] m d e = e
 among-last (c ∷ l) m d e = either-right (same c d) (among (l ++ m) d) (among-last l m d e)
 
+-- those between the columns of objects and of alarms
+abbrev between : List Column
+between = mailNext ∷ mailPrev ∷ system ∷ handling ∷ nonempty ∷ blockNext ∷ blockPrev ∷ counter ∷ []
+
 pub object-column : (d : Column) → among objectColumns d ≡ true → among columns d ≡ true
-object-column d h = among-last (taskColumns ++ (next ∷ prev ∷ [])) (objectColumns ++ (mailNext ∷ mailPrev ∷ system ∷ handling ∷ nonempty ∷ blockNext ∷ blockPrev ∷ [])) d (among-first objectColumns (mailNext ∷ mailPrev ∷ system ∷ handling ∷ nonempty ∷ blockNext ∷ blockPrev ∷ []) d h)
+object-column d h = among-last (taskColumns ++ (next ∷ prev ∷ [])) (objectColumns ++ (between ++ alarmColumns)) d (among-first objectColumns (between ++ alarmColumns) d h)
 
 pub task-column : (d : Column) → among taskColumns d ≡ true → among columns d ≡ true
-task-column = among-first taskColumns (next ∷ prev ∷ (objectColumns ++ (mailNext ∷ mailPrev ∷ system ∷ handling ∷ nonempty ∷ blockNext ∷ blockPrev ∷ [])))
+task-column = among-first taskColumns (next ∷ prev ∷ (objectColumns ++ (between ++ alarmColumns)))
+
+pub alarm-column : (d : Column) → among alarmColumns d ≡ true → among columns d ≡ true
+alarm-column = among-last (taskColumns ++ (next ∷ prev ∷ (objectColumns ++ between))) alarmColumns
 
 -- what is clear of a list is apart from each of it
 pub clear-apart : (l : List Column) (c d : Column) → clear l d ≡ true → among l c ≡ true → apart c d ≡ true

@@ -31,6 +31,10 @@ maxPools = 8
 abbrev pub maxBlocks : ℕ
 maxBlocks = 32
 
+-- of alarms
+abbrev pub maxAlarms : ℕ
+maxAlarms = 8
+
 -- of open handlers
 abbrev pub maxDepth : ℕ
 maxDepth = 15
@@ -127,6 +131,27 @@ blockNext = column 1183 265
 abbrev pub blockPrev : Column
 blockPrev = column 1448 265
 
+-- the counter; by the entries below
+abbrev pub counter : Column
+counter = column 1713 2
+
+-- of alarms, by number: the task, 1 if it wakes it and 0 if it starts it, the kept code without its sign
+abbrev pub alarmTask : Column
+alarmTask = column 1715 9
+
+abbrev pub alarmWakes : Column
+alarmWakes = column 1724 9
+
+abbrev pub alarmCode : Column
+alarmCode = column 1733 9
+
+-- one more than the expiry, 0 of an idle alarm; the period, of no meaning of an idle one
+abbrev pub alarmDue : Column
+alarmDue = column 1742 9
+
+abbrev pub alarmPeriod : Column
+alarmPeriod = column 1751 9
+
 -- ---- the entries of the system's column
 
 abbrev pub priorities : ℕ
@@ -167,6 +192,16 @@ depth = 0
 -- the task that the outermost one interrupted, 0 if nobody ran; of no meaning while none is open
 abbrev pub interrupted : ℕ
 interrupted = 1
+
+-- ---- the entries of the counter's column
+
+-- m, 0 if there is no counter
+abbrev pub counterSize : ℕ
+counterSize = 0
+
+-- the present count, of no meaning if there is no counter
+abbrev pub counterNow : ℕ
+counterNow = 1
 
 -- ---- anchors: the nodes of the queues, behind those of tasks, of messages or of blocks
 
@@ -213,19 +248,22 @@ blockNode p k = beforePool p + k
 
 -- ---- the table
 
--- the columns of tasks, and of objects
+-- the columns of tasks, of objects and of alarms
 abbrev pub taskColumns : List Column
 taskColumns = status ∷ priority ∷ start ∷ wakeups ∷ code ∷ word ∷ kind ∷ object ∷ wish ∷ mode ∷ ticks ∷ []
 
 abbrev pub objectColumns : List Column
 objectColumns = semaphore ∷ flag ∷ free ∷ size ∷ []
 
+abbrev pub alarmColumns : List Column
+alarmColumns = alarmTask ∷ alarmWakes ∷ alarmCode ∷ alarmDue ∷ alarmPeriod ∷ []
+
 -- all of them, in order
 abbrev pub columns : List Column
-columns = taskColumns ++ (next ∷ prev ∷ (objectColumns ++ (mailNext ∷ mailPrev ∷ system ∷ handling ∷ nonempty ∷ blockNext ∷ blockPrev ∷ [])))
+columns = taskColumns ++ (next ∷ prev ∷ (objectColumns ++ (mailNext ∷ mailPrev ∷ system ∷ handling ∷ nonempty ∷ blockNext ∷ blockPrev ∷ counter ∷ alarmColumns)))
 
 abbrev pub stateWords : ℕ
-stateWords = 1713
+stateWords = 1760
 
 -- the two directions of a ring stand side by side, as the crate `rings` wants them: the links back behind the links forth
 abbrev pub back : Column → Column

@@ -15,8 +15,8 @@ pub enum Rings {
     Blocks,
 }
 
-// Entries of a column of tasks, of objects, of pools, of the system, of the handlers and of the word of nonempty queues, and nodes of the
-// rings of tasks, of messages and of blocks. Entry 0 is unused.
+// Entries of a column of tasks, of objects, of pools, of alarms, of the system, of the handlers, of the word of nonempty queues and of the
+// counter, and nodes of the rings of tasks, of messages and of blocks. Entry 0 is unused.
 const TASK_ENTRIES: usize = 33;
 
 const OBJECT_ENTRIES: usize = 17;
@@ -28,6 +28,10 @@ const SYSTEM_ENTRIES: usize = 9;
 const HANDLING_ENTRIES: usize = 2;
 
 const NONEMPTY_ENTRIES: usize = 1;
+
+const COUNTER_ENTRIES: usize = 2;
+
+const ALARM_ENTRIES: usize = 9;
 
 const TASK_NODES: usize = 105;
 
@@ -84,8 +88,20 @@ pub const BLOCK_LINKS: usize = AT_NONEMPTY + NONEMPTY_ENTRIES;
 
 pub const BLOCK_LINKS_END: usize = BLOCK_LINKS + 2 * BLOCK_NODES;
 
+const AT_COUNTER: usize = BLOCK_LINKS_END;
+
+const AT_ALARM_TASK: usize = AT_COUNTER + COUNTER_ENTRIES;
+
+const AT_ALARM_WAKES: usize = AT_ALARM_TASK + ALARM_ENTRIES;
+
+const AT_ALARM_CODE: usize = AT_ALARM_WAKES + ALARM_ENTRIES;
+
+const AT_ALARM_DUE: usize = AT_ALARM_CODE + ALARM_ENTRIES;
+
+const AT_ALARM_PERIOD: usize = AT_ALARM_DUE + ALARM_ENTRIES;
+
 // How many words the kernel's state has, and how many marks of messages beside it.
-pub const STATE_WORDS: usize = BLOCK_LINKS_END;
+pub const STATE_WORDS: usize = AT_ALARM_PERIOD + ALARM_ENTRIES;
 
 pub const MESSAGE_WORDS: usize = 256;
 
@@ -103,6 +119,8 @@ pub const MAX_POOLS: u32 = 8;
 pub const MAX_BLOCKS: u32 = 32;
 
 pub const MAX_DEPTH: u32 = 15;
+
+pub const MAX_ALARMS: u32 = 8;
 
 // The states of a task, as tsk_sts tells them; RUN is not kept.
 pub const DORMANT: u32 = 0;
@@ -183,6 +201,27 @@ pub const CLOCK_HIGH: u32 = 8;
 pub const DEPTH: u32 = 0;
 
 pub const INTERRUPTED: u32 = 1;
+
+// The entries of the counter's column: its size, 0 if there is no counter, and the present count.
+pub const COUNTER_SIZE: u32 = 0;
+
+pub const COUNTER_NOW: u32 = 1;
+
+// What an alarm does to its task.
+pub const STARTS: u32 = 0;
+
+pub const WAKES: u32 = 1;
+
+// The codes that an alarm keeps, without their sign: 0, H_NODMT, E_NOEXS, E_DMT, E_QOVR.
+pub const KEPT_OK: u32 = 0;
+
+pub const KEPT_NODMT: u32 = 3;
+
+pub const KEPT_NOEXS: u32 = 2100;
+
+pub const KEPT_DMT: u32 = 2101;
+
+pub const KEPT_QOVR: u32 = 2889;
 
 // The codes that a cell keeps, by their numbers: 0, E_TMOUT, E_RLWAI.
 pub const CELL_OK: u32 = 0;
@@ -442,6 +481,84 @@ pub fn set_nonempty(words: &mut [u32; STATE_WORDS], v: u32)
     ensures { λ _. ⌜ now (words .exit) ≡ put Layout.nonempty 0 v (now (words .entry)) ⌝ }
 {
     write(words, AT_NONEMPTY, NONEMPTY_ENTRIES, 0, v);
+}
+
+// The counter.
+pub fn counter(words: &[u32; STATE_WORDS], i: u32) -> u32
+    ensures { λ r. ⌜ r ≡ entry Layout.counter (now (words .entry)) i ⌝ }
+{
+    read(words, AT_COUNTER, COUNTER_ENTRIES, i)
+}
+
+pub fn set_counter(words: &mut [u32; STATE_WORDS], i: u32, v: u32)
+    ensures { λ _. ⌜ now (words .exit) ≡ put Layout.counter i v (now (words .entry)) ⌝ }
+{
+    write(words, AT_COUNTER, COUNTER_ENTRIES, i, v);
+}
+
+// The task of alarm i.
+pub fn alarm_task(words: &[u32; STATE_WORDS], i: u32) -> u32
+    ensures { λ r. ⌜ r ≡ entry Layout.alarmTask (now (words .entry)) i ⌝ }
+{
+    read(words, AT_ALARM_TASK, ALARM_ENTRIES, i)
+}
+
+pub fn set_alarm_task(words: &mut [u32; STATE_WORDS], i: u32, v: u32)
+    ensures { λ _. ⌜ now (words .exit) ≡ put Layout.alarmTask i v (now (words .entry)) ⌝ }
+{
+    write(words, AT_ALARM_TASK, ALARM_ENTRIES, i, v);
+}
+
+// What it does to its task.
+pub fn alarm_wakes(words: &[u32; STATE_WORDS], i: u32) -> u32
+    ensures { λ r. ⌜ r ≡ entry Layout.alarmWakes (now (words .entry)) i ⌝ }
+{
+    read(words, AT_ALARM_WAKES, ALARM_ENTRIES, i)
+}
+
+pub fn set_alarm_wakes(words: &mut [u32; STATE_WORDS], i: u32, v: u32)
+    ensures { λ _. ⌜ now (words .exit) ≡ put Layout.alarmWakes i v (now (words .entry)) ⌝ }
+{
+    write(words, AT_ALARM_WAKES, ALARM_ENTRIES, i, v);
+}
+
+// Its kept code, without the sign.
+pub fn alarm_code(words: &[u32; STATE_WORDS], i: u32) -> u32
+    ensures { λ r. ⌜ r ≡ entry Layout.alarmCode (now (words .entry)) i ⌝ }
+{
+    read(words, AT_ALARM_CODE, ALARM_ENTRIES, i)
+}
+
+pub fn set_alarm_code(words: &mut [u32; STATE_WORDS], i: u32, v: u32)
+    ensures { λ _. ⌜ now (words .exit) ≡ put Layout.alarmCode i v (now (words .entry)) ⌝ }
+{
+    write(words, AT_ALARM_CODE, ALARM_ENTRIES, i, v);
+}
+
+// One more than its expiry, 0 if it is idle.
+pub fn alarm_due(words: &[u32; STATE_WORDS], i: u32) -> u32
+    ensures { λ r. ⌜ r ≡ entry Layout.alarmDue (now (words .entry)) i ⌝ }
+{
+    read(words, AT_ALARM_DUE, ALARM_ENTRIES, i)
+}
+
+pub fn set_alarm_due(words: &mut [u32; STATE_WORDS], i: u32, v: u32)
+    ensures { λ _. ⌜ now (words .exit) ≡ put Layout.alarmDue i v (now (words .entry)) ⌝ }
+{
+    write(words, AT_ALARM_DUE, ALARM_ENTRIES, i, v);
+}
+
+// Its period.
+pub fn alarm_period(words: &[u32; STATE_WORDS], i: u32) -> u32
+    ensures { λ r. ⌜ r ≡ entry Layout.alarmPeriod (now (words .entry)) i ⌝ }
+{
+    read(words, AT_ALARM_PERIOD, ALARM_ENTRIES, i)
+}
+
+pub fn set_alarm_period(words: &mut [u32; STATE_WORDS], i: u32, v: u32)
+    ensures { λ _. ⌜ now (words .exit) ≡ put Layout.alarmPeriod i v (now (words .entry)) ⌝ }
+{
+    write(words, AT_ALARM_PERIOD, ALARM_ENTRIES, i, v);
 }
 
 // A count that a damaged memory cannot make long.

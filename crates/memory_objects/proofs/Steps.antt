@@ -15,7 +15,7 @@ use Rattle.memory_columns.specs.Layout.{maxBlocks, entry}
 use Rattle.memory_columns.specs.Bits.{remasked}
 use Rattle.memory_columns.specs.declared.Rings.the-variants.{Blocks}
 use Rattle.memory_queues.specs.Moves.{freeAnchor, nodeOfBlock, linked, unlinked}
-use Rattle.memory_objects.specs.Moves.{listed, marked, isTimed, aged, agedFrom, clocked}
+use Rattle.memory_objects.specs.Moves.{listed, marked, isTimed, aged, agedFrom, clocked, counted}
 
 -- ---- tables by id
 
@@ -102,3 +102,17 @@ module _ (b : List ℕ) {low : ℕ} (e : low ≡ entry Layout.system b Layout.cl
       let z : suc low % 2 ^ 32 ≡ 0 = omega arith in
       let y : (n % 65536 + 1) % 65536 ≡ suc n % 2 ^ 16 = omega arith in
       g′ ∙ rw (← e, ← f, z, y, g)
+
+-- the counter
+module _ (b : List ℕ) {m : ℕ} (e : m ≡ entry Layout.counter b Layout.counterSize) where
+  pub count-none : m ≡ 0 → b ≡ counted b
+  unfolding counted
+  count-none h = rw (← e, h)
+
+  pub count-up : {n : ℕ} {b₁ : List ℕ} → (m ≡ 0 → ⊥) → n ≡ entry Layout.counter b Layout.counterNow → n < m - 1 → b₁ ≡ Layout.put Layout.counter Layout.counterNow (n + 1) b → b₁ ≡ counted b
+  unfolding counted
+  count-up {n} ne f h g = g ∙ rw (← e, ← f, ne-eqb m 0 ne, lt-leb m (suc n) (omega arith), add-one)
+
+  pub count-round : {n : ℕ} {b₁ : List ℕ} → (m ≡ 0 → ⊥) → n ≡ entry Layout.counter b Layout.counterNow → m - 1 ≤ n → b₁ ≡ Layout.put Layout.counter Layout.counterNow 0 b → b₁ ≡ counted b
+  unfolding counted
+  count-round {n} ne f h g = g ∙ rw (← e, ← f, ne-eqb m 0 ne, le-leb m (suc n) (omega arith))

@@ -1,10 +1,11 @@
--- What each act on blocks, time and handlers does to the words, for any words.
+-- What each act on blocks, time, handlers and alarms does to the words, for any words.
 use mathlib.Core.Bool.{Bool, cond, _&&_, _||_}
 use mathlib.Core.List.{List}
 use Prim.Native.Nat.{ℕ, zero, suc, pred, _%_, _^_}
 use lib.Dec.{eqb, leb}
 use Rattle.memory_columns.specs.Layout as Layout
-use Rattle.memory_columns.specs.Layout.{maxTasks, maxBlocks, status, kind, ticks, free, system, handling, entry, put, atMost}
+use Rattle.rules.specs.Acts.{countAfter}
+use Rattle.memory_columns.specs.Layout.{maxTasks, maxBlocks, status, kind, ticks, free, system, handling, counter, alarmCode, alarmDue, alarmPeriod, entry, put, atMost}
 use Rattle.memory_columns.specs.Bits.{masked}
 use Rattle.memory_columns.specs.declared.Rings.the-variants.{Blocks}
 use Rattle.memory_queues.specs.Moves.{freeAnchor, nodeOfBlock, linked, unlinked}
@@ -39,11 +40,21 @@ clocked b =
     let low : ℕ = suc (entry system b Layout.clockLow) % 2 ^ 32 in
     cond (eqb low 0) (put system Layout.clockHigh (suc (entry system b Layout.clockHigh) % 2 ^ 16) (put system Layout.clockLow 0 b)) (put system Layout.clockLow low b)
 
+-- the counter's step; where there is none nothing changes
+unfoldable pub counted : List ℕ → List ℕ
+counted b = cond (eqb (entry counter b Layout.counterSize) 0) b (put counter Layout.counterNow (countAfter (entry counter b Layout.counterSize) (entry counter b Layout.counterNow)) b)
+
 unfoldable pub elapsed : List ℕ → List ℕ
-elapsed b = clocked (agedFrom (atMost (entry system b Layout.tasks) maxTasks) 1 b)
+elapsed b = counted (clocked (agedFrom (atMost (entry system b Layout.tasks) maxTasks) 1 b))
 
 -- ---- handlers
 
 -- so many are open, and the outermost one interrupted task i
 unfoldable pub nested : ℕ → ℕ → List ℕ → List ℕ
 nested d i b = put handling Layout.interrupted i (put handling Layout.depth d b)
+
+-- ---- alarms
+
+-- alarm k keeps code c (without its sign), is due at d - 1 (0: idle) and has period p
+unfoldable pub alarmed : ℕ → ℕ → ℕ → ℕ → List ℕ → List ℕ
+alarmed k c d p b = put alarmPeriod k p (put alarmDue k d (put alarmCode k c b))

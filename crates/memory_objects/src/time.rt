@@ -1,6 +1,8 @@
-// A tick goes by: each timed wait loses one, and the clock rises.
+// A tick goes by: each timed wait loses one, and the clock and the counter rise.
 use memory_columns::CLOCK_HIGH;
 use memory_columns::CLOCK_LOW;
+use memory_columns::COUNTER_NOW;
+use memory_columns::COUNTER_SIZE;
 use memory_columns::MAX_TASKS;
 use memory_columns::STATE_WORDS;
 use memory_columns::TASKS;
@@ -8,7 +10,9 @@ use memory_columns::TIMED;
 use memory_columns::WAIT;
 use memory_columns::WAIT_SUSPEND;
 use memory_columns::at_most;
+use memory_columns::counter;
 use memory_columns::kind;
+use memory_columns::set_counter;
 use memory_columns::set_system;
 use memory_columns::set_ticks;
 use memory_columns::status;
@@ -17,7 +21,7 @@ use memory_columns::ticks;
 ghost use mathlib.Core.Path.{_≡_};
 ghost use Prim.Native.Nat.{pred, _≤_};
 ghost use Rattle.memory_columns.specs.Layout.{maxTasks};
-ghost use Rattle.memory_objects.specs.Moves.{isTimed, aged, agedFrom, clocked, elapsed};
+ghost use Rattle.memory_objects.specs.Moves.{isTimed, aged, agedFrom, clocked, counted, elapsed};
 
 fn is_timed(status: u32, kind: u32) -> bool
     ensures { λ r. ⌜ r ≡ isTimed status kind ⌝ }
@@ -75,6 +79,22 @@ fn step_clock(words: &mut [u32; STATE_WORDS])
     set_system(words, CLOCK_HIGH, (high + 1) % 65536);
 }
 
+// The counter rises by one, and after m - 1 comes 0. Where there is no counter nothing is written.
+fn step_counter(words: &mut [u32; STATE_WORDS])
+    ensures { λ _. ⌜ now (words .exit) ≡ counted (now (words .entry)) ⌝ }
+{
+    let size = counter(words, COUNTER_SIZE);
+    if size == 0 {
+        return;
+    }
+    let n = counter(words, COUNTER_NOW);
+    if n < size - 1 {
+        set_counter(words, COUNTER_NOW, n + 1);
+        return;
+    }
+    set_counter(words, COUNTER_NOW, 0);
+}
+
 // A tick goes by.
 pub fn elapse(words: &mut [u32; STATE_WORDS])
     ensures { λ _. ⌜ now (words .exit) ≡ elapsed (now (words .entry)) ⌝ }
@@ -82,4 +102,5 @@ pub fn elapse(words: &mut [u32; STATE_WORDS])
     let n = at_most(system(words, TASKS), MAX_TASKS);
     age_all(words, n);
     step_clock(words);
+    step_counter(words);
 }

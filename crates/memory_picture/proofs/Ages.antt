@@ -1,4 +1,4 @@
--- A tick: each timed wait loses one, task by task, and the clock rises by one.
+-- A tick: each timed wait loses one, task by task, and the clock and the counter rise by one.
 use mathlib.Core.Bool.{Bool, true, false, cond, _&&_, _||_}
 use mathlib.Core.List.{List, [], _∷_, _++_, map, map-map}
 use mathlib.Core.Logic.{_⊎_, inl, inr}
@@ -6,26 +6,26 @@ use mathlib.Core.Path.{_≡_, refl, sym, ap, _∙_, subst}
 use Prim.Native.Nat.{ℕ, zero, suc, pred, _+_, _*_, _%_, _^_, _≤_, _<_}
 use native.Mathlib.Decide.{ℕ-discrete, decLe}
 use native.Mathlib.Omega.{arith}
-use lib.Dec.{eqb, lit≤}
+use lib.Dec.{eqb, lit≤, lit<}
 use lib.ListN.{length, getD, set, length-set}
 use lib.Seq.{getD-set-same, getD-set-other}
-use borrow.Author.Tests.{eqb-true, eqb-false, le-leb}
+use borrow.Author.Tests.{eqb-true, eqb-false, ne-eqb, le-leb}
 use Rattle.rules.specs.Ids.{ids, In}
-use Rattle.rules.specs.State.{semaphore, flag, mailbox, pool, Wait, asleep, timed, on, State, dormant, ready, suspended, absent, waiting, waiting-suspended, Task}
-use Rattle.rules.specs.Acts.{elapse, after, move, with-state, with-clock, older, clockAfter}
+use Rattle.rules.specs.State.{semaphore, flag, mailbox, pool, Wait, asleep, timed, on, State, dormant, ready, suspended, absent, waiting, waiting-suspended, Task, alarmCount}
+use Rattle.rules.specs.Acts.{elapse, after, move, with-state, with-clock, older, clockAfter, countAfter, stepped}
 use Rattle.rules.proofs.Ids.{map-ids, length-ids}
 use Rattle.memory_rings.proofs.Columns.{col-store, length-store}
 use Rattle.memory_columns.specs.declared.Rings.{Rings}
 use Rattle.memory_columns.specs.declared.Rings.the-variants.{Tasks, Messages, Blocks}
 use Rattle.memory_columns.specs.Layout as Layout
 use Rattle.memory_columns.specs.Layout.{stateWords, maxTasks, nextOf, prevOf, words, entry, Only}
-use Rattle.memory_columns.proofs.Frame.{words-length, put-only, only-none, only-both, only-on}
-use Rattle.memory_objects.specs.Moves.{isTimed, aged, agedFrom, clocked, elapsed}
-use Rattle.memory_picture.specs.Picture.{noWait, waitShown, stateShown, taskShown, storeShown, bodyShown, viewShown, Accepted}
+use Rattle.memory_columns.proofs.Frame.{words-length, put-only, entry-put, entry-other, only-none, only-both, only-on}
+use Rattle.memory_objects.specs.Moves.{isTimed, aged, agedFrom, clocked, counted, elapsed}
+use Rattle.memory_picture.specs.Picture.{noWait, waitShown, stateShown, taskShown, countShown, counterShown, storeShown, bodyShown, viewShown, Accepted}
 use Rattle.memory_queues.proofs.Relinks.{put-at}
 use Rattle.memory_picture.proofs.Lines.{rest, follows-stay}
 use Rattle.memory_picture.proofs.Done.{LowClock, Done}
-use Rattle.memory_picture.proofs.Touched.{kept-shown, store-kept, handlers-kept, touchable, Touched, untouched, touched-put}
+use Rattle.memory_picture.proofs.Touched.{kept-shown, store-kept, handlers-kept, alarms-kept, counter-kept, touchable, Touched, untouched, touched-put}
 use Rattle.memory_picture.proofs.OneTask.{sizes}
 
 -- ---- one task
@@ -213,6 +213,70 @@ clocked-law c = go (eqb (suc (entry Layout.system c Layout.clockLow) % 2 ^ 32) 0
     }
     go false e = record { size = simp length-store; only = put-only Layout.system Layout.clockLow _ c; system = rw e (simp col-store) }
 
+-- ---- the counter
+
+counted-only : (c : List ℕ) → Only (Layout.counter ∷ []) c (counted c)
+unfolding counted
+counted-only c = go (eqb (entry Layout.counter c Layout.counterSize) 0)
+  where
+    go : (t : Bool) → Only (Layout.counter ∷ []) c (cond t c (Layout.put Layout.counter Layout.counterNow (countAfter (entry Layout.counter c Layout.counterSize) (entry Layout.counter c Layout.counterNow)) c))
+    go true = only-none (Layout.counter ∷ []) c
+    go false = put-only Layout.counter Layout.counterNow _ c
+
+counted-size : (c : List ℕ) → length (counted c) ≡ length c
+unfolding counted
+counted-size c = go (eqb (entry Layout.counter c Layout.counterSize) 0)
+  where
+    go : (t : Bool) → length (cond t c (Layout.put Layout.counter Layout.counterNow (countAfter (entry Layout.counter c Layout.counterSize) (entry Layout.counter c Layout.counterNow)) c)) ≡ length c
+    go true = refl
+    go false = simp length-store
+
+-- its size stays, and the count that is shown makes a step
+module _ (c : List ℕ) (h : length c ≡ stateWords) where
+  abbrev m : ℕ
+  m = entry Layout.counter c Layout.counterSize
+
+  abbrev n : ℕ
+  n = entry Layout.counter c Layout.counterNow
+
+  counted-words : (entry Layout.counter (counted c) Layout.counterSize ≡ m) × (countShown m (entry Layout.counter (counted c) Layout.counterNow) ≡ countAfter m (countShown m n))
+  unfolding counted
+  counted-words = go m refl
+    where
+      go : (k : ℕ) → m ≡ k → (entry Layout.counter (cond (eqb k 0) c (Layout.put Layout.counter Layout.counterNow (countAfter k n) c)) Layout.counterSize ≡ m)
+          × (countShown k (entry Layout.counter (cond (eqb k 0) c (Layout.put Layout.counter Layout.counterNow (countAfter k n) c)) Layout.counterNow) ≡ countAfter k (countShown k n))
+      go zero e = (refl, refl)
+      go (suc k) e = rw (ne-eqb (suc k) 0 (λ q. omega arith)) (
+        entry-other Layout.counter Layout.counterNow (countAfter (suc k) n) c Layout.counter refl refl Layout.counterSize (λ q. omega arith),
+        entry-put Layout.counter Layout.counterNow (countAfter (suc k) n) c h refl (lit< tt),
+      )
+
+  counted-shown : counterShown (counted c) ≡ stepped (counterShown c)
+  unfolding counterShown
+  counted-shown =
+      let w = counted-words in λ z. record {
+        size = w .0 z;
+        now = (ap (λ (x : ℕ). countShown x (entry Layout.counter (counted c) Layout.counterNow)) (w .0) ∙ w .1) z;
+        alarms = map (λ k. alarms-kept (counted-only c) refl k z) (ids (alarmCount (w .0 z)));
+      }
+
+-- the clock and the counter have risen
+record Risen (c d : List ℕ) : Type 0 where
+  size : length d ≡ length c
+  only : Only (Layout.system ∷ Layout.counter ∷ []) c d
+  system : words Layout.system d ≡ ticked (words Layout.system c) (eqb (suc (entry Layout.system c Layout.clockLow) % 2 ^ 32) 0)
+  counter : counterShown d ≡ stepped (counterShown c)
+
+risen-law : (c : List ℕ) → length c ≡ stateWords → Risen c (counted (clocked c))
+risen-law c h =
+    let K = clocked-law c in
+    let F = counted-only (clocked c) in record {
+      size = counted-size (clocked c) ∙ K .size;
+      only = only-both (K .only) F;
+      system = F .kept Layout.system refl ∙ K .system;
+      counter = counted-shown (clocked c) (K .size ∙ h) ∙ ap stepped (counter-kept (K .only) refl refl);
+    }
+
 -- ---- the tick
 
 module _ (b msgs : List ℕ) (A : Accepted b msgs) (F : LowClock b) where
@@ -224,8 +288,8 @@ module _ (b msgs : List ℕ) (A : Accepted b msgs) (F : LowClock b) where
   unfolding bodyShown viewShown storeShown
   clock-range = A .sound .body .store .clock
 
-  module _ (c d : List ℕ) (R : Aged (entry Layout.system b Layout.tasks) 1 b c) (K : Clocked c d) where
-    only : Only (touchable ++ (Layout.system ∷ [])) b d
+  module _ (c d : List ℕ) (R : Aged (entry Layout.system b Layout.tasks) 1 b c) (K : Risen c d) where
+    only : Only (touchable ++ (Layout.system ∷ Layout.counter ∷ [])) b d
     only = only-both (R .only) (K .only)
 
     w : words Layout.system c ≡ words Layout.system b
@@ -256,7 +320,7 @@ module _ (b msgs : List ℕ) (A : Accepted b msgs) (F : LowClock b) where
 
     body : bodyShown d msgs ≡ after elapse (bodyShown b msgs)
     unfolding bodyShown storeShown after
-    body = λ z. record { tasks = tasks z; store = stores z; handlers = handlers-kept only refl z }
+    body = λ z. record { tasks = tasks z; store = stores z; handlers = handlers-kept only refl z; counter = (K .counter ∙ ap stepped (counter-kept (R .only) refl refl)) z }
       where
         stores : storeShown d msgs ≡ after elapse (bodyShown b msgs) .store
         stores = store-kept b d msgs msgs only refl counts ∙ ap (λ (t : ℕ). with-clock t (storeShown b msgs)) clock
@@ -289,4 +353,6 @@ module _ (b msgs : List ℕ) (A : Accepted b msgs) (F : LowClock b) where
 
   pub elapse-done : Done elapse b msgs (elapsed b) msgs
   unfolding elapsed
-  elapse-done = rw (le-leb (entry Layout.system b Layout.tasks) maxTasks few-tasks) (ticked-done _ _ (aged-from (entry Layout.system b Layout.tasks) 1 b (A .whole .size) (omega (arith, few-tasks))) (clocked-law _))
+  elapse-done =
+      let R = aged-from (entry Layout.system b Layout.tasks) 1 b (A .whole .size) (omega (arith, few-tasks)) in
+      rw (le-leb (entry Layout.system b Layout.tasks) maxTasks few-tasks) (ticked-done _ _ R (risen-law _ (R .size)))

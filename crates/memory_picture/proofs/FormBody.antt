@@ -1,24 +1,24 @@
 -- The form of a sound body shows that body, whatever the lines: each entry is read off its column, and decoded. Assumes nothing.
 use mathlib.Core.List.{List, [], map, reverse}
 use mathlib.Core.Option.{none}
-use mathlib.Core.Path.{_≡_, refl, ap, _∙_}
-use Prim.Native.Nat.{ℕ, zero, suc, _+_, _*_, _%_, _^_, _<_}
+use mathlib.Core.Path.{_≡_, refl, sym, ap, _∙_}
+use Prim.Native.Nat.{ℕ, zero, suc, _+_, _*_, _%_, _^_, _≤_, _<_}
 use native.Mathlib.Omega.{arith}
-use lib.Dec.{lit<}
+use lib.Dec.{lit<, lit≤}
 use lib.ListN.{length, getD}
-use Rattle.rules.specs.Ids.{of, ids, In}
-use Rattle.rules.specs.State.{depth, Body, task, nobody}
+use Rattle.rules.specs.Ids.{of, ids, In, once}
+use Rattle.rules.specs.State.{depth, alarmOf, alarmCount, noAlarm, Body, task, nobody}
 use Rattle.rules.specs.Places.{Place, readyAt}
 use Rattle.rules.specs.Sound.{SoundBody}
 use Rattle.memory_columns.specs.declared.Rings.{Rings}
 use Rattle.memory_columns.specs.declared.Rings.the-variants.{Tasks, Messages, Blocks}
 use Rattle.memory_columns.specs.Layout as Layout
-use Rattle.memory_columns.specs.Layout.{columns, maxMessages, maxBlocks, nextOf, prevOf, words, entry}
-use Rattle.memory_picture.specs.Picture.{taskShown, messageShown, poolShown, storeShown, openShown, handlersShown, maskOf, occupied, bodyShown, idsShown}
-use Rattle.memory_picture.specs.Perform.{codeKept, interruptedKept}
-use Rattle.memory_picture.specs.Form.{statusNumber, wordsOf, boxNumber, idsKept, nodeLines, ringLink, run, entries, pile, systemWords, handlingWords, parts}
+use Rattle.memory_columns.specs.Layout.{columns, maxMessages, maxBlocks, maxAlarms, nextOf, prevOf, words, entry}
+use Rattle.memory_picture.specs.Picture.{taskShown, messageShown, poolShown, storeShown, openShown, handlersShown, alarmShown, countShown, counterShown, maskOf, occupied, bodyShown, idsShown}
+use Rattle.memory_picture.specs.Perform.{codeKept, interruptedKept, keptNumber, dueKept, periodKept}
+use Rattle.memory_picture.specs.Form.{statusNumber, wordsOf, boxNumber, idsKept, nodeLines, ringLink, run, entries, pile, systemWords, handlingWords, counterWords, parts}
 use Rattle.memory_picture.proofs.FormPile.{run-at, pile-words, pile-at, table-is}
-use Rattle.memory_picture.proofs.FormWords.{back-state, back-code, back-pool, back-message, back-clock, back-handlers}
+use Rattle.memory_picture.proofs.FormWords.{back-state, back-code, back-pool, back-message, back-clock, back-handlers, back-kept, back-setting, back-wakes, back-count}
 
 -- the marks of messages
 abbrev pub marks : Body → List ℕ
@@ -92,6 +92,25 @@ module _ (b : Body) (L : Place → List ℕ) where
   at-handling : (k : ℕ) → k < Layout.handling .width → entry Layout.handling form k ≡ getD (handlingWords b) k 0
   at-handling k r = pile-at (entries (parts b L)) Layout.handling refl k r
 
+  at-counter : (k : ℕ) → k < Layout.counter .width → entry Layout.counter form k ≡ getD (counterWords b) k 0
+  at-counter k r = pile-at (entries (parts b L)) Layout.counter refl k r
+
+  module _ (k : ℕ) (r : k < Layout.alarmTask .width) where
+    at-alarm-task : entry Layout.alarmTask form k ≡ alarmOf (b .counter) k .task
+    at-alarm-task = pile-at (entries (parts b L)) Layout.alarmTask refl k r
+
+    at-alarm-wakes : entry Layout.alarmWakes form k ≡ once (alarmOf (b .counter) k .wakes)
+    at-alarm-wakes = pile-at (entries (parts b L)) Layout.alarmWakes refl k r
+
+    at-alarm-code : entry Layout.alarmCode form k ≡ keptNumber (alarmOf (b .counter) k .kept)
+    at-alarm-code = pile-at (entries (parts b L)) Layout.alarmCode refl k r
+
+    at-alarm-due : entry Layout.alarmDue form k ≡ dueKept (alarmOf (b .counter) k .setting)
+    at-alarm-due = pile-at (entries (parts b L)) Layout.alarmDue refl k r
+
+    at-alarm-period : entry Layout.alarmPeriod form k ≡ periodKept (alarmOf (b .counter) k .setting)
+    at-alarm-period = pile-at (entries (parts b L)) Layout.alarmPeriod refl k r
+
   pub at-nonempty : entry Layout.nonempty form 0 ≡ maskOf (map (λ p. occupied (L (readyAt p))) (ids (b .store .priorities)))
   at-nonempty = pile-at (entries (parts b L)) Layout.nonempty refl 0 (lit< tt)
 
@@ -160,10 +179,42 @@ module _ (b : Body) (L : Place → List ℕ) where
     unfolding handlersShown
     handlers-shown = (λ z. openShown (at-handling Layout.depth (lit< tt) z) (at-handling Layout.interrupted (lit< tt) z)) ∙ back-handlers (b .handlers)
 
+    few-alarms : (m : ℕ) → alarmCount m ≤ maxAlarms
+    few-alarms zero = lit≤ tt
+    few-alarms (suc m) = lit≤ tt
+
+    alarm-shown : (k : ℕ) → In k (length (b .counter .alarms)) → alarmShown form k ≡ alarmOf (b .counter) k
+    unfolding alarmShown
+    alarm-shown k h =
+        let r : k < Layout.alarmTask .width = omega (arith, h .1, S .counter .count, few-alarms (b .counter .size)) in
+        rw (
+          at-alarm-task k r,
+          at-alarm-wakes k r,
+          at-alarm-code k r,
+          at-alarm-due k r,
+          at-alarm-period k r,
+          back-wakes (alarmOf (b .counter) k .wakes) .0,
+          back-wakes (alarmOf (b .counter) k .wakes) .1,
+          back-kept (alarmOf (b .counter) k .wakes) (alarmOf (b .counter) k .kept) (S .counter .alarms k h .kept),
+          back-setting (alarmOf (b .counter) k .setting),
+        )
+
+    counter-shown : counterShown form ≡ b .counter
+    unfolding counterShown
+    counter-shown = λ z. record {
+      size = size z;
+      now = ((λ y. countShown (size y) (at-counter Layout.counterNow (lit< tt) y)) ∙ back-count (b .counter .size) (b .counter .now) (S .counter .now)) z;
+      alarms = table-is (b .counter .alarms) (alarmCount (entry Layout.counter form Layout.counterSize)) (alarmShown form) noAlarm (ap alarmCount size ∙ sym (S .counter .count)) alarm-shown z;
+    }
+      where
+        size : entry Layout.counter form Layout.counterSize ≡ b .counter .size
+        size = at-counter Layout.counterSize (lit< tt)
+
     pub body-shown : bodyShown form (marks b) ≡ b
     unfolding bodyShown
     body-shown = λ z. record {
       tasks = table-is (b .tasks) (entry Layout.system form Layout.tasks) (taskShown form) nobody (at-system Layout.tasks (lit< tt)) task-shown z;
       store = store-shown z;
       handlers = handlers-shown z;
+      counter = counter-shown z;
     }

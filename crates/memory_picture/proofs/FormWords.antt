@@ -1,22 +1,23 @@
 -- There and back: the words of a sound task, a pool, a message and the clock show them again, and each is a 32-bit word. Assumes nothing.
-use mathlib.Core.Bool.{Bool, true, false}
+use mathlib.Core.Bool.{Bool, true, false, cond}
 use mathlib.Core.List.{List, [], _∷_}
-use mathlib.Core.Logic.{inl, inr}
+use mathlib.Core.Logic.{_⊎_, inl, inr}
 use mathlib.Core.Option.{Option, none, some}
-use mathlib.Core.Path.{_≡_, refl, ap}
-use Prim.Native.Nat.{ℕ, _+_, _*_, _/_, _%_, _^_, _≤_, _<_}
+use mathlib.Core.Path.{_≡_, refl, sym, ap}
+use Prim.Native.Nat.{ℕ, zero, suc, _+_, _*_, _/_, _%_, _^_, _≤_, _<_}
 use native.Mathlib.Nat.{pow-suc, div-eq-of-lt, lt-of-lt-of-le}
 use native.Mathlib.Omega.{arith}
-use lib.Dec.{eqb, lit<}
+use lib.Dec.{eqb, leb, lit<}
 use lib.ListN.{length}
 use lib.Pow.{pow-mono}
-use borrow.Author.Tests.{eq-eqb, ne-eqb}
+use borrow.Author.Tests.{eqb-true, eq-eqb, ne-eqb}
 use Rattle.rules.specs.Ids.{In, once}
-use Rattle.rules.specs.State.{Kind, semaphore, flag, mailbox, pool, Wait, asleep, timed, on, State, dormant, ready, suspended, absent, waiting, waiting-suspended, Cell, Task, Store, Handlers, no-handler, in-handler, depth, Body, nobody, objects, waitOf, isAbsent}
-use Rattle.rules.specs.Sound.{Sizes, LiesWell, CellNumbers, WishNumbers, WaitNumbers, SoundTask}
-use Rattle.memory_columns.specs.Layout.{maxObjects, maxBlocks}
-use Rattle.memory_picture.specs.Picture.{codeOf, waitShown, stateShown, messageShown, bitsOf, poolShown, openShown, maskOf, kindNumber}
-use Rattle.memory_picture.specs.Perform.{codeKept, interruptedKept}
+use Rattle.rules.specs.Codes.{Code, OK, H-NUMBER, E-NOEXS, E-DMT, H-NODMT, E-QOVR}
+use Rattle.rules.specs.State.{Kind, semaphore, flag, mailbox, pool, Wait, asleep, timed, on, State, dormant, ready, suspended, absent, waiting, waiting-suspended, Cell, Task, Store, Handlers, no-handler, in-handler, depth, Setting, unset, due, Alarm, noAlarm, Body, nobody, objects, waitOf, isAbsent}
+use Rattle.rules.specs.Sound.{Sizes, LiesWell, CellNumbers, WishNumbers, WaitNumbers, SoundTask, KeptFits, SettingFits, AlarmFits}
+use Rattle.memory_columns.specs.Layout.{maxTasks, maxObjects, maxBlocks}
+use Rattle.memory_picture.specs.Picture.{codeOf, waitShown, stateShown, messageShown, bitsOf, poolShown, openShown, keptOf, settingShown, countShown, maskOf, kindNumber}
+use Rattle.memory_picture.specs.Perform.{codeKept, interruptedKept, keptNumber, dueKept, periodKept}
 use Rattle.memory_picture.specs.Form.{statusNumber, WaitWords, noWords, waitWords, wordsOf, boxNumber}
 
 -- ---- back
@@ -81,6 +82,53 @@ back-clock n = omega arith
 pub back-handlers : (h : Handlers) → openShown (depth h) (interruptedKept h) ≡ h
 back-handlers no-handler = refl
 back-handlers (in-handler n i) = refl
+
+-- a statement holds of the codes that an alarm keeps, if of these five
+pub kept-cases : (t : Bool) (c : Code) (P : Code → Type 0) → KeptFits t c → P OK → P E-NOEXS → P H-NODMT → P E-DMT → P E-QOVR → P c
+kept-cases false c P (inl e) x0 x1 x2 x3 x4 = rw e x0
+kept-cases false c P (inr (inl e)) x0 x1 x2 x3 x4 = rw e x1
+kept-cases false c P (inr (inr e)) x0 x1 x2 x3 x4 = rw e x2
+kept-cases true c P (inl e) x0 x1 x2 x3 x4 = rw e x0
+kept-cases true c P (inr (inl e)) x0 x1 x2 x3 x4 = rw e x1
+kept-cases true c P (inr (inr (inl e))) x0 x1 x2 x3 x4 = rw e x3
+kept-cases true c P (inr (inr (inr e))) x0 x1 x2 x3 x4 = rw e x4
+
+pub back-kept : (t : Bool) (c : Code) → KeptFits t c → keptOf (keptNumber c) ≡ c
+unfolding keptOf keptNumber
+back-kept t c h = kept-cases t c (λ x. keptOf (keptNumber x) ≡ x) h refl refl refl refl refl
+
+-- the other way round: a number that shows such a code is its number
+not-kept : (t : Bool) → KeptFits t H-NUMBER → ⊥
+unfolding keptNumber
+not-kept t h = kept-cases t H-NUMBER (λ x. keptNumber x ≡ 20 → ⊥) h (λ e. omega (arith, e)) (λ e. omega (arith, e)) (λ e. omega (arith, e)) (λ e. omega (arith, e)) (λ e. omega (arith, e)) refl
+
+pub kept-number : (t : Bool) (x : ℕ) → KeptFits t (keptOf x) → keptNumber (keptOf x) ≡ x
+unfolding keptOf keptNumber
+kept-number t x = go (eqb x 0) (eqb x 3) (eqb x 2100) (eqb x 2101) (eqb x 2889) refl refl refl refl refl
+  where
+    K : Bool → Bool → Bool → Bool → Bool → Code
+    K a b c d e = cond a OK (cond b H-NODMT (cond c E-NOEXS (cond d E-DMT (cond e E-QOVR H-NUMBER))))
+
+    go : (a b c d e : Bool) → eqb x 0 ≡ a → eqb x 3 ≡ b → eqb x 2100 ≡ c → eqb x 2101 ≡ d → eqb x 2889 ≡ e → KeptFits t (K a b c d e) → keptNumber (K a b c d e) ≡ x
+    go true b c d e p q r s u f = sym (eqb-true x 0 p)
+    go false true c d e p q r s u f = sym (eqb-true x 3 q)
+    go false false true d e p q r s u f = sym (eqb-true x 2100 r)
+    go false false false true e p q r s u f = sym (eqb-true x 2101 s)
+    go false false false false true p q r s u f = sym (eqb-true x 2889 u)
+    go false false false false false p q r s u f = absurd (not-kept t f)
+
+pub back-setting : (s : Setting) → settingShown (dueKept s) (periodKept s) ≡ s
+back-setting unset = refl
+back-setting (due e p) = refl
+
+pub back-wakes : (t : Bool) → (leb (once t) 1 ≡ true) × (eqb (once t) 1 ≡ t)
+back-wakes true = (refl, refl)
+back-wakes false = (refl, refl)
+
+pub back-count : (m n : ℕ) → (n ≡ 0) ⊎ (n < m) → countShown m n ≡ n
+back-count zero n (inl e) = sym e
+back-count zero n (inr h) = absurd (omega arith)
+back-count (suc m) n h = refl
 
 -- ---- small
 
@@ -185,3 +233,36 @@ module _ (b : Body) (z : Sizes b) where
 
 pub nobody-small : Small nobody
 nobody-small = record { status = lit< tt; priority = lit< tt; start = lit< tt; wakeups = lit< tt; code = lit< tt; word = lit< tt; wait = none-small }
+
+-- the words of an alarm
+pub record SmallAlarm (x : Alarm) : Type 0 where
+  pub task : x .task < 2 ^ 32
+  pub wakes : once (x .wakes) < 2 ^ 32
+  pub code : keptNumber (x .kept) < 2 ^ 32
+  pub due : dueKept (x .setting) < 2 ^ 32
+  pub period : periodKept (x .setting) < 2 ^ 32
+
+kept-small : (t : Bool) (c : Code) → KeptFits t c → keptNumber c < 2 ^ 32
+unfolding keptNumber
+kept-small t c h = kept-cases t c (λ x. keptNumber x < 2 ^ 32) h (lit< tt) (lit< tt) (lit< tt) (lit< tt) (lit< tt)
+
+once-small : (t : Bool) → once t < 2 ^ 32
+once-small true = lit< tt
+once-small false = lit< tt
+
+setting-small : (m : ℕ) (s : Setting) → m ≤ 65535 → SettingFits m s → (dueKept s < 2 ^ 32) × (periodKept s < 2 ^ 32)
+setting-small m unset r h = (lit< tt, lit< tt)
+setting-small m (due e p) r h = (omega (arith, h .0), omega (arith, h .1))
+
+pub alarm-small : (n m : ℕ) (x : Alarm) → n ≤ maxTasks → m ≤ 65535 → AlarmFits n m x → SmallAlarm x
+alarm-small n m x a r h = record {
+  task = omega (arith, h .task .1);
+  wakes = once-small (x .wakes);
+  code = kept-small (x .wakes) (x .kept) (h .kept);
+  due = setting-small m (x .setting) r (h .setting) .0;
+  period = setting-small m (x .setting) r (h .setting) .1;
+}
+
+pub no-alarm-small : SmallAlarm noAlarm
+unfolding keptNumber
+no-alarm-small = record { task = lit< tt; wakes = lit< tt; code = lit< tt; due = lit< tt; period = lit< tt }

@@ -10,7 +10,7 @@ use native.Mathlib.Omega.{arith}
 use lib.Dec.{lit<, lit≤}
 use lib.ListN.{length, getD}
 use Rattle.rules.specs.Ids.{of, ids, In}
-use Rattle.rules.specs.State.{Task, Store, Handlers, no-handler, in-handler, depth, task, nobody, objects, isFreed}
+use Rattle.rules.specs.State.{Task, Store, Handlers, no-handler, in-handler, depth, alarmOf, noAlarm, task, nobody, objects, isFreed}
 use Rattle.rules.specs.Places.{Place, readyAt, sortAt, at, each, Lines, lineAt, Exists, tabulate}
 use Rattle.rules.specs.View.{View}
 use Rattle.rules.specs.Sound.{Shape, HandlersFit, Sound}
@@ -24,9 +24,9 @@ use Rattle.memory_columns.proofs.Tiling.{columns-tile}
 use Rattle.memory_rings.specs.Rings.{lineOf, Linked}
 use Rattle.memory_picture.specs.Picture.{storeShown, anchor, ringsAt, idsShown, numbersOf, lineShown, viewShown, maskOf, occupied, nonemptyShown, Used, Whole, Accepted}
 use Rattle.memory_picture.specs.Perform.{interruptedKept}
-use Rattle.memory_picture.specs.Form.{Fits32, boxNumber, systemWords, handlingWords, nodeLines, ringLink, entries, parts, formOf, marksOf}
+use Rattle.memory_picture.specs.Form.{Fits32, boxNumber, systemWords, handlingWords, counterWords, nodeLines, ringLink, entries, parts, formOf, marksOf}
 use Rattle.memory_picture.proofs.FormPile.{length-run, run-all, length-pile, pile-all, entries-all, table-is}
-use Rattle.memory_picture.proofs.FormWords.{mask-small, message-small, Small, task-small, nobody-small}
+use Rattle.memory_picture.proofs.FormWords.{mask-small, message-small, Small, task-small, nobody-small, SmallAlarm, alarm-small, no-alarm-small}
 use Rattle.memory_picture.proofs.FormBody.{marks, form, ids-count, priorities-count, low-clock, at-nonempty, next-words, prev-words, store-shown, body-shown}
 use Rattle.memory_picture.proofs.FormHomes.{numbers-nodes, rings-linked, ring-line, nodes-small, back-small, ring-link-small}
 
@@ -138,6 +138,15 @@ module _ (v : View) (S : Sound v) where
       go no-handler f = lit< tt also lit< tt also tt
       go (in-handler n i) f = omega (arith, f .0) also task-number i (f .1) also tt
 
+  counter-small : Fits32 (counterWords (v .body))
+  counter-small = let c = S .body .counter in omega (arith, c .size) also elim (c .now) [ inl e ↦ omega (arith, e) | inr h ↦ omega (arith, h, c .size) ] also tt
+
+  small-alarm : (k : ℕ) → SmallAlarm (alarmOf (v .body .counter) k)
+  small-alarm k = elim (inside (v .body .counter .alarms) k noAlarm) [
+    | inl r ↦ alarm-small (length (v .body .tasks)) (v .body .counter .size) _ (S .body .sizes .tasks .1) (S .body .counter .size) (S .body .counter .alarms k r)
+    | inr e ↦ rw e no-alarm-small
+  ]
+
   link-small : (r : Rings) (x : ℕ) → x < nextOf r .width → ringLink (v .body) r (nodeLines lines) x < 2 ^ 32
   link-small r = ring-link-small v S r (nodeLines lines) (nodes-small v S)
 
@@ -158,7 +167,9 @@ module _ (v : View) (S : Sound v) where
       also link-small Messages also back-link-small Messages
       also (λ k r. word-small (systemWords (v .body)) system-small k) also (λ k r. word-small (handlingWords (v .body)) handling-small k)
       also (λ k r. mask-small (map (λ p. occupied (lines (readyAt p))) (ids (v .body .store .priorities))) (omega (arith, length-ids (λ p. occupied (lines (readyAt p))) (v .body .store .priorities), S .body .sizes .priorities .1)))
-      also link-small Blocks also back-link-small Blocks also tt))
+      also link-small Blocks also back-link-small Blocks
+      also (λ k r. word-small (counterWords (v .body)) counter-small k)
+      also (λ k r. small-alarm k .task) also (λ k r. small-alarm k .wakes) also (λ k r. small-alarm k .code) also (λ k r. small-alarm k .due) also (λ k r. small-alarm k .period) also tt))
 
   pub marks-fit : Fits32 (marksOf v)
   unfolding marksOf

@@ -15,7 +15,7 @@ use Rattle.memory_picture.specs.Picture.{openShown, handlersShown, store
 use Rattle.memory_picture.specs.Perform.{interruptedKept}
 use Rattle.memory_picture.proofs.Lines.{rest, follows-stay}
 use Rattle.memory_picture.proofs.Done.{Done}
-use Rattle.memory_picture.proofs.Touched.{tasks-kept, store-stays, rings-clear}
+use Rattle.memory_picture.proofs.Touched.{tasks-kept, store-stays, counter-kept, rings-clear}
 use Rattle.memory_picture.proofs.FormWords.{back-handlers}
 
 module _ (b msgs : List ℕ) (A : Accepted b msgs) (d i : ℕ) where
@@ -51,6 +51,7 @@ module _ (b msgs : List ℕ) (A : Accepted b msgs) (h : Handlers) where
     tasks = tasks-kept only refl refl z;
     store = store-stays b words-after msgs msgs only refl refl z;
     handlers = (nested-shown b msgs A (depth h) (interruptedKept h) ∙ back-handlers h) z;
+    counter = counter-kept only refl refl z;
   }
 
   pub nest-done : Done (nest h) b msgs words-after msgs

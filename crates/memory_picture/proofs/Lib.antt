@@ -12,6 +12,7 @@ pub mod TaskActs
 pub mod StoreActs
 pub mod Ages
 pub mod HandlerActs
+pub mod AlarmActs
 pub mod Perform
 pub mod FormPile
 pub mod FormBody

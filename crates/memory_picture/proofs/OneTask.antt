@@ -24,7 +24,7 @@ use Rattle.memory_picture.specs.Picture.{tasksShown, waitShown, taskShow
 use Rattle.memory_queues.proofs.Relinks.{queued-law, unqueued-law}
 use Rattle.memory_picture.proofs.Lines.{Step, rest, out, to, nextAfter, prevAfter, Fine, Small, samePlace, ready-stands, wait-stands, onlyIn, Follows, rest-follows, task-leaves, task-lost, task-goes}
 use Rattle.memory_picture.proofs.Done.{Done}
-use Rattle.memory_picture.proofs.Touched.{map-put, kept-shown, store-stays, handlers-kept, Touched, touched-left, touched-last}
+use Rattle.memory_picture.proofs.Touched.{map-put, kept-shown, store-stays, handlers-kept, counter-kept, Touched, touched-left, touched-last}
 
 -- the wait in the entries of a task
 abbrev pub waitAt : List ℕ → ℕ → Wait
@@ -129,7 +129,7 @@ module _ (b msgs : List ℕ) (A : Accepted b msgs) where
           stores = unfold storeShown in store-stays b c msgs msgs (T .only) refl refl
 
           body : bodyShown c msgs ≡ change F t (bodyShown b msgs)
-          body = unfold bodyShown in λ z. record { tasks = tasks z; store = stores z; handlers = handlers-kept (T .only) refl z }
+          body = unfold bodyShown in λ z. record { tasks = tasks z; store = stores z; handlers = handlers-kept (T .only) refl z; counter = counter-kept (T .only) refl refl z }
 
       id : IsId (tasksShown b) t
       id = inside

@@ -1,7 +1,7 @@
 -- Each act of the rules, done on a memory, keeps the links whole and takes the view that the memory shows to the view after the act.
 use mathlib.Core.List.{List}
 use Prim.Native.Nat.{ℕ}
-use Rattle.rules.specs.Acts.{Act, start, retire, create, delete, rotate, regrade, wait, release, suspend, resume, wakeups, count, pattern, post, receive, mark, elapse, nest}
+use Rattle.rules.specs.Acts.{Act, start, retire, create, delete, rotate, regrade, wait, release, suspend, resume, wakeups, count, pattern, post, receive, mark, elapse, nest, alarm}
 use Rattle.rules.specs.View.{act}
 use Rattle.memory_picture.specs.Picture.{bodyShown, viewShown, Accepted, Shows}
 use Rattle.memory_picture.specs.Perform.{performed, performedMarks, Fit}
@@ -10,6 +10,7 @@ use Rattle.memory_picture.proofs.TaskActs.{start-done, retire-done, cre
 use Rattle.memory_picture.proofs.StoreActs.{count-done, pattern-done, post-done, receive-done, mark-done}
 use Rattle.memory_picture.proofs.Ages.{elapse-done}
 use Rattle.memory_picture.proofs.HandlerActs.{nest-done}
+use Rattle.memory_picture.proofs.AlarmActs.{alarm-done}
 
 act-done : (a : Act) (b msgs : List ℕ) → Accepted b msgs → Fit (bodyShown b msgs) a → Done a b msgs (performed a b) (performedMarks a msgs)
 unfolding performed performedMarks bodyShown
@@ -31,6 +32,7 @@ act-done (receive j) b msgs A f = receive-done b msgs A j f
 act-done (mark p k t) b msgs A f = mark-done b msgs A p (f .0) k t (f .1)
 act-done elapse b msgs A f = elapse-done b msgs A (A .whole .low)
 act-done (nest h) b msgs A f = nest-done b msgs A h
+act-done (alarm k c s) b msgs A f = alarm-done b msgs A k (f .0) c (f .1) s
 
 pub perform-law : (a : Act) (b msgs : List ℕ) → Accepted b msgs → Fit (bodyShown b msgs) a → Shows (performed a b) (performedMarks a msgs) (act a (viewShown b msgs))
 perform-law a b msgs A f = shows-done a b msgs (performed a b) (performedMarks a msgs) A (act-done a b msgs A f)

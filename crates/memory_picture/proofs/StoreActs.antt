@@ -33,7 +33,7 @@ use Rattle.memory_picture.specs.Picture.{messagesShown, poolsShown, mess
 use Rattle.memory_queues.proofs.Relinks.{Relinked, linked-law, unlinked-law}
 use Rattle.memory_picture.proofs.Lines.{Step, rest, out, to, nextAfter, prevAfter, Fine, differ, onlyIn, Follows, rest-follows, message-leaves, message-goes, block-leaves, block-goes}
 use Rattle.memory_picture.proofs.Done.{Done, used-at}
-use Rattle.memory_picture.proofs.Touched.{map-put, tasks-kept, store-put, store-stays, handlers-kept}
+use Rattle.memory_picture.proofs.Touched.{map-put, tasks-kept, store-put, store-stays, handlers-kept, counter-kept}
 use Rattle.memory_picture.proofs.PoolBits.{pool-masked}
 use Rattle.memory_picture.proofs.OneTask.{sizes, few, small}
 use Rattle.memory_picture.proofs.Counts.{times-out}
@@ -85,7 +85,7 @@ module _ (b msgs : List ℕ) (A : Accepted b msgs) where
   }
     where
       body : bodyShown c marks ≡ with-store w (bodyShown b msgs)
-      body = unfold bodyShown in λ z. record { tasks = tasks-kept F refl refl z; store = g z; handlers = handlers-kept F refl z }
+      body = unfold bodyShown in λ z. record { tasks = tasks-kept F refl refl z; store = g z; handlers = handlers-kept F refl z; counter = counter-kept F refl refl z }
 
   -- a word in one of the columns of objects
   put-done : (a : Act) (x : Column) (i v : ℕ) (w : Store) → among objectColumns x ≡ true → storeShown (Layout.put x i v b) msgs ≡ w → after a (bodyShown b msgs) ≡ with-store w (bodyShown b msgs)

@@ -113,7 +113,7 @@ module _ (b msgs : List ℕ) (A : Accepted b msgs) (t : ℕ) (h : In t (length (
 
   pub rotate-done : isReady (task (bodyShown b msgs) t .state) ≡ true → Done (rotate t) b msgs (rotated t b) msgs
   unfolding after move
-  rotate-done r = ready-done b msgs A t h (rotate t) (λ x. x) (λ z. record { tasks = put-same (bodyShown b msgs .tasks) t nobody z; store = bodyShown b msgs .store; handlers = bodyShown b msgs .handlers }) b (untouched size) refl refl
+  rotate-done r = ready-done b msgs A t h (rotate t) (λ x. x) (λ z. record { tasks = put-same (bodyShown b msgs .tasks) t nobody z; store = bodyShown b msgs .store; handlers = bodyShown b msgs .handlers; counter = bodyShown b msgs .counter }) b (untouched size) refl refl
       (is-ready-now) (sound-before b msgs A t h .priority (ap isAbsent is-ready-now))
     where
       is-ready-now : taskShown b t .state ≡ ready

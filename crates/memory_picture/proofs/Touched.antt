@@ -6,23 +6,23 @@ use mathlib.Core.Path.{_≡_, refl, sym, ap, _∙_, subst, fun-ext}
 use Prim.Native.Nat.{ℕ, suc, _+_, _*_, _^_, _<_}
 use native.Mathlib.Decide.{ℕ-discrete}
 use native.Mathlib.Omega.{arith}
-use lib.Dec.{lit≤}
+use lib.Dec.{eqb, leb, lit≤}
 use lib.ListN.{getD}
 use lib.Seq.{ext-getD}
 use borrow.Author.Tests.{ne-eqb}
 use Rattle.rules.specs.Ids.{of, put, ids, In}
-use Rattle.rules.specs.State.{Task, Store}
+use Rattle.rules.specs.State.{Task, Store, alarmCount}
 use Rattle.rules.specs.Places.{Place}
 use Rattle.rules.specs.Acts.{with-messages, with-clock}
 use Rattle.rules.proofs.Ids.{length-put, of-put-other, of-put-same, of-ids, length-ids}
 use Rattle.memory_columns.specs.declared.Rings.{Rings}
 use Rattle.memory_columns.specs.declared.Rings.the-variants.{Tasks, Messages, Blocks}
 use Rattle.memory_columns.specs.Layout as Layout
-use Rattle.memory_columns.specs.Layout.{Column, nextOf, prevOf, linksOf, taskColumns, objectColumns, same, among, clear, words, entry, Only}
+use Rattle.memory_columns.specs.Layout.{Column, nextOf, prevOf, linksOf, taskColumns, objectColumns, alarmColumns, same, among, clear, words, entry, Only}
 use Rattle.memory_columns.proofs.Tiling.{either-right}
 use Rattle.memory_columns.proofs.Frame.{Sized, put-size, put-apart, words-put, entry-other, only-none, only-on, only-first, task-column, object-column, clear-apart, put-among, allClear, all-clear}
 use Rattle.memory_queues.specs.Moves.{queued, unqueued}
-use Rattle.memory_picture.specs.Picture.{codeOf, waitShown, stateShown, taskShown, messageShown, poolShown, messagesShown, clockShown, storeShown, openShown, handlersShown, anchor}
+use Rattle.memory_picture.specs.Picture.{codeOf, waitShown, stateShown, taskShown, messageShown, poolShown, messagesShown, clockShown, storeShown, openShown, handlersShown, keptOf, settingShown, alarmShown, countShown, counterShown, anchor}
 use Rattle.memory_queues.proofs.Relinks.{queued-law, unqueued-law}
 use Rattle.memory_picture.proofs.Lines.{Step, rest, out, to, nextAfter, prevAfter, wordAfter}
 
@@ -131,6 +131,31 @@ rings-clear l h Blocks = (all-clear l ringColumns h Layout.blockNext refl, all-c
 pub handlers-kept : {l : List Column} {b c : List ℕ} → Only l b c → clear l Layout.handling ≡ true → handlersShown c ≡ handlersShown b
 unfolding handlersShown
 handlers-kept F h = ap (λ (m : List ℕ). openShown (getD m Layout.depth 0) (getD m Layout.interrupted 0)) (F .kept Layout.handling h)
+
+-- ---- the counter
+
+-- an alarm is shown by its entries
+pub alarm-by : (b c : List ℕ) (k : ℕ) → ((d : Column) → among alarmColumns d ≡ true → entry d c k ≡ entry d b k) → alarmShown c k ≡ alarmShown b k
+unfolding alarmShown
+alarm-by b c k e = λ z. record {
+  task = cond (leb (e Layout.alarmWakes refl z) 1) (e Layout.alarmTask refl z) 0;
+  wakes = eqb (e Layout.alarmWakes refl z) 1;
+  kept = keptOf (e Layout.alarmCode refl z);
+  setting = settingShown (e Layout.alarmDue refl z) (e Layout.alarmPeriod refl z);
+}
+
+-- where nothing of alarms is written
+pub alarms-kept : {l : List Column} {b c : List ℕ} → Only l b c → allClear l alarmColumns ≡ true → (k : ℕ) → alarmShown c k ≡ alarmShown b k
+alarms-kept {l} {b} {c} F h k = alarm-by b c k (λ d r. ap (λ (m : List ℕ). getD m k 0) (F .kept d (all-clear l alarmColumns h d r)))
+
+-- nor of the counter
+pub counter-kept : {l : List Column} {b c : List ℕ} → Only l b c → clear l Layout.counter ≡ true → allClear l alarmColumns ≡ true → counterShown c ≡ counterShown b
+unfolding counterShown
+counter-kept F n h = λ z. record {
+  size = getD (F .kept Layout.counter n z) Layout.counterSize 0;
+  now = countShown (getD (F .kept Layout.counter n z) Layout.counterSize 0) (getD (F .kept Layout.counter n z) Layout.counterNow 0);
+  alarms = map (λ k. alarms-kept F h k z) (ids (alarmCount (getD (F .kept Layout.counter n z) Layout.counterSize 0)));
+}
 
 -- ---- one task is touched
 

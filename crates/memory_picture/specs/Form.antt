@@ -6,8 +6,8 @@ use mathlib.Core.Option.{Option, none, some}
 use Prim.Native.Nat.{ℕ, zero, suc, _+_, _-_, _*_, _/_, _%_, _^_, _<_}
 use lib.Dec.{eqb, leb}
 use lib.ListN.{length, getD}
-use Rattle.rules.specs.Ids.{of, from, ids}
-use Rattle.rules.specs.State.{semaphore, flag, mailbox, pool, Wait, asleep, timed, on, State, dormant, ready, suspended, absent, waiting, waiting-suspended, depth, Body, task}
+use Rattle.rules.specs.Ids.{of, from, ids, once}
+use Rattle.rules.specs.State.{semaphore, flag, mailbox, pool, Wait, asleep, timed, on, State, dormant, ready, suspended, absent, waiting, waiting-suspended, depth, alarmOf, Body, task}
 use Rattle.rules.specs.Places.{Place, readyAt, waiters, mail, freeIn, Sort, tasks, messages, blocks, sortAt, lineAt}
 use Rattle.rules.specs.View.{View}
 use Rattle.memory_rings.specs.Rings.{All, headOf}
@@ -16,7 +16,7 @@ use Rattle.memory_columns.specs.declared.Rings.the-variants.{Tasks, Messages, B
 use Rattle.memory_columns.specs.Layout as Layout
 use Rattle.memory_columns.specs.Layout.{Column, maxPriorities, maxObjects, maxMessages, maxBlocks, readyNode, waitNode, mailNode, freeNode, blockNode, nextOf, prevOf, same}
 use Rattle.memory_picture.specs.Picture.{maskOf, occupied, kindNumber, anchor}
-use Rattle.memory_picture.specs.Perform.{codeKept, interruptedKept}
+use Rattle.memory_picture.specs.Perform.{codeKept, interruptedKept, keptNumber, dueKept, periodKept}
 
 -- every entry is a 32-bit word
 abbrev pub Fits32 : List ℕ → Type 0
@@ -175,6 +175,9 @@ systemWords b =
 abbrev pub handlingWords : Body → List ℕ
 handlingWords b = depth (b .handlers) ∷ interruptedKept (b .handlers) ∷ []
 
+abbrev pub counterWords : Body → List ℕ
+counterWords b = b .counter .size ∷ b .counter .now ∷ []
+
 -- the link of a node among the rings, from the lines of nodes; back is the same of the lines turned round
 unfoldable pub ringLink : Body → Rings → (Place → List ℕ) → ℕ → ℕ
 ringLink b r M = link (idsKept b r) (homeOf b r) (placeOf r) M
@@ -211,6 +214,12 @@ parts b L =
     ∷ part Layout.nonempty (λ k. maskOf (map (λ p. occupied (L (readyAt p))) (ids (b .store .priorities))))
     ∷ nextPart b Blocks L
     ∷ prevPart b Blocks L
+    ∷ part Layout.counter (λ k. getD (counterWords b) k 0)
+    ∷ part Layout.alarmTask (λ k. alarmOf (b .counter) k .task)
+    ∷ part Layout.alarmWakes (λ k. once (alarmOf (b .counter) k .wakes))
+    ∷ part Layout.alarmCode (λ k. keptNumber (alarmOf (b .counter) k .kept))
+    ∷ part Layout.alarmDue (λ k. dueKept (alarmOf (b .counter) k .setting))
+    ∷ part Layout.alarmPeriod (λ k. periodKept (alarmOf (b .counter) k .setting))
     ∷ []
 
 -- the memory of a view, and the marks of its messages

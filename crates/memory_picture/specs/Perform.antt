@@ -3,20 +3,21 @@ use mathlib.Core.Bool.{true, false}
 use mathlib.Core.List.{List, []}
 use mathlib.Core.Option.{none, some}
 use mathlib.Core.Path.{_≡_}
-use Prim.Native.Nat.{ℕ}
+use Prim.Native.Nat.{ℕ, suc}
+use lib.IntN.{natAbs}
 use lib.ListN.{length}
 use Rattle.rules.specs.Ids.{of, put, In}
-use Rattle.rules.specs.Codes.{Code, OK, WAITS, H-NUMBER, H-QUEUE, H-SERVED, H-TWICE, H-FREE, H-CALL, H-PAR, E-NOEXS, E-TPRI, E-ILTIME, E-CTX, E-SELF, E-DMT, H-NODMT, H-SUS, E-NOSUS, E-NOWAI, E-QOVR, H-POLL, H-MSG, H-NEST, H-EXIST, H-ILBLK, E-TMOUT, E-RLWAI}
-use Rattle.rules.specs.State.{Wait, asleep, timed, on, Handlers, no-handler, in-handler, depth, Body, task, isAbsent, isReady}
-use Rattle.rules.specs.Acts.{Act, start, retire, create, delete, rotate, regrade, wait, release, suspend, resume, wakeups, count, pattern, post, receive, mark, elapse, nest}
+use Rattle.rules.specs.Codes.{Code, OK, WAITS, H-NUMBER, H-QUEUE, H-SERVED, H-TWICE, H-FREE, H-CALL, H-PAR, E-NOEXS, E-TPRI, E-ILTIME, E-CTX, E-SELF, E-DMT, H-NODMT, H-SUS, E-NOSUS, E-NOWAI, E-QOVR, H-POLL, H-MSG, H-NEST, H-EXIST, H-ILBLK, H-USED, H-IDLE, E-TMOUT, E-RLWAI, number}
+use Rattle.rules.specs.State.{Wait, asleep, timed, on, Handlers, no-handler, in-handler, depth, Setting, unset, due, Body, task, isAbsent, isReady}
+use Rattle.rules.specs.Acts.{Act, start, retire, create, delete, rotate, regrade, wait, release, suspend, resume, wakeups, count, pattern, post, receive, mark, elapse, nest, alarm}
 use Rattle.rules.specs.Objects.{laid}
 use Rattle.rules.specs.Sound.{WaitNumbers}
 use Rattle.memory_columns.specs.Layout as Layout
 use Rattle.memory_columns.specs.declared.Rings.the-variants.{Messages}
 use Rattle.memory_queues.specs.Moves.{mailAnchor, linked, unlinked}
 use Rattle.memory_tasks.specs.Moves.{rotated, started, retired, created, deleted, regraded, halted, resumed, released, slept, waited}
-use Rattle.memory_objects.specs.Moves.{marked, elapsed, nested}
-use Rattle.memory_picture.specs.Picture.{codeOf, kindNumber}
+use Rattle.memory_objects.specs.Moves.{marked, elapsed, nested, alarmed}
+use Rattle.memory_picture.specs.Picture.{codeOf, keptOf, kindNumber}
 
 -- the number by which a cell keeps a code; no cell keeps any other
 abbrev pub codeKept : Code → ℕ
@@ -47,6 +48,8 @@ codeKept H-MSG = 3
 codeKept H-NEST = 3
 codeKept H-EXIST = 3
 codeKept H-ILBLK = 3
+codeKept H-USED = 3
+codeKept H-IDLE = 3
 
 -- task i put into a wait
 unfoldable pub put-to-wait : ℕ → Wait → List ℕ → List ℕ
@@ -58,6 +61,20 @@ put-to-wait i (on k o p m) b = waited i (kindNumber k) o p m b
 abbrev pub interruptedKept : Handlers → ℕ
 interruptedKept no-handler = 0
 interruptedKept (in-handler n i) = i
+
+-- the number by which an alarm keeps a code: without its sign
+unfoldable pub keptNumber : Code → ℕ
+unfolding number
+keptNumber c = natAbs (number c)
+
+-- the setting of an alarm as the memory keeps it: one more than the expiry, and the period; 0 and 0 of an idle one
+abbrev pub dueKept : Setting → ℕ
+dueKept unset = 0
+dueKept (due e p) = suc e
+
+abbrev pub periodKept : Setting → ℕ
+periodKept unset = 0
+periodKept (due e p) = p
 
 -- the words after an act
 unfoldable pub performed : Act → List ℕ → List ℕ
@@ -79,6 +96,7 @@ performed (receive j) b = unlinked Messages j b
 performed (mark p k t) b = marked p k t b
 performed elapse b = elapsed b
 performed (nest h) b = nested (depth h) (interruptedKept h) b
+performed (alarm k c s) b = alarmed k (keptNumber c) (dueKept s) (periodKept s) b
 
 -- the marks of the messages after an act
 unfoldable pub performedMarks : Act → List ℕ → List ℕ
@@ -100,6 +118,7 @@ performedMarks (receive j) m = put m j 0
 performedMarks (mark p k t) m = m
 performedMarks elapse m = m
 performedMarks (nest h) m = m
+performedMarks (alarm k c s) m = m
 
 -- what an act names is there
 abbrev pub Fit : Body → Act → Type 0
@@ -124,3 +143,5 @@ Fit b (receive j) = In j (length (b .store .messages))
 Fit b (mark p k t) = In p (length (b .store .pools)) × In k (length (of (b .store .pools) p []))
 Fit b elapse = Unit {0}
 Fit b (nest h) = Unit {0}
+-- only a code that an alarm can keep
+Fit b (alarm k c s) = In k (length (b .counter .alarms)) × (keptOf (keptNumber c) ≡ c)

@@ -5,11 +5,11 @@ use mathlib.Core.List.{List, [], _∷_, map}
 use mathlib.Core.Option.{Option, none, some}
 use mathlib.Core.Path.{_≡_}
 use Prim.Native.Nat.{ℕ, zero, suc, _+_, _-_, _*_, _/_, _%_, _^_, _<_}
-use lib.Dec.{eqb}
+use lib.Dec.{eqb, leb}
 use lib.ListN.{length}
 use Rattle.rules.specs.Ids.{of, ids, once}
-use Rattle.rules.specs.Codes.{Code, OK, H-NUMBER, E-TMOUT, E-RLWAI}
-use Rattle.rules.specs.State.{Kind, semaphore, flag, mailbox, pool, Wait, asleep, timed, on, State, dormant, ready, suspended, absent, waiting, waiting-suspended, Task, Store, Handlers, no-handler, in-handler, Body}
+use Rattle.rules.specs.Codes.{Code, OK, H-NUMBER, E-NOEXS, E-DMT, H-NODMT, E-QOVR, E-TMOUT, E-RLWAI}
+use Rattle.rules.specs.State.{Kind, semaphore, flag, mailbox, pool, Wait, asleep, timed, on, State, dormant, ready, suspended, absent, waiting, waiting-suspended, Task, Store, Handlers, no-handler, in-handler, Setting, unset, due, Alarm, Counter, alarmCount, Body}
 use Rattle.rules.specs.Places.{Place, readyAt, waiters, mail, freeIn, Sort, tasks, messages, blocks, sortAt, Exists, tabulate}
 use Rattle.rules.specs.View.{View}
 use Rattle.rules.specs.Sound.{Sound}
@@ -94,8 +94,40 @@ openShown (suc n) i = in-handler n i
 unfoldable pub handlersShown : List ℕ → Handlers
 handlersShown b = openShown (entry Layout.handling b Layout.depth) (entry Layout.handling b Layout.interrupted)
 
+-- ---- the counter and its alarms
+
+-- a kept code by its number without the sign
+unfoldable pub keptOf : ℕ → Code
+keptOf c = cond (eqb c 0) OK (cond (eqb c 3) H-NODMT (cond (eqb c 2100) E-NOEXS (cond (eqb c 2101) E-DMT (cond (eqb c 2889) E-QOVR H-NUMBER))))
+
+-- one more than the expiry, 0 of an idle alarm; and the period, which is no part of the picture while it is idle
+abbrev pub settingShown : ℕ → ℕ → Setting
+settingShown zero p = unset
+settingShown (suc e) p = due e p
+
+-- where it is neither told to start nor to wake, task 0 is shown, which no sound state has
+unfoldable pub alarmShown : List ℕ → ℕ → Alarm
+alarmShown b k = record {
+  task = cond (leb (entry Layout.alarmWakes b k) 1) (entry Layout.alarmTask b k) 0;
+  wakes = eqb (entry Layout.alarmWakes b k) 1;
+  kept = keptOf (entry Layout.alarmCode b k);
+  setting = settingShown (entry Layout.alarmDue b k) (entry Layout.alarmPeriod b k);
+}
+
+-- the size and the count, which is no part of the picture if there is no counter
+abbrev pub countShown : ℕ → ℕ → ℕ
+countShown zero n = 0
+countShown (suc m) n = n
+
+unfoldable pub counterShown : List ℕ → Counter
+counterShown b = record {
+  size = entry Layout.counter b Layout.counterSize;
+  now = countShown (entry Layout.counter b Layout.counterSize) (entry Layout.counter b Layout.counterNow);
+  alarms = map (alarmShown b) (ids (alarmCount (entry Layout.counter b Layout.counterSize)));
+}
+
 unfoldable pub bodyShown : List ℕ → List ℕ → Body
-bodyShown b msgs = record { tasks = map (taskShown b) (ids (tasksShown b)); store = storeShown b msgs; handlers = handlersShown b }
+bodyShown b msgs = record { tasks = map (taskShown b) (ids (tasksShown b)); store = storeShown b msgs; handlers = handlersShown b; counter = counterShown b }
 
 -- ---- queues
 
