@@ -352,7 +352,7 @@ ranged-is v r = go (ranged? v)
 module _ (b msgs : List ℕ) (size : length b ≡ stateWords) (low : entry Layout.system b Layout.clockLow < 2 ^ 32) where
   ranges-by : SoundBody (bodyShown b msgs) → Ranges b msgs
   unfolding bodyShown
-  ranges-by S = record { sizes = S .sizes; low = low; store = S .store; tasks = sound-shown b msgs S; handlers = S .handlers }
+  ranges-by S = record { sizes = S .sizes; low = low; store = S .store; tasks = sound-shown b msgs S; handlers = S .handlers; counter = S .counter }
 
   ranged-law : Decides (numbersOk b msgs) (Ranged (viewShown b msgs))
   unfolding numbersOk viewShown bodyShown

@@ -11,16 +11,16 @@ use lib.Dec.{eqb, leb}
 use lib.ListN.{length}
 use borrow.Author.Tests.{eqb-true, eqb-false, ne-eqb}
 use Rattle.rules.specs.Ids.{of, ids, In}
-use Rattle.rules.specs.Codes.{Code, OK, H-NUMBER, E-TMOUT, E-RLWAI}
-use Rattle.rules.specs.State.{Kind, semaphore, flag, mailbox, pool, Wait, on, State, dormant, absent, waiting, waiting-suspended, Task, Store, nobody, objects, waitOf, isDormant, isAbsent, isFreed, sleeps}
-use Rattle.rules.specs.Sound.{Sizes, LiesWell, StoreNumbers, CellNumbers, WishNumbers, WaitNumbers, SoundTask, HandlersFit}
+use Rattle.rules.specs.Codes.{Code, OK, H-NUMBER, E-NOEXS, E-DMT, H-NODMT, E-QOVR, E-TMOUT, E-RLWAI}
+use Rattle.rules.specs.State.{Kind, semaphore, flag, mailbox, pool, Wait, on, State, dormant, absent, waiting, waiting-suspended, Task, Store, noAlarm, alarmCount, nobody, objects, waitOf, isDormant, isAbsent, isFreed, sleeps}
+use Rattle.rules.specs.Sound.{Sizes, LiesWell, StoreNumbers, CellNumbers, WishNumbers, WaitNumbers, SoundTask, HandlersFit, KeptFits, SettingFits, AlarmFits, CounterFits}
 use Rattle.rules.proofs.Ids.{tested, of-ids, length-ids}
 use Rattle.memory_columns.specs.Layout as Layout
-use Rattle.memory_columns.specs.Layout.{maxPriorities, maxTasks, maxObjects, maxMessages, maxPools, maxBlocks, maxDepth, entry}
-use Rattle.memory_picture.specs.Perform.{codeKept}
-use Rattle.memory_picture.specs.Picture.{codeOf, noWait, waitShown, stateShown, taskShown, messageShown, bitsOf, poolShown, tasksShown, storeShown, openShown, handlersShown, bodyShown}
+use Rattle.memory_columns.specs.Layout.{maxPriorities, maxTasks, maxObjects, maxMessages, maxPools, maxBlocks, maxDepth, maxAlarms, entry}
+use Rattle.memory_picture.specs.Perform.{codeKept, keptNumber}
+use Rattle.memory_picture.specs.Picture.{codeOf, noWait, waitShown, stateShown, taskShown, messageShown, bitsOf, poolShown, tasksShown, storeShown, openShown, handlersShown, keptOf, settingShown, alarmShown, countShown, counterShown, bodyShown}
 use Rattle.memory_picture.proofs.Cases.{status-cases}
-use Rattle.check_ranges.specs.Ranges.{every, within, many, sizesOk, cellOk, wishOk, ticksOk, flagWaitOk, waitOk, waitAt, stateOk, presentOk, vacantOk, taskOk, semaphoreOk, flagOk, poolOk, messageOk, freedAt, interruptedOk, openOk, handlingOk, rangesOk}
+use Rattle.check_ranges.specs.Ranges.{every, within, many, sizesOk, cellOk, wishOk, ticksOk, flagWaitOk, waitOk, waitAt, stateOk, presentOk, vacantOk, taskOk, semaphoreOk, flagOk, poolOk, messageOk, freedAt, interruptedOk, openOk, handlingOk, keptOk, settingOk, alarmOk, countOk, counterOk, rangesOk}
 use Rattle.check_ranges.proofs.Decisions.{Decides, decides-as, decides-no, decides-yes, decides-and, decides-or, decides-cond, decides-eq, decides-ne, decides-le, decides-lt, decides-in, decides-every}
 
 -- ---- a cell
@@ -276,6 +276,76 @@ module _ (b : List ℕ) where
   unfolding handlersShown
   handlers-law = open-law _ _
 
+-- ---- the counter
+
+-- codes with other numbers are others
+start-keeps : (c : Code) → c ≢ OK → c ≢ E-NOEXS → c ≢ H-NODMT → KeptFits false c → ⊥
+start-keeps c x y z (inl e) = x e
+start-keeps c x y z (inr (inl e)) = y e
+start-keeps c x y z (inr (inr e)) = z e
+
+wake-keeps : (c : Code) → c ≢ OK → c ≢ E-NOEXS → c ≢ E-DMT → c ≢ E-QOVR → KeptFits true c → ⊥
+wake-keeps c x y z w (inl e) = x e
+wake-keeps c x y z w (inr (inl e)) = y e
+wake-keeps c x y z w (inr (inr (inl e))) = z e
+wake-keeps c x y z w (inr (inr (inr e))) = w e
+
+kept-law : (w : Bool) (c : ℕ) → Decides (keptOk w c) (KeptFits w (keptOf c))
+unfolding keptOk keptOf keptNumber
+kept-law true c =
+    decides-cond P (eqb c 0) (decides-yes (inl refl))
+    (decides-cond P (eqb c 3) (decides-no (wake-keeps H-NODMT (λ e. omega (arith, ap keptNumber e)) (λ e. omega (arith, ap keptNumber e)) (λ e. omega (arith, ap keptNumber e)) (λ e. omega (arith, ap keptNumber e))))
+    (decides-cond P (eqb c 2100) (decides-yes (inr (inl refl)))
+    (decides-cond P (eqb c 2101) (decides-yes (inr (inr (inl refl))))
+    (decides-cond P (eqb c 2889) (decides-yes (inr (inr (inr refl))))
+    (decides-no (wake-keeps H-NUMBER (λ e. omega (arith, ap keptNumber e)) (λ e. omega (arith, ap keptNumber e)) (λ e. omega (arith, ap keptNumber e)) (λ e. omega (arith, ap keptNumber e))))))))
+  where
+    P : Code → Type 0
+    P = KeptFits true
+kept-law false c =
+    decides-cond P (eqb c 0) (decides-yes (inl refl))
+    (decides-cond P (eqb c 3) (decides-yes (inr (inr refl)))
+    (decides-cond P (eqb c 2100) (decides-yes (inr (inl refl)))
+    (decides-cond P (eqb c 2101) (decides-no (start-keeps E-DMT (λ e. omega (arith, ap keptNumber e)) (λ e. omega (arith, ap keptNumber e)) (λ e. omega (arith, ap keptNumber e))))
+    (decides-cond P (eqb c 2889) (decides-no (start-keeps E-QOVR (λ e. omega (arith, ap keptNumber e)) (λ e. omega (arith, ap keptNumber e)) (λ e. omega (arith, ap keptNumber e))))
+    (decides-no (start-keeps H-NUMBER (λ e. omega (arith, ap keptNumber e)) (λ e. omega (arith, ap keptNumber e)) (λ e. omega (arith, ap keptNumber e))))))))
+  where
+    P : Code → Type 0
+    P = KeptFits false
+
+setting-law : (m d p : ℕ) → Decides (settingOk m d p) (SettingFits m (settingShown d p))
+unfolding settingOk
+setting-law m zero p = decides-yes tt
+setting-law m (suc e) p = rw (ne-eqb (suc e) 0 (λ q. omega arith)) (decides-as (decides-and (decides-le (suc e) m) (λ _. decides-le p m)) (λ h. (omega (arith, h .0), h .1)) (λ h. (omega (arith, h .0), h .1)))
+
+-- task 0 is shown where it neither starts nor wakes
+named-law : (w t n : ℕ) → Decides (leb w 1 && within t n) (In (cond (leb w 1) t 0) n)
+named-law w t n = go (leb w 1)
+  where
+    go : (x : Bool) → Decides (x && within t n) (In (cond x t 0) n)
+    go true = decides-in t n
+    go false = decides-no (λ h. omega (arith, h .0))
+
+module _ (b : List ℕ) (m : ℕ) where
+  alarm-law : (k : ℕ) → Decides (alarmOk b m k) (AlarmFits (tasksShown b) m (alarmShown b k))
+  unfolding alarmOk alarmShown
+  alarm-law k = decides-as
+      (decides-and (named-law (entry Layout.alarmWakes b k) (entry Layout.alarmTask b k) (tasksShown b))
+      (λ _. decides-and (kept-law (eqb (entry Layout.alarmWakes b k) 1) (entry Layout.alarmCode b k)) (λ _. setting-law m (entry Layout.alarmDue b k) (entry Layout.alarmPeriod b k))))
+      (λ h. record { task = h .0; kept = h .1 .0; setting = h .1 .1 }) (λ r. (r .task, (r .kept, r .setting)))
+
+count-law : (b : List ℕ) (n m c : ℕ) → n ≡ tasksShown b → Decides (countOk b m c) (CounterFits n (record { size = m; now = countShown m c; alarms = map (alarmShown b) (ids (alarmCount m)) }))
+unfolding countOk ids
+count-law b n zero c e = decides-yes (record { size = omega arith; now = inl refl; count = refl; alarms = λ k h. absurd (omega (arith, h .0, h .1)) })
+count-law b n (suc m) c e = rw (ne-eqb (suc m) 0 (λ q. omega arith), e) (decides-as
+    (decides-and (decides-le (suc m) 65535) (λ _. decides-and (decides-lt c (suc m)) (λ _. table-law (AlarmFits (tasksShown b) (suc m)) maxAlarms (alarmOk b (suc m)) (alarmShown b) noAlarm (alarm-law b (suc m)))))
+    (λ h. record { size = h .0; now = inr (h .1 .0); count = length-ids (alarmShown b) maxAlarms; alarms = h .1 .1 })
+    (λ r. (r .size, (elim (r .now) [ inl q ↦ omega arith | inr q ↦ q ], r .alarms))))
+
+counter-law : (b : List ℕ) → Decides (counterOk b) (CounterFits (length (map (taskShown b) (ids (tasksShown b)))) (counterShown b))
+unfolding counterShown
+counter-law b = count-law b _ _ _ (length-ids (taskShown b) (tasksShown b))
+
 -- ---- the sizes
 
 sizes-law : (b msgs : List ℕ) → Decides (sizesOk b) (Sizes (bodyShown b msgs) × (entry Layout.system b Layout.clockLow < 2 ^ 32) × (storeShown b msgs .clock < 2 ^ 48))
@@ -325,6 +395,7 @@ pub record Ranges (b msgs : List ℕ) : Type 0 where
   pub store : StoreNumbers (storeShown b msgs)
   pub tasks : (i : ℕ) → In i (tasksShown b) → SoundTask (storeShown b msgs) (taskShown b i)
   pub handlers : HandlersFit (map (taskShown b) (ids (tasksShown b))) (handlersShown b)
+  pub counter : CounterFits (length (map (taskShown b) (ids (tasksShown b)))) (counterShown b)
 
 pub ranges-law : (b msgs : List ℕ) → Decides (rangesOk b msgs) (Ranges b msgs)
 unfolding rangesOk storeShown
@@ -334,12 +405,13 @@ ranges-law b msgs = decides-as
     (λ _. decides-and (table-law (λ n. n < 2 ^ 32) (many b Layout.flags) (flagOk b) (entry Layout.flag b) 0 (λ i. decides-as (decides-le (entry Layout.flag b i) 4294967295) (λ h. omega arith) (λ h. omega arith)))
     (λ _. decides-and (table-law (λ l. In (length l) maxBlocks) (many b Layout.pools) (poolOk b) (λ p. poolShown (entry Layout.size b p) (entry Layout.free b p)) [] (pool-law b))
     (λ _. decides-and (table-law (LiesWell (many b Layout.mailboxes)) (many b Layout.messages) (messageOk b msgs) (λ j. messageShown (of msgs j 0)) none (λ j. message-law (many b Layout.mailboxes) (of msgs j 0)))
-    (λ _. handlers-law b)))))))
+    (λ _. decides-and (handlers-law b) (λ _. counter-law b))))))))
     (λ h. record {
       sizes = h .0 .0;
       low = h .0 .1;
       store = record { semaphores = h .1 .1 .0; flags = h .1 .1 .1 .0; messages = h .1 .1 .1 .1 .1 .0; pools = h .1 .1 .1 .1 .0; clock = h .0 .2 };
       tasks = h .1 .0;
-      handlers = h .1 .1 .1 .1 .1 .1;
+      handlers = h .1 .1 .1 .1 .1 .1 .0;
+      counter = h .1 .1 .1 .1 .1 .1 .1;
     })
-    (λ r. ((r .sizes, r .low, r .store .clock), (r .tasks, (r .store .semaphores, (r .store .flags, (r .store .pools, (r .store .messages, r .handlers)))))))
+    (λ r. ((r .sizes, r .low, r .store .clock), (r .tasks, (r .store .semaphores, (r .store .flags, (r .store .pools, (r .store .messages, (r .handlers, r .counter))))))))

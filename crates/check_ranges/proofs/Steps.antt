@@ -10,7 +10,7 @@ use lib.Dec.{eqb, leb, ltb}
 use borrow.Author.Tests.{not-true, not-false, le-leb, lt-leb, lt-ltb, le-ltb, eq-eqb, ne-eqb}
 use Rattle.memory_columns.specs.Layout as Layout
 use Rattle.memory_columns.specs.Layout.{maxTasks, maxObjects, maxMessages, maxPools, maxBlocks, entry}
-use Rattle.check_ranges.specs.Ranges.{within, many, sizesOk, cellOk, poolOk, interruptedOk, rangesOk}
+use Rattle.check_ranges.specs.Ranges.{within, many, sizesOk, cellOk, poolOk, interruptedOk, keptOk, settingOk, rangesOk}
 
 pub failed : {r t : Bool} → r ≡ t → not r ≡ true → t ≡ false
 failed {r} e h = sym e ∙ not-true r h
@@ -43,6 +43,13 @@ some h = omega arith
 
 pub cell-at : {c d v w : ℕ} {t : Bool} → c ≡ d → v ≡ w → t ≡ cellOk c v → t ≡ cellOk d w
 cell-at e f h = rw (← e, ← f) h
+
+module _ {w x : ℕ} (e : w ≡ x) {c d : ℕ} (f : c ≡ d) where
+  pub kept-at : {t : Bool} → t ≡ keptOk (eqb w 1) c → t ≡ keptOk (eqb x 1) d
+  kept-at h = rw (← e, ← f) h
+
+  pub setting-at : (m : ℕ) {t : Bool} → t ≡ settingOk m w c → t ≡ settingOk m x d
+  setting-at m h = rw (← e, ← f) h
 
 -- ---- sizes
 

@@ -1,5 +1,5 @@
 // The first part of the check of a memory: numbers lie in their ranges. Each task, object and message that the counts name is looked at once,
-// the interrupted task once more.
+// the interrupted task once more; each alarm, where there is a counter.
 use memory_columns::ABSENT;
 use memory_columns::ASLEEP;
 use memory_columns::CELL_OK;
@@ -7,13 +7,21 @@ use memory_columns::CELL_RLWAI;
 use memory_columns::CELL_TMOUT;
 use memory_columns::CLOCK_HIGH;
 use memory_columns::CLOCK_LOW;
+use memory_columns::COUNTER_NOW;
+use memory_columns::COUNTER_SIZE;
 use memory_columns::DEPTH;
 use memory_columns::DORMANT;
 use memory_columns::FLAG;
 use memory_columns::FLAGS;
 use memory_columns::INTERRUPTED;
+use memory_columns::KEPT_DMT;
+use memory_columns::KEPT_NODMT;
+use memory_columns::KEPT_NOEXS;
+use memory_columns::KEPT_OK;
+use memory_columns::KEPT_QOVR;
 use memory_columns::MAILBOX;
 use memory_columns::MAILBOXES;
+use memory_columns::MAX_ALARMS;
 use memory_columns::MAX_BLOCKS;
 use memory_columns::MAX_DEPTH;
 use memory_columns::MAX_MESSAGES;
@@ -35,8 +43,15 @@ use memory_columns::TASKS;
 use memory_columns::TIMED;
 use memory_columns::WAIT;
 use memory_columns::WAIT_SUSPEND;
+use memory_columns::WAKES;
+use memory_columns::alarm_code;
+use memory_columns::alarm_due;
+use memory_columns::alarm_period;
+use memory_columns::alarm_task;
+use memory_columns::alarm_wakes;
 use memory_columns::at_most;
 use memory_columns::code;
+use memory_columns::counter;
 use memory_columns::flag;
 use memory_columns::free;
 use memory_columns::handling;
@@ -56,7 +71,7 @@ use memory_columns::word;
 use memory_objects::marks::mark_of;
 ghost use mathlib.Core.Path.{_≡_};
 ghost use Prim.Native.Nat.{_≤_};
-ghost use Rattle.memory_columns.specs.Layout.{maxMessages};
+ghost use Rattle.memory_columns.specs.Layout.{maxMessages, maxAlarms};
 ghost use Rattle.check_ranges.specs.Ranges as Ranges;
 ghost use Rattle.check_ranges.specs.Ranges.{every};
 
@@ -357,6 +372,80 @@ fn handling_ok(words: &[u32; STATE_WORDS]) -> bool
     interrupted_ok(words, handling(words, INTERRUPTED))
 }
 
+// The kept code, without its sign, of an alarm that wakes its task, or starts it.
+fn kept_ok(wakes: bool, kept: u32) -> bool
+    ensures { λ r. ⌜ r ≡ Ranges.keptOk wakes kept ⌝ }
+{
+    match kept {
+        KEPT_OK | KEPT_NOEXS => true,
+        KEPT_NODMT => !wakes,
+        KEPT_DMT | KEPT_QOVR => wakes,
+        _ => false,
+    }
+}
+
+// One more than the expiry, and the period; of an idle alarm the period says nothing.
+fn setting_ok(size: u32, due: u32, period: u32) -> bool
+    ensures { λ r. ⌜ r ≡ Ranges.settingOk size due period ⌝ }
+{
+    if due == 0 {
+        return true;
+    }
+    if size < due {
+        return false;
+    }
+    period <= size
+}
+
+// Alarm k of a counter of that size.
+fn alarm_ok(words: &[u32; STATE_WORDS], size: u32, k: u32) -> bool
+    ensures { λ r. ⌜ r ≡ Ranges.alarmOk (now (words .entry)) size k ⌝ }
+{
+    let wakes = alarm_wakes(words, k);
+    if WAKES < wakes {
+        return false;
+    }
+    if !within(alarm_task(words, k), system(words, TASKS)) {
+        return false;
+    }
+    if !kept_ok(wakes == WAKES, alarm_code(words, k)) {
+        return false;
+    }
+    setting_ok(size, alarm_due(words, k), alarm_period(words, k))
+}
+
+fn alarms_ok(words: &[u32; STATE_WORDS], size: u32) -> bool
+    ensures { λ r. ⌜ r ≡ every maxAlarms 1 (Ranges.alarmOk (now (words .entry)) size) ⌝ }
+{
+    let mut k: u32 = 1;
+    let mut left = MAX_ALARMS;
+    while 0 < left {
+        if !alarm_ok(words, size, k) {
+            return false;
+        }
+        k += 1;
+        left -= 1;
+    }
+    true
+}
+
+// The counter and its alarms. Where there is none, nothing of them is looked at.
+fn counter_ok(words: &[u32; STATE_WORDS]) -> bool
+    ensures { λ r. ⌜ r ≡ Ranges.counterOk (now (words .entry)) ⌝ }
+{
+    let size = counter(words, COUNTER_SIZE);
+    if size == 0 {
+        return true;
+    }
+    if 65535 < size {
+        return false;
+    }
+    if size <= counter(words, COUNTER_NOW) {
+        return false;
+    }
+    alarms_ok(words, size)
+}
+
 // All ranges. The counts have been judged before a loop is run over them.
 pub fn ranges_ok(words: &[u32; STATE_WORDS], messages: &[u32; MESSAGE_WORDS]) -> bool
     ensures { λ r. ⌜ r ≡ Ranges.rangesOk (now (words .entry)) (now (messages .entry)) ⌝ }
@@ -383,5 +472,8 @@ pub fn ranges_ok(words: &[u32; STATE_WORDS], messages: &[u32; MESSAGE_WORDS]) ->
     ) {
         return false;
     }
-    handling_ok(words)
+    if !handling_ok(words) {
+        return false;
+    }
+    counter_ok(words)
 }

@@ -69,6 +69,7 @@ module _ (b msgs : List ℕ) where
     store = R .store;
     tasks = λ i h. subst (SoundTask (storeShown b msgs)) (sym (task-is b msgs i (count i h))) (R .tasks i (count i h));
     handlers = R .handlers;
+    counter = R .counter;
   }
 
   pub sound-shown : SoundBody (bodyShown b msgs) → (i : ℕ) → In i (tasksShown b) → SoundTask (storeShown b msgs) (taskShown b i)
@@ -87,7 +88,7 @@ module _ (b msgs : List ℕ) where
 
   ranges-of : Accepted b msgs → Ranges b msgs
   unfolding viewShown bodyShown
-  ranges-of A = let S = A .sound .body in record { sizes = S .sizes; low = A .whole .low; store = S .store; tasks = sound-shown S; handlers = S .handlers }
+  ranges-of A = let S = A .sound .body in record { sizes = S .sizes; low = A .whole .low; store = S .store; tasks = sound-shown S; handlers = S .handlers; counter = S .counter }
 
   nobody-of : Accepted b msgs → NobodyServed
   unfolding viewShown

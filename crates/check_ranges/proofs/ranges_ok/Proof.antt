@@ -84,8 +84,16 @@ handling-ok-requires c κs = search needs
 
 returns-7 : tie.Need-returns-7
 unfolding rangesOk
-returns-7 c =
-    let i6 = c .before in
+returns-7 c = simp (failed (c .before .handling-ok .ensures) (c .if7 .taken), and-false)
+
+counter-ok-requires : tie.Need-counter-ok-requires
+counter-ok-requires c κs = search needs
+
+returns-8 : tie.Need-returns-8
+unfolding rangesOk
+returns-8 c =
+    let i7 = c .before in
+    let i6 = i7 .before .before in
     let a5 = i6 .before .before in
     let i5 = a5 .before .before in
     let a4 = i5 .before .before in
@@ -103,7 +111,8 @@ returns-7 c =
     (also (passed (loop-is _ (a2 .before .system2 .ensures) (a2 .at-most2 .ensures) (i3 .before .semaphores-ok .ensures) (f .semaphores)) (i3 .if3 .left))
     (also (passed (loop-is _ (a3 .before .system3 .ensures) (a3 .at-most3 .ensures) (i4 .before .flags-ok .ensures) (f .flags)) (i4 .if4 .left))
     (also (passed (loop-is _ (a4 .before .system4 .ensures) (a4 .at-most4 .ensures) (i5 .before .pools-ok .ensures) (f .pools)) (i5 .if5 .left))
-    (also (passed (loop-is _ (a5 .before .system5 .ensures) (a5 .at-most5 .ensures) (i6 .before .messages-ok .ensures) (f .messages)) (i6 .if6 .left)) (c .handling-ok .ensures))))))
+    (also (passed (loop-is _ (a5 .before .system5 .ensures) (a5 .at-most5 .ensures) (i6 .before .messages-ok .ensures) (f .messages)) (i6 .if6 .left))
+    (also (passed (i7 .before .handling-ok .ensures) (i7 .if7 .left)) (c .counter-ok .ensures)))))))
 
 pub ranges-ok-spec : {M : Type 1} → statement M
 ranges-ok-spec =
@@ -132,4 +141,6 @@ ranges-ok-spec =
     messages-ok-requires
     returns-6
     handling-ok-requires
-    returns-7)
+    returns-7
+    counter-ok-requires
+    returns-8)

@@ -1,0 +1,54 @@
+-- `check_ranges::alarms_ok` meets its contract. The alarms that are left decide as all of them do. Assumes nothing.
+use mathlib.Core.Path.{refl}
+use Rattle.memory_columns.specs.Layout.{maxAlarms}
+use Rattle.check_ranges.specs.Ranges.{alarmOk}
+use Rattle.check_ranges.proofs.Steps.{failed, passed}
+use Rattle.check_ranges.proofs.Loops.{Going, going-done, going-fail, going-on}
+use borrow.Author.Needs.{needs}
+use Rattle.check_ranges.proofs.alarms_ok.Statement.{statement}
+use Rattle.check_ranges.proofs.alarms_ok.Tie as tie
+
+abbrev Inv-loop : tie.InvT-loop
+Inv-loop words size k₀ left₀ k left = Going (alarmOk words size) maxAlarms k left
+
+abbrev μ-loop : tie.MeasureT-loop
+μ-loop words size k₀ left₀ k left = left
+
+loop-holds : tie.Need-loop-holds Inv-loop μ-loop
+loop-holds c = (refl, refl)
+
+alarm-ok-requires : tie.Need-alarm-ok-requires Inv-loop μ-loop
+alarm-ok-requires c κs = search needs
+
+returns : tie.Need-returns Inv-loop μ-loop
+returns c = let b = c .before .before in going-fail _ _ _ _ (b .before .loop .inv) (b .loop-test .taken) (failed (c .before .alarm-ok .ensures) (c .if1 .taken))
+
+add-k : tie.Need-add-k Inv-loop μ-loop
+add-k c = search needs
+
+sub-left : tie.Need-sub-left Inv-loop μ-loop
+sub-left c = search needs
+
+loop-less : tie.Need-loop-less Inv-loop μ-loop
+loop-less c = search needs
+
+loop-again : tie.Need-loop-again Inv-loop μ-loop
+loop-again c = let b = c .before .before in going-on _ _ _ _ (b .before .loop .inv) (b .loop-test .taken) (passed (c .before .alarm-ok .ensures) (c .if1 .left))
+
+returns-2 : tie.Need-returns-2 Inv-loop μ-loop
+returns-2 c = going-done _ _ _ _ (c .before .loop .inv) (c .loop-test .left)
+
+pub alarms-ok-spec : {M : Type 1} → statement M
+alarms-ok-spec =
+    tie.close
+    (tie.spec
+    Inv-loop
+    μ-loop
+    loop-holds
+    alarm-ok-requires
+    returns
+    add-k
+    sub-left
+    loop-less
+    loop-again
+    returns-2)
