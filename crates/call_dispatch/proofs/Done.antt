@@ -10,23 +10,24 @@ use lib.Dec.{eqb}
 use lib.IntN.{ℤ}
 use lib.ListN.{length, getD}
 use borrow.Author.Tests.{eqb-false}
-use Rattle.rules.specs.Ids.{ids, In, times}
+use Rattle.rules.specs.Ids.{In}
 use Rattle.rules.specs.Codes.{OK, negative, refuses}
 use Rattle.rules.specs.State.{Kind, semaphore, flag, mailbox, pool, Body, task, nobody, objects, waitOf, isReady, wish}
 use Rattle.rules.specs.Places.{readyAt, waiters, mail, freeIn, many, population, belongs, lineAt}
 use Rattle.rules.specs.Events.{Event, tick, enter, exit, call, Words, nat, outside, above}
-use Rattle.rules.specs.Acts.{Act, rotate, release, elapse, after}
+use Rattle.rules.specs.Acts.{Act, rotate, release, after}
 use Rattle.rules.specs.View.{View, line, best}
 use Rattle.rules.specs.Verdicts.{Verdict}
 use Rattle.rules.specs.Tasks.{starting, sta-tsk, ext-tsk, ter-tsk, chg-pri, rot-rdq, rel-wai, sus-tsk, rsm-tsk, take-wakeup, slp-tsk, wai-tsk, waking, wup-tsk, can-wup, get-tid, tsk-sts, cre-tsk, del-tsk, exd-tsk}
 use Rattle.rules.specs.Objects.{to-first, obj-sts, sig-sem, take-sem, met, left, serve-flag, set-flg, clr-flg, take-flg, snd-msg, take-msg, take-blk, rel-blk}
-use Rattle.rules.specs.Time.{get-tim, ending, endings, timeout, ticked}
+use Rattle.rules.specs.Alarms.{set-alm, set-abs, set-rel, can-alm, alm-sts}
+use Rattle.rules.specs.Time.{get-tim}
 use Rattle.rules.specs.Handling.{entered, exited}
-use Rattle.rules.specs.Rows.{staTsk, extTsk, terTsk, chgPri, rotRdq, relWai, susTsk, rsmTsk, slpTsk, waiTsk, wupTsk, canWup, sigSem, waiSem, preqSem, setFlg, clrFlg, waiFlg, polFlg, sndMsg, rcvMsg, prcvMsg, getBlk, pgetBlk, relBlk, getTid, tskSts, semSts, flgSts, mbxSts, mplSts, getTim, creTsk, delTsk, exdTsk}
+use Rattle.rules.specs.Rows.{staTsk, extTsk, terTsk, chgPri, rotRdq, relWai, susTsk, rsmTsk, slpTsk, waiTsk, wupTsk, canWup, sigSem, waiSem, preqSem, setFlg, clrFlg, waiFlg, polFlg, sndMsg, rcvMsg, prcvMsg, getBlk, pgetBlk, relBlk, getTid, tskSts, semSts, flgSts, mbxSts, mplSts, getTim, creTsk, delTsk, exdTsk, setAbs, setRel, canAlm, almSts}
 use Rattle.rules.specs.Table.{table, caller, handles, judge}
 use Rattle.rules.specs.Sound.{Known, Sound}
 use Rattle.rules.specs.Kernel.{next}
-use Rattle.rules.proofs.Ids.{length-put, tested, kept-passes, times-head, times-tail}
+use Rattle.rules.proofs.Ids.{length-put, tested}
 use Rattle.rules.proofs.Fits.{in-range}
 use Rattle.rules.proofs.Queues.{first-belongs, nonempty-at}
 use Rattle.rules.proofs.Calls.{Steps, steps-of-judge}
@@ -38,6 +39,7 @@ use Rattle.memory_picture.specs.Picture.{viewShown, Accepted}
 use Rattle.call_words.specs.declared.Outcome.{Outcome}
 use Rattle.call_words.specs.Doing.{performs, performsMarks, Does}
 use Rattle.call_words.proofs.Performing.{Names, AllNames, shown-body, performs-law}
+use Rattle.call_words.proofs.TickActs.{tick-names}
 use Rattle.call_dispatch.proofs.Arms.{upto}
 
 -- ---- who stands first in a queue is there
@@ -77,7 +79,7 @@ module _ (v : View) (h : Sound v) where
           above-zero : nat a ≢ 0 → 1 ≤ nat a
           above-zero k = omega arith
 
--- ---- the walk of set_flg, and the tick
+-- ---- the walk of set_flg
 
 serve-names : (b : Body) (f : ℕ) (c : Body) (n have : ℕ) (l : List ℕ) → length (c .tasks) ≡ n → Known n l → In f (length (c .store .flags)) → AllNames c (serve-flag b f have l)
 unfolding after
@@ -92,22 +94,6 @@ serve-names b f c n have (x ∷ l) e k r =
         → AllNames c (cond t (release x OK have ∷ serve-flag b f (left have (w .1)) l) (serve-flag b f have l))
     go true p q = (subst (In x) (sym e) (k .0), p)
     go false p q = q
-
-timeout-names : (c : Body) (n : ℕ) (l : List ℕ) → length (c .tasks) ≡ n → Known n l → AllNames c (map timeout l ++ elapse ∷ [])
-unfolding after
-timeout-names c n [] e k = (tt, tt)
-timeout-names c n (x ∷ l) e k = (subst (In x) (sym e) (k .0), timeout-names (after (timeout x) c) n l (length-put (c .tasks) x _ ∙ e) (k .1))
-
-known-by : (n : ℕ) (l : List ℕ) → ((i : ℕ) → times i l ≢ 0 → In i n) → Known n l
-known-by n [] f = tt
-known-by n (x ∷ l) f = (f x (times-head x l), known-by n l (λ i z. f i (times-tail x i l z)))
-
-tick-names : (v : View) → AllNames (v .body) (ticked v .acts)
-unfolding ticked
-tick-names v = timeout-names (v .body) _ (endings (v .body)) refl (known-by _ (endings (v .body)) there)
-  where
-    there : (i : ℕ) → times i (endings (v .body)) ≢ 0 → In i (length (v .body .tasks))
-    there i z = tested (λ t. ending (waitOf (t .state))) (v .body .tasks) i nobody refl (kept-passes (λ j. ending (waitOf (task (v .body) j .state))) i (ids (length (v .body .tasks))) z)
 
 -- ---- entry and return
 
@@ -184,8 +170,11 @@ module _ (v : View) (h : Sound v) (x : Bool) (a p c : ℤ) where
   whom : outside a (length (v .body .tasks)) ≡ false → In (nat a) (length (v .body .tasks))
   whom e = in-by a (length (v .body .tasks)) e
 
+  which : outside a (length (v .body .counter .alarms)) ≡ false → In (nat a) (length (v .body .counter .alarms))
+  which e = in-by a (length (v .body .counter .alarms)) e
+
   all-rows : AllRows (λ n r. OnActs (AllNames (v .body)) r) v (handles v x) me 1 (table v me a p c)
-  unfolding table staTsk extTsk terTsk chgPri rotRdq relWai susTsk rsmTsk slpTsk waiTsk wupTsk canWup sigSem waiSem preqSem setFlg clrFlg waiFlg polFlg sndMsg rcvMsg prcvMsg getBlk pgetBlk relBlk getTid tskSts semSts flgSts mbxSts mplSts getTim creTsk delTsk exdTsk sta-tsk starting ext-tsk ter-tsk chg-pri rel-wai sus-tsk rsm-tsk slp-tsk wai-tsk can-wup clr-flg get-tid tsk-sts obj-sts get-tim cre-tsk del-tsk exd-tsk
+  unfolding table staTsk extTsk terTsk chgPri rotRdq relWai susTsk rsmTsk slpTsk waiTsk wupTsk canWup sigSem waiSem preqSem setFlg clrFlg waiFlg polFlg sndMsg rcvMsg prcvMsg getBlk pgetBlk relBlk getTid tskSts semSts flgSts mbxSts mplSts getTim creTsk delTsk exdTsk setAbs setRel canAlm almSts sta-tsk starting ext-tsk ter-tsk chg-pri rel-wai sus-tsk rsm-tsk slp-tsk wai-tsk can-wup clr-flg get-tid tsk-sts obj-sts get-tim cre-tsk del-tsk exd-tsk set-abs set-rel set-alm can-alm alm-sts
   all-rows =
       (λ t. acts-check _ tt (λ k. on-acts (whom (t .words .0), tt)))
       ⊗ (λ t. on-acts (mine (t .context), tt))
@@ -222,6 +211,10 @@ module _ (v : View) (h : Sound v) (x : Bool) (a p c : ℤ) where
       ⊗ (λ t. acts-check _ tt (λ k. on-acts (whom (t .words .0), tt)))
       ⊗ (λ t. acts-check _ tt (λ k. on-acts (whom (t .words .0), tt)))
       ⊗ (λ t. on-acts (mine (t .context), tt))
+      ⊗ (λ t. acts-check _ tt (λ k. on-acts (which (t .words .0), tt)))
+      ⊗ (λ t. acts-check _ tt (λ k. on-acts (which (t .words .0), tt)))
+      ⊗ (λ t. acts-check _ tt (λ k. on-acts (which (t .words .0), tt)))
+      ⊗ (λ t. on-acts tt)
       ⊗ tt
 
 -- ---- an event

@@ -1,4 +1,4 @@
--- A number that no arm of the code has is no call's: the arms have the numbers 1 to 35. Assumes nothing.
+-- A number that no arm of the code has is no call's: the arms have the numbers 1 to 39. Assumes nothing.
 use mathlib.Core.Bool.{Bool, true, false, _||_, true≢false}
 use mathlib.Core.List.{List, [], _∷_}
 use mathlib.Core.Option.{none}

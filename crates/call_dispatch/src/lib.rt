@@ -2,6 +2,8 @@
 // that an open handler calls, `me` is the task that calls, 0 if none does. Each arm is a row of the paper's table.
 pub mod numbers;
 
+use crate::numbers::ALM_STS;
+use crate::numbers::CAN_ALM;
 use crate::numbers::CAN_WUP;
 use crate::numbers::CHG_PRI;
 use crate::numbers::CLR_FLG;
@@ -25,7 +27,9 @@ use crate::numbers::REL_WAI;
 use crate::numbers::ROT_RDQ;
 use crate::numbers::RSM_TSK;
 use crate::numbers::SEM_STS;
+use crate::numbers::SET_ABS;
 use crate::numbers::SET_FLG;
+use crate::numbers::SET_REL;
 use crate::numbers::SIG_SEM;
 use crate::numbers::SLP_TSK;
 use crate::numbers::SND_MSG;
@@ -37,6 +41,10 @@ use crate::numbers::WAI_FLG;
 use crate::numbers::WAI_SEM;
 use crate::numbers::WAI_TSK;
 use crate::numbers::WUP_TSK;
+use call_alarms::alm_sts;
+use call_alarms::can_alm;
+use call_alarms::set_abs;
+use call_alarms::set_rel;
 use call_flags::clr_flg;
 use call_flags::flg_sts;
 use call_flags::pol_flg;
@@ -48,12 +56,14 @@ use call_judging::ANYONE;
 use call_judging::BOTH;
 use call_judging::TASK_ONLY;
 use call_judging::UNNAMED;
+use call_judging::on_alarm;
 use call_judging::on_flag;
 use call_judging::on_message;
 use call_judging::on_nothing;
 use call_judging::on_object;
 use call_judging::on_priority;
 use call_judging::on_queue;
+use call_judging::on_setting;
 use call_judging::on_task;
 use call_judging::on_time;
 use call_objects::mailboxes::mbx_sts;
@@ -252,6 +262,22 @@ pub fn dispatch(
         },
         EXD_TSK => match on_nothing(words, TASK_ONLY, handler, me) {
             OK => exd_tsk(words, me),
+            e => refuse(e),
+        },
+        SET_ABS => match on_setting(words, handler, me, i, b, c) {
+            OK => set_abs(words, i, j, named(c)),
+            e => refuse(e),
+        },
+        SET_REL => match on_setting(words, handler, me, i, b, c) {
+            OK => set_rel(words, i, j, named(c)),
+            e => refuse(e),
+        },
+        CAN_ALM => match on_alarm(words, handler, me, i) {
+            OK => can_alm(words, i),
+            e => refuse(e),
+        },
+        ALM_STS => match on_alarm(words, handler, me, i) {
+            OK => alm_sts(words, i),
             e => refuse(e),
         },
         _ => refuse(H_CALL),

@@ -68,3 +68,11 @@ pub const CRE_TSK: u32 = 33;
 pub const DEL_TSK: u32 = 34;
 
 pub const EXD_TSK: u32 = 35;
+
+pub const SET_ABS: u32 = 36;
+
+pub const SET_REL: u32 = 37;
+
+pub const CAN_ALM: u32 = 38;
+
+pub const ALM_STS: u32 = 39;

@@ -8,13 +8,14 @@ use lib.IntN.{ℤ, pos}
 use lib.ListN.{length}
 use Rattle.rules.specs.Ids.{In}
 use Rattle.rules.specs.Events.{outside, above}
-use Rattle.rules.specs.State.{Kind, objects}
+use Rattle.rules.specs.State.{Kind, objects, alarmCount}
 use Rattle.rules.specs.Rows.{Context, both, task-id}
 use Rattle.rules.proofs.Waits.{in-by}
 use Rattle.memory_columns.specs.Layout as Layout
 use Rattle.memory_columns.specs.Layout.{entry}
 use Rattle.memory_picture.specs.Picture.{kindNumber, messagesShown, storeShown, bodyShown, viewShown}
 use Rattle.call_words.proofs.Tasks.{tasks-count, objects-count, messages-count}
+use Rattle.call_words.proofs.Alarms.{alarms-count, size-shown}
 use Rattle.call_judging.specs.Judging.{firstCode, targetOf, commonCode, refusalsOf}
 use Rattle.call_judging.proofs.Tests.{absent-is, dormant-is}
 use Rattle.call_judging.proofs.Refused.{word-passes}
@@ -29,6 +30,12 @@ module _ (i : ℕ) (b m : List ℕ) {s : ℕ} {t : Bool} where
 
   pub message-is : s ≡ messagesShown b → t ≡ outside (pos i) s → t ≡ outside (pos i) (length (viewShown b m .body .store .messages))
   message-is es et = et ∙ rw (es, ← messages-count b m)
+
+  pub alarm-is : s ≡ alarmCount (entry Layout.counter b Layout.counterSize) → t ≡ outside (pos i) s → t ≡ outside (pos i) (length (viewShown b m .body .counter .alarms))
+  alarm-is es et = et ∙ rw (es, ← alarms-count b m)
+
+pub ticks-is : (a : ℤ) (b m : List ℕ) {s : ℕ} {t : Bool} → s ≡ entry Layout.counter b Layout.counterSize → t ≡ above a s → t ≡ above a (viewShown b m .body .counter .size)
+ticks-is a b m es et = et ∙ rw (es, ← size-shown b m)
 
 pub queue-is : (a : ℤ) (b m : List ℕ) {s : ℕ} {t : Bool} → s ≡ entry Layout.system b 0 → t ≡ above a s → t ≡ above a (viewShown b m .body .store .priorities)
 unfolding viewShown bodyShown storeShown

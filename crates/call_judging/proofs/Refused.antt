@@ -11,7 +11,7 @@ use lib.Signed.{ltZ}
 use Rattle.rules.specs.Codes.{Code, number}
 use Rattle.rules.specs.View.{View}
 use Rattle.rules.specs.Verdicts.{Verdict, refuse, check}
-use Rattle.rules.specs.Rows.{Refusal, Row, staTsk, extTsk, terTsk, chgPri, rotRdq, relWai, susTsk, rsmTsk, slpTsk, waiTsk, wupTsk, canWup, sigSem, waiSem, preqSem, setFlg, clrFlg, waiFlg, polFlg, sndMsg, rcvMsg, prcvMsg, getBlk, pgetBlk, relBlk, getTid, tskSts, semSts, flgSts, mbxSts, mplSts, getTim, creTsk, delTsk, exdTsk}
+use Rattle.rules.specs.Rows.{Refusal, Row, staTsk, extTsk, terTsk, chgPri, rotRdq, relWai, susTsk, rsmTsk, slpTsk, waiTsk, wupTsk, canWup, sigSem, waiSem, preqSem, setFlg, clrFlg, waiFlg, polFlg, sndMsg, rcvMsg, prcvMsg, getBlk, pgetBlk, relBlk, getTid, tskSts, semSts, flgSts, mbxSts, mplSts, getTim, creTsk, delTsk, exdTsk, setAbs, setRel, canAlm, almSts}
 use Rattle.rules.specs.Table.{refusals, judged, table, entry}
 use Rattle.rules.proofs.Judge.{Passed, Passes}
 use Rattle.rules.proofs.Waits.{both-true}
@@ -97,7 +97,7 @@ rows-negative [] = true
 rows-negative (r ∷ l) = all-negative (r .words) && rows-negative l
 
 table-negative : (v : View) (me : ℕ) (a b c : ℤ) → rows-negative (table v me a b c) ≡ true
-unfolding number table staTsk extTsk terTsk chgPri rotRdq relWai susTsk rsmTsk slpTsk waiTsk wupTsk canWup sigSem waiSem preqSem setFlg clrFlg waiFlg polFlg sndMsg rcvMsg prcvMsg getBlk pgetBlk relBlk getTid tskSts semSts flgSts mbxSts mplSts getTim creTsk delTsk exdTsk
+unfolding number table staTsk extTsk terTsk chgPri rotRdq relWai susTsk rsmTsk slpTsk waiTsk wupTsk canWup sigSem waiSem preqSem setFlg clrFlg waiFlg polFlg sndMsg rcvMsg prcvMsg getBlk pgetBlk relBlk getTid tskSts semSts flgSts mbxSts mplSts getTim creTsk delTsk exdTsk setAbs setRel canAlm almSts
 table-negative v me a b c = refl
 
 all-refuse : (l : List Refusal) → all-negative l ≡ true → AllRefuse l

@@ -1,7 +1,7 @@
 -- The tests of the words and of whom a call names, as the code makes them. Assumes nothing.
 use mathlib.Core.Bool.{true, false, true≢false}
 use mathlib.Core.List.{List}
-use mathlib.Core.Path.{_≡_, refl, sym, _∙_}
+use mathlib.Core.Path.{_≡_, refl, sym, ap, _∙_}
 use Prim.Native.Nat.{ℕ, zero, suc, _≤_, _<_}
 use native.Mathlib.Decide.{decLe}
 use native.Mathlib.Omega.{arith}
@@ -10,6 +10,7 @@ use lib.IntN.{ℤ, pos, negsuc}
 use lib.Signed.{ltZ}
 use borrow.Author.Tests.{le-leb, lt-leb, le-ltb, lt-ltb, ltb-true}
 use Rattle.rules.specs.Ids.{In}
+use Rattle.rules.specs.State.{alarmCount}
 use Rattle.rules.specs.Events.{nat, outside, above, belowForEver}
 use Rattle.rules.specs.Table.{names-absent, names-self, names-dormant}
 use Rattle.memory_columns.specs.Layout as Layout
@@ -66,6 +67,13 @@ absent-is (suc (suc zero)) i b m h = sym (absent-read b m i h)
 absent-is (suc (suc (suc t))) i b m h = sym (absent-read b m i h)
 
 -- ---- numbers
+
+pub no-alarms : {z n : ℕ} → z ≡ n → z ≡ 0 → 0 ≡ alarmCount n
+no-alarms e y = ap alarmCount (sym y ∙ e)
+
+pub all-alarms : (n : ℕ) {z : ℕ} → z ≡ n → (z ≡ 0 → ⊥) → 8 ≡ alarmCount n
+all-alarms zero e ne = absurd (ne e)
+all-alarms (suc n) e ne = refl
 
 pub within : (i n : ℕ) → (i ≡ 0 → ⊥) → ltb n i ≡ outside (pos i) n
 within i n ne = elim (decLe i n) [

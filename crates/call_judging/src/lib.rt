@@ -10,13 +10,16 @@ use call_words::codes::H_PAR;
 use call_words::codes::OK;
 use call_words::named;
 use memory_columns::ABSENT;
+use memory_columns::COUNTER_SIZE;
 use memory_columns::DORMANT;
 use memory_columns::FLAGS;
 use memory_columns::MAILBOXES;
+use memory_columns::MAX_ALARMS;
 use memory_columns::MESSAGES;
 use memory_columns::PRIORITIES;
 use memory_columns::STATE_WORDS;
 use memory_columns::TASKS;
+use memory_columns::counter;
 use memory_columns::status;
 use memory_columns::system;
 ghost use mathlib.Core.Path.{_≡_};
@@ -24,8 +27,9 @@ ghost use mathlib.Core.List.{[], _∷_};
 ghost use lib.Dec.{eqb};
 ghost use lib.IntN.{pos};
 ghost use Rattle.rules.specs.Events.{outside, above};
-ghost use Rattle.rules.specs.Rows.{T, both, unnamed, task-id, priority, queue, time, object-id, asked, mode, message};
+ghost use Rattle.rules.specs.Rows.{T, both, unnamed, task-id, priority, queue, time, object-id, asked, mode, message, alarm-number, ticks};
 ghost use Rattle.rules.specs.State as Kind;
+ghost use Rattle.rules.specs.State.{alarmCount};
 ghost use Rattle.rules.specs.Table as Table;
 ghost use Rattle.memory_columns.specs.Layout as Layout;
 ghost use Rattle.memory_columns.specs.Layout.{entry};
@@ -251,6 +255,44 @@ pub fn on_message(words: &[u32; STATE_WORDS], handler: bool, me: u32, i: u32, j:
         return E_NOEXS;
     }
     if is_outside(j, system(words, MESSAGES)) {
+        return H_PAR;
+    }
+    common(words, BOTH, UNNAMED, handler, me, 0)
+}
+
+// How many alarms there are: none without a counter.
+fn alarms(words: &[u32; STATE_WORDS]) -> u32
+    ensures { λ r. ⌜ r ≡ alarmCount (entry Layout.counter (now (words .entry)) Layout.counterSize) ⌝ }
+{
+    if counter(words, COUNTER_SIZE) == 0 {
+        0
+    } else {
+        MAX_ALARMS
+    }
+}
+
+// Alarm k.
+pub fn on_alarm(words: &[u32; STATE_WORDS], handler: bool, me: u32, k: u32) -> i32
+    ensures { λ r. ⌜ Judges (λ v. alarm-number v (pos k) ∷ []) both unnamed handler me r (now (words .entry)) ⌝ }
+{
+    if is_outside(k, alarms(words)) {
+        return H_PAR;
+    }
+    common(words, BOTH, UNNAMED, handler, me, 0)
+}
+
+// Alarm k, a count and a period.
+pub fn on_setting(words: &[u32; STATE_WORDS], handler: bool, me: u32, k: u32, b: i32, c: i32) -> i32
+    ensures { λ r. ⌜ Judges (λ v. alarm-number v (pos k) ∷ ticks v b ∷ ticks v c ∷ []) both unnamed handler me r (now (words .entry)) ⌝ }
+{
+    if is_outside(k, alarms(words)) {
+        return H_PAR;
+    }
+    let size = counter(words, COUNTER_SIZE);
+    if is_above(b, size) {
+        return H_PAR;
+    }
+    if is_above(c, size) {
         return H_PAR;
     }
     common(words, BOTH, UNNAMED, handler, me, 0)

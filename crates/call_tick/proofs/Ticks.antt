@@ -1,4 +1,4 @@
--- The tick: the releases of its first pass are those of the rules, and as many. A release changes no other task, so that who is released along the way is who was to be at the start. Assumes nothing.
+-- The tick: the releases of its first pass are those of the rules, and as many; then the alarms ring over what it left. A release changes no other task, so that who is released along the way is who was to be at the start. Assumes nothing.
 use mathlib.Core.Bool.{Bool, true, false, cond, _&&_, _||_}
 use mathlib.Core.List.{List, [], _∷_, _++_, map}
 use mathlib.Core.Logic.{_≢_}
@@ -12,28 +12,33 @@ use lib.ListN.{length}
 use borrow.Author.Tests.{eqb-true, le-leb}
 use Rattle.rules.specs.Ids.{from, ids, keep, once}
 use Rattle.rules.specs.Codes.{number}
-use Rattle.rules.specs.State.{semaphore, flag, mailbox, pool, Wait, asleep, timed, on, State, dormant, ready, suspended, absent, waiting, waiting-suspended, task, nobody, waitOf}
-use Rattle.rules.specs.Acts.{Act, elapse}
+use Rattle.rules.specs.State.{semaphore, flag, mailbox, pool, Wait, asleep, timed, on, State, dormant, ready, suspended, absent, waiting, waiting-suspended, alarmCount, Body, task, nobody, waitOf}
+use Rattle.rules.specs.Acts.{Act, elapse, afters}
 use Rattle.rules.specs.Releases.{releases}
-use Rattle.rules.specs.Time.{ending, endings, timeout, ticked}
+use Rattle.rules.specs.Alarms.{rings}
+use Rattle.rules.specs.Time.{ending, endings, timeout, lapse, ticked}
 use Rattle.rules.proofs.Ids.{of-ids, length-ids}
+use Rattle.rules.proofs.Sizes.{sizes-afters}
+use Rattle.rules.proofs.Calls.{lapse-steps}
 use Rattle.memory_columns.specs.Layout as Layout
-use Rattle.memory_columns.specs.Layout.{stateWords}
-use Rattle.memory_columns.specs.Layout.{entry}
+use Rattle.memory_columns.specs.Layout.{stateWords, maxAlarms, entry, atMost}
 use Rattle.memory_queues.specs.Moves.{queued, unqueued}
 use Rattle.memory_tasks.specs.Moves.{rotated, readied, released}
 use Rattle.memory_objects.specs.Moves.{elapsed}
 use Rattle.memory_picture.specs.Picture.{noWait, waitShown, stateShown, taskShown, bodyShown, viewShown, Accepted}
-use Rattle.memory_picture.specs.Perform.{performed, performedMarks}
+use Rattle.memory_picture.specs.Perform.{performed}
 use Rattle.memory_queues.proofs.Relinks.{queued-law}
 use Rattle.memory_picture.proofs.Lines.{out}
 use Rattle.memory_picture.proofs.Touched.{Touched, untouched, touched-put, touched-left, kept-shown}
 use Rattle.memory_picture.proofs.OneTask.{sizes}
-use Rattle.memory_columns.specs.Layout.{atMost}
-use Rattle.call_words.specs.Doing.{performs, performsMarks, Anything, DoesOnWords}
+use Rattle.call_words.specs.Doing.{performs, performsMarks, Anything, Does, DoesOnWords}
 use Rattle.call_words.specs.declared.Outcome.{Outcome}
 use Rattle.call_words.specs.Outcomes.{outcome}
 use Rattle.call_words.proofs.Tasks.{few-tasks}
+use Rattle.call_words.proofs.Alarms.{alarms-count}
+use Rattle.call_words.proofs.Performing.{performs-append, marks-append, releases-append, words-law}
+use Rattle.call_words.proofs.TickActs.{lapse-names, lapse-marks, rings-marks}
+use Rattle.call_alarms.specs.Ringing.{Performs, PerformsOnWords, HasCounter}
 use Rattle.call_tick.specs.Ticking.{lastTick, endsAt, expiredAt, expired, expiries}
 
 -- ---- a wait that ends, as shown
@@ -143,34 +148,61 @@ endings-shown b m =
 
 -- ---- the tick
 
-performs-append : (l r : List Act) (b : List ℕ) → performs (l ++ r) b ≡ performs r (performs l b)
-unfolding performs
-performs-append [] r b = refl
-performs-append (a ∷ l) r b = performs-append l r (performed a b)
+lapse-releases : (l : List ℕ) → releases (map timeout l ++ elapse ∷ []) ≡ length l
+lapse-releases [] = refl
+lapse-releases (x ∷ l) = rw (lapse-releases l) (omega arith)
 
-tick-marks : (l : List ℕ) (m : List ℕ) → performsMarks (map timeout l ++ elapse ∷ []) m ≡ m
-unfolding performsMarks performedMarks
-tick-marks [] m = refl
-tick-marks (x ∷ l) m = tick-marks l m
+-- how many alarms there are, by the counter's size
+eight : (z : ℕ) → (z ≡ 0 → ⊥) → alarmCount z ≡ maxAlarms
+eight zero ne = absurd (ne refl)
+eight (suc z) ne = refl
 
-tick-releases : (l : List ℕ) → releases (map timeout l ++ elapse ∷ []) ≡ length l
-tick-releases [] = refl
-tick-releases (x ∷ l) = rw (tick-releases l) (omega arith)
+module _ (b : List ℕ) {s n k : ℕ} {b₁ b₂ : List ℕ} (es : s ≡ entry Layout.system b 1) (en : n ≡ atMost s 32) (eb : b₁ ≡ expired n 1 b) (ek : k ≡ expiries n 1 b) (el : b₂ ≡ elapsed b₁) where
+  module _ (m : List ℕ) (A : Accepted b m) where
+    abbrev B : Body
+    B = viewShown b m .body
 
-module _ (b : List ℕ) {s n k : ℕ} {b₁ : List ℕ} (es : s ≡ entry Layout.system b 1) (en : n ≡ atMost s 32) (eb : b₁ ≡ expired n 1 b) (ek : k ≡ expiries n 1 b) where
-  -- on an accepted memory the first pass performs the rules' releases
-  passed : (m : List ℕ) → Accepted b m → Passed b₁ k (endings (bodyShown b m)) b
-  passed m A =
-      rw (eb, ek, en, es, le-leb (entry Layout.system b 1) 32 (few-tasks b m A), endings-shown b m)
-      (pass (endsAt b) (entry Layout.system b 1) 1 b (A .whole .size) (λ j l. refl))
+    -- the first pass performs the rules' releases
+    passed : Passed b₁ k (endings B) b
+    unfolding viewShown
+    passed =
+        rw (eb, ek, en, es, le-leb (entry Layout.system b 1) 32 (few-tasks b m A), endings-shown b m)
+        (pass (endsAt b) (entry Layout.system b 1) 1 b (A .whole .size) (λ j l. refl))
 
-  pub tick-does : {b₂ : List ℕ} {r : Outcome} → b₂ ≡ elapsed b₁ → r ≡ outcome (pos 0) 0 0 k → DoesOnWords Anything ticked r b b₂
-  unfolding ticked viewShown number performs performed
-  tick-does h e m A u = record {
-    says = e ∙ ap (λ (n : ℕ). outcome (pos 0) 0 0 n) (passed m A .1 ∙ sym (tick-releases (endings (bodyShown b m))));
-    words = h ∙ ap elapsed (passed m A .0) ∙ sym (performs-append (map timeout (endings (bodyShown b m))) (elapse ∷ []) b);
-    marks = sym (tick-marks (endings (bodyShown b m)) m);
-  }
+    lapsed : b₂ ≡ performs (lapse B) b
+    unfolding performs performed
+    lapsed = el ∙ ap elapsed (passed .0) ∙ sym (performs-append (map timeout (endings B)) (elapse ∷ []) b)
+
+    -- the memory is accepted, and the alarms are read from it
+    law : Accepted b₂ m × (viewShown b₂ m .body ≡ afters (lapse B) B)
+    law = rw lapsed (words-law (lapse B) b m A (lapse-steps B) (lapse-names B) (lapse-marks B m))
+
+    count : length (B .counter .alarms) ≡ length (viewShown b₂ m .body .counter .alarms)
+    count = sym (ap (λ (c : Body). length (c .counter .alarms)) (law .1) ∙ sizes-afters (lapse B) B .alarms)
+
+    tick-does : {r : Outcome} {b₃ : List ℕ} {t : ℕ} → Performs (rings (viewShown b₂ m .body) (length (viewShown b₂ m .body .counter .alarms)) 1) t b₂ b₃ → r ≡ outcome (pos 0) 0 0 (k + t) → Does (ticked (viewShown b m)) r b m b₃ m
+    unfolding ticked number
+    tick-does {t = t} P e = rw (count, ← law .1) (record {
+      says = e ∙ ap (λ (n : ℕ). outcome (pos 0) 0 0 n) (omega (arith, passed .1, lapse-releases (endings B), P .released, releases-append (lapse B) R));
+      words = P .words ∙ ap (performs R) lapsed ∙ sym (performs-append (lapse B) R b);
+      marks = sym (marks-append (lapse B) R m ∙ ap (performsMarks R) (lapse-marks B m) ∙ rings-marks _ 1 _ m);
+    })
+      where
+        R : List Act
+        R = rings (viewShown b₂ m .body) (length (viewShown b₂ m .body .counter .alarms)) 1
+
+  module _ {z : ℕ} (ez : z ≡ entry Layout.counter b₂ Layout.counterSize) {r : Outcome} where
+    -- there is no counter
+    pub tick-alone : z ≡ 0 → r ≡ outcome (pos 0) 0 0 k → DoesOnWords Anything ticked r b b₂
+    unfolding rings performs
+    tick-alone y e m A u =
+        let q : length (viewShown b₂ m .body .counter .alarms) ≡ 0 = alarms-count b₂ m ∙ ap alarmCount (sym ez ∙ y) in
+        tick-does m A {t = 0} (rw q (record { words = refl; released = refl })) (e ∙ ap (λ (n : ℕ). outcome (pos 0) 0 0 n) (omega arith))
+
+    pub tick-rings : (z ≡ 0 → ⊥) → {t : ℕ} {b₃ : List ℕ} → PerformsOnWords HasCounter (λ v. rings (v .body) maxAlarms 1) t b₂ b₃ → r ≡ outcome (pos 0) 0 0 (k + t) → DoesOnWords Anything ticked r b b₃
+    tick-rings ne P e m A u =
+        let q : length (viewShown b₂ m .body .counter .alarms) ≡ maxAlarms = alarms-count b₂ m ∙ ap alarmCount (sym ez) ∙ eight z ne in
+        tick-does m A (rw q (P m (law m A .0) q)) e
 
 -- ---- the steps of the code
 

@@ -1,8 +1,10 @@
-// The tick: the waits that it ends are released, then the other timed waits lose one and the clock rises. The contract speaks of an accepted
-// memory.
+// The tick: the waits that it ends are released, then the other timed waits lose one and the clock and the counter rise, then the alarms
+// ring. The contract speaks of an accepted memory.
+use call_alarms::ring;
 use call_words::Outcome;
 use call_words::releases;
 use memory_columns::CELL_TMOUT;
+use memory_columns::COUNTER_SIZE;
 use memory_columns::MAX_TASKS;
 use memory_columns::STATE_WORDS;
 use memory_columns::TASKS;
@@ -10,6 +12,7 @@ use memory_columns::TIMED;
 use memory_columns::WAIT;
 use memory_columns::WAIT_SUSPEND;
 use memory_columns::at_most;
+use memory_columns::counter;
 use memory_columns::kind;
 use memory_columns::status;
 use memory_columns::system;
@@ -55,7 +58,7 @@ fn expire(words: &mut [u32; STATE_WORDS], i: u32) -> u32
 fn expire_all(words: &mut [u32; STATE_WORDS], n: u32) -> u32
     requires { ⌜ n ≤ 32 ⌝ }
     ensures { λ _. ⌜ now (words .exit) ≡ expired n 1 (now (words .entry)) ⌝ }
-    ensures { λ r. ⌜ r ≡ expiries n 1 (now (words .entry)) ⌝ }
+    ensures { λ r. ⌜ (r ≡ expiries n 1 (now (words .entry))) × (r ≤ 32) ⌝ }
 {
     let mut count: u32 = 0;
     let mut i: u32 = 1;
@@ -75,5 +78,9 @@ pub fn tick(words: &mut [u32; STATE_WORDS]) -> Outcome
     let n = at_most(system(words, TASKS), MAX_TASKS);
     let count = expire_all(words, n);
     elapse(words);
-    releases(count)
+    if counter(words, COUNTER_SIZE) == 0 {
+        return releases(count);
+    }
+    let rung = ring(words);
+    releases(count + rung)
 }

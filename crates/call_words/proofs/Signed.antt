@@ -1,8 +1,8 @@
--- A signed word as an id or as a pattern: what the tests `z < 1` and `z < 0` tell. A signed local is read back from its bits, `toZ w (ofZ w z)`,
+-- A signed word as an id, as a pattern or without its sign: what the tests `z < 1` and `z < 0` tell. A signed local is read back from its bits, `toZ w (ofZ w z)`,
 -- which is z, since z fits. Assumes nothing.
 use mathlib.Core.Bool.{true, false, true≢false}
 use mathlib.Core.Path.{_≡_, refl, sym, ap, _∙_, subst}
-use Prim.Native.Nat.{ℕ, suc, _-_, _≤_, _<_, _^_}
+use Prim.Native.Nat.{ℕ, suc, _+_, _-_, _≤_, _<_, _^_}
 use native.Mathlib.Omega.{arith}
 use lib.Dec.{T}
 use lib.IntN.{ℤ, pos, negsuc, natAbs, _-ℤ_}
@@ -61,6 +61,10 @@ low-bits : (z : ℤ) → ltZ z (pos 0) ≡ true → mag z < 2 ^ 31 → 429496729
 low-bits (pos n) e h = absurd (omega (arith, ltb-true n 0 e))
 low-bits (negsuc n) e h = omega arith
 
+low-unsigned : (z : ℤ) → ltZ z (pos 0) ≡ true → mag z + 1 ≡ natAbs z
+low-unsigned (pos n) e = absurd (omega (arith, ltb-true n 0 e))
+low-unsigned (negsuc n) e = omega arith
+
 high-bits : (z : ℤ) → ltZ z (pos 0) ≡ false → T (nonNeg z) × (natAbs z ≡ bits z)
 high-bits (pos n) e = (tt, refl)
 high-bits (negsuc n) e = absurd (true≢false e)
@@ -90,6 +94,12 @@ module _ {z : ℤ} (f : SFits w32 z) where
 
     pub below-bits : 4294967295 - natAbs (toZ w32 (ofZ w32 (negsuc 0 -ℤ Read))) ≡ bits z
     below-bits = rw back (low-bits z less (f .sfits))
+
+    pub below-next : Fits w32 (natAbs (toZ w32 (ofZ w32 (negsuc 0 -ℤ Read))) + 1)
+    below-next = rw back (record { fits = let h = f .sfits in omega arith })
+
+    pub below-unsigned : natAbs (toZ w32 (ofZ w32 (negsuc 0 -ℤ Read))) + 1 ≡ natAbs z
+    below-unsigned = rw back (low-unsigned z less)
 
   module _ (l : ltZ Read (pos 0) ≡ false) where
     pub plain-casts : T (nonNeg Read) × Fits w32 (natAbs Read)

@@ -18,6 +18,10 @@ NamesObject k o v = In o (objects (v .body .store) k)
 abbrev pub NamesMessage : ℕ → View → Type 0
 NamesMessage j v = In j (length (v .body .store .messages))
 
+-- there is such an alarm
+abbrev pub NamesAlarm : ℕ → View → Type 0
+NamesAlarm k v = In k (length (v .body .counter .alarms))
+
 -- 0, or a priority
 abbrev pub NamesQueue : ℕ → View → Type 0
 NamesQueue p v = p ≤ v .body .store .priorities

@@ -21,6 +21,10 @@ pub const H_EXIST: i32 = -8;
 
 pub const H_ILBLK: i32 = -10;
 
+pub const H_USED: i32 = -11;
+
+pub const H_IDLE: i32 = -12;
+
 pub const E_TPRI: i32 = -1830;
 
 pub const E_ILTIME: i32 = -1831;

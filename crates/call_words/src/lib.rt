@@ -2,7 +2,7 @@
 pub mod codes;
 
 ghost use mathlib.Core.Path.{_≡_};
-ghost use lib.IntN.{pos};
+ghost use lib.IntN.{pos, natAbs};
 ghost use Rattle.rules.specs.Events.{nat, bits};
 ghost use Rattle.call_words.specs.Outcomes.{outcome};
 
@@ -25,6 +25,17 @@ pub fn bits_of(b: i32) -> u32
         return 4294967295 - (below as u32);
     }
     b as u32
+}
+
+// A word without its sign.
+pub fn unsigned(z: i32) -> u32
+    ensures { λ r. ⌜ r ≡ natAbs z ⌝ }
+{
+    if z < 0 {
+        let below = -1 - z;
+        return (below as u32) + 1;
+    }
+    z as u32
 }
 
 // ---- what a call answers

@@ -7,7 +7,8 @@ use Rattle.rules.specs.Codes.{number}
 use Rattle.rules.specs.State as Kind
 use Rattle.rules.specs.Tasks.{can-wup, chg-pri, cre-tsk, del-tsk, exd-tsk, ext-tsk, rel-wai, rot-rdq, rsm-tsk, sta-tsk, sus-tsk, ter-tsk, tsk-sts, wup-tsk}
 use Rattle.rules.specs.Objects.{clr-flg, obj-sts, rel-blk, set-flg, sig-sem, snd-msg, take-blk, take-flg, take-msg, take-sem, to-first}
-use Rattle.rules.specs.Rows.{staTsk, extTsk, terTsk, chgPri, rotRdq, relWai, susTsk, rsmTsk, slpTsk, waiTsk, wupTsk, canWup, sigSem, waiSem, preqSem, setFlg, clrFlg, waiFlg, polFlg, sndMsg, rcvMsg, prcvMsg, getBlk, pgetBlk, relBlk, getTid, tskSts, semSts, flgSts, mbxSts, mplSts, getTim, creTsk, delTsk, exdTsk}
+use Rattle.rules.specs.Alarms.{set-alm, set-abs, set-rel, can-alm, alm-sts}
+use Rattle.rules.specs.Rows.{staTsk, extTsk, terTsk, chgPri, rotRdq, relWai, susTsk, rsmTsk, slpTsk, waiTsk, wupTsk, canWup, sigSem, waiSem, preqSem, setFlg, clrFlg, waiFlg, polFlg, sndMsg, rcvMsg, prcvMsg, getBlk, pgetBlk, relBlk, getTid, tskSts, semSts, flgSts, mbxSts, mplSts, getTim, creTsk, delTsk, exdTsk, setAbs, setRel, canAlm, almSts}
 use Rattle.rules.specs.Table.{table}
 use Rattle.rules.proofs.Waits.{in-by}
 use Rattle.check_ranges.specs.Ranges.{every}
@@ -348,8 +349,50 @@ exd-tsk-requires c κs = search needs
 refuse-requires-35 : tie.Need-refuse-requires-35
 refuse-requires-35 c κs = search needs
 
+on-setting-requires : tie.Need-on-setting-requires
+on-setting-requires c κs = search needs
+
+named-requires-5 : tie.Need-named-requires-5
+named-requires-5 c κs = search needs
+
+set-abs-requires : tie.Need-set-abs-requires
+set-abs-requires c κs = search needs
+
 refuse-requires-36 : tie.Need-refuse-requires-36
 refuse-requires-36 c κs = search needs
+
+on-setting-requires-2 : tie.Need-on-setting-requires-2
+on-setting-requires-2 c κs = search needs
+
+named-requires-6 : tie.Need-named-requires-6
+named-requires-6 c κs = search needs
+
+set-rel-requires : tie.Need-set-rel-requires
+set-rel-requires c κs = search needs
+
+refuse-requires-37 : tie.Need-refuse-requires-37
+refuse-requires-37 c κs = search needs
+
+on-alarm-requires : tie.Need-on-alarm-requires
+on-alarm-requires c κs = search needs
+
+can-alm-requires : tie.Need-can-alm-requires
+can-alm-requires c κs = search needs
+
+refuse-requires-38 : tie.Need-refuse-requires-38
+refuse-requires-38 c κs = search needs
+
+on-alarm-requires-2 : tie.Need-on-alarm-requires-2
+on-alarm-requires-2 c κs = search needs
+
+alm-sts-requires : tie.Need-alm-sts-requires
+alm-sts-requires c κs = search needs
+
+refuse-requires-39 : tie.Need-refuse-requires-39
+refuse-requires-39 c κs = search needs
+
+refuse-requires-40 : tie.Need-refuse-requires-40
+refuse-requires-40 c κs = search needs
 
 returns : tie.Need-returns
 unfolding table staTsk sta-tsk
@@ -1194,11 +1237,109 @@ returns-70 c =
     arm-refused 34 (λ v. exdTsk v (start .args .me)) (start .args .handler) (start .args .me) (start .args .a) (start .args .b) (start .args .c) (arm .match .keys35) (λ v. refl) (λ A. (judge .on-nothing5 .ensures) _ A) (code-other (judge .on-nothing5 .ok) (some .match36 .rest)) (rw (signed _ (judge .on-nothing5 .ok)) at (c .refuse35 .ensures))
 
 returns-71 : tie.Need-returns-71
-unfolding number every keyed
+unfolding table setAbs set-abs set-alm
 returns-71 c =
+    let period = c .before in
+    let none = period .before .before in
+    let judge = none .before in
+    let arm = judge .before .before in
+    let at-p = arm .before in
+    let at-j = at-p .before in
+    let at-i = at-j .before in
+    let start = at-i .before in
+    arm-done 35 (λ v. setAbs v (start .args .a) (start .args .b) (start .args .c)) (start .args .handler) (start .args .me) (start .args .a) (start .args .b) (start .args .c) (arm .match .keys36) (λ v. refl) (λ A. rw (rw (toZ-ofZ (start .fits .a)) at (at-i .named .ensures), toZ-ofZ (start .fits .b), toZ-ofZ (start .fits .c)) at ((judge .on-setting .ensures) _ A)) (code-zero (judge .on-setting .ok) (none .match37 .keys1)) (λ A t. (rw (rw (toZ-ofZ (start .fits .a)) at (at-i .named .ensures), rw (toZ-ofZ (start .fits .b)) at (at-j .named2 .ensures), rw (toZ-ofZ (start .fits .c)) at (period .named5 .ensures)) at (c .set-abs .ensures)) _ A (in-by (start .args .a) _ (t .words .0)))
+
+returns-72 : tie.Need-returns-72
+unfolding table setAbs
+returns-72 c =
+    let some = c .before in
+    let judge = some .before in
+    let arm = judge .before .before in
+    let at-p = arm .before in
+    let at-j = at-p .before in
+    let at-i = at-j .before in
+    let start = at-i .before in
+    arm-refused 35 (λ v. setAbs v (start .args .a) (start .args .b) (start .args .c)) (start .args .handler) (start .args .me) (start .args .a) (start .args .b) (start .args .c) (arm .match .keys36) (λ v. refl) (λ A. rw (rw (toZ-ofZ (start .fits .a)) at (at-i .named .ensures), toZ-ofZ (start .fits .b), toZ-ofZ (start .fits .c)) at ((judge .on-setting .ensures) _ A)) (code-other (judge .on-setting .ok) (some .match37 .rest)) (rw (signed _ (judge .on-setting .ok)) at (c .refuse36 .ensures))
+
+returns-73 : tie.Need-returns-73
+unfolding table setRel set-rel set-alm
+returns-73 c =
+    let period = c .before in
+    let none = period .before .before in
+    let judge = none .before in
+    let arm = judge .before .before in
+    let at-p = arm .before in
+    let at-j = at-p .before in
+    let at-i = at-j .before in
+    let start = at-i .before in
+    arm-done 36 (λ v. setRel v (start .args .a) (start .args .b) (start .args .c)) (start .args .handler) (start .args .me) (start .args .a) (start .args .b) (start .args .c) (arm .match .keys37) (λ v. refl) (λ A. rw (rw (toZ-ofZ (start .fits .a)) at (at-i .named .ensures), toZ-ofZ (start .fits .b), toZ-ofZ (start .fits .c)) at ((judge .on-setting2 .ensures) _ A)) (code-zero (judge .on-setting2 .ok) (none .match38 .keys1)) (λ A t. (rw (rw (toZ-ofZ (start .fits .a)) at (at-i .named .ensures), rw (toZ-ofZ (start .fits .b)) at (at-j .named2 .ensures), rw (toZ-ofZ (start .fits .c)) at (period .named6 .ensures)) at (c .set-rel .ensures)) _ A (in-by (start .args .a) _ (t .words .0)))
+
+returns-74 : tie.Need-returns-74
+unfolding table setRel
+returns-74 c =
+    let some = c .before in
+    let judge = some .before in
+    let arm = judge .before .before in
+    let at-p = arm .before in
+    let at-j = at-p .before in
+    let at-i = at-j .before in
+    let start = at-i .before in
+    arm-refused 36 (λ v. setRel v (start .args .a) (start .args .b) (start .args .c)) (start .args .handler) (start .args .me) (start .args .a) (start .args .b) (start .args .c) (arm .match .keys37) (λ v. refl) (λ A. rw (rw (toZ-ofZ (start .fits .a)) at (at-i .named .ensures), toZ-ofZ (start .fits .b), toZ-ofZ (start .fits .c)) at ((judge .on-setting2 .ensures) _ A)) (code-other (judge .on-setting2 .ok) (some .match38 .rest)) (rw (signed _ (judge .on-setting2 .ok)) at (c .refuse37 .ensures))
+
+returns-75 : tie.Need-returns-75
+unfolding table canAlm can-alm
+returns-75 c =
+    let none = c .before .before in
+    let judge = none .before in
+    let arm = judge .before .before in
+    let at-p = arm .before in
+    let at-j = at-p .before in
+    let at-i = at-j .before in
+    let start = at-i .before in
+    arm-done 37 (λ v. canAlm v (start .args .a)) (start .args .handler) (start .args .me) (start .args .a) (start .args .b) (start .args .c) (arm .match .keys38) (λ v. refl) (λ A. rw (rw (toZ-ofZ (start .fits .a)) at (at-i .named .ensures)) at ((judge .on-alarm .ensures) _ A)) (code-zero (judge .on-alarm .ok) (none .match39 .keys1)) (λ A t. (rw (rw (toZ-ofZ (start .fits .a)) at (at-i .named .ensures)) at (c .can-alm .ensures)) _ A (in-by (start .args .a) _ (t .words .0)))
+
+returns-76 : tie.Need-returns-76
+unfolding table canAlm
+returns-76 c =
+    let some = c .before in
+    let judge = some .before in
+    let arm = judge .before .before in
+    let at-p = arm .before in
+    let at-j = at-p .before in
+    let at-i = at-j .before in
+    let start = at-i .before in
+    arm-refused 37 (λ v. canAlm v (start .args .a)) (start .args .handler) (start .args .me) (start .args .a) (start .args .b) (start .args .c) (arm .match .keys38) (λ v. refl) (λ A. rw (rw (toZ-ofZ (start .fits .a)) at (at-i .named .ensures)) at ((judge .on-alarm .ensures) _ A)) (code-other (judge .on-alarm .ok) (some .match39 .rest)) (rw (signed _ (judge .on-alarm .ok)) at (c .refuse38 .ensures))
+
+returns-77 : tie.Need-returns-77
+unfolding table almSts alm-sts
+returns-77 c =
+    let none = c .before .before in
+    let judge = none .before in
+    let arm = judge .before .before in
+    let at-p = arm .before in
+    let at-j = at-p .before in
+    let at-i = at-j .before in
+    let start = at-i .before in
+    arm-done 38 (λ v. almSts v (start .args .a)) (start .args .handler) (start .args .me) (start .args .a) (start .args .b) (start .args .c) (arm .match .keys39) (λ v. refl) (λ A. rw (rw (toZ-ofZ (start .fits .a)) at (at-i .named .ensures)) at ((judge .on-alarm2 .ensures) _ A)) (code-zero (judge .on-alarm2 .ok) (none .match40 .keys1)) (λ A t. (rw (rw (toZ-ofZ (start .fits .a)) at (at-i .named .ensures)) at (c .alm-sts .ensures)) _ A (in-by (start .args .a) _ (t .words .0)))
+
+returns-78 : tie.Need-returns-78
+unfolding table almSts
+returns-78 c =
+    let some = c .before in
+    let judge = some .before in
+    let arm = judge .before .before in
+    let at-p = arm .before in
+    let at-j = at-p .before in
+    let at-i = at-j .before in
+    let start = at-i .before in
+    arm-refused 38 (λ v. almSts v (start .args .a)) (start .args .handler) (start .args .me) (start .args .a) (start .args .b) (start .args .c) (arm .match .keys39) (λ v. refl) (λ A. rw (rw (toZ-ofZ (start .fits .a)) at (at-i .named .ensures)) at ((judge .on-alarm2 .ensures) _ A)) (code-other (judge .on-alarm2 .ok) (some .match40 .rest)) (rw (signed _ (judge .on-alarm2 .ok)) at (c .refuse39 .ensures))
+
+returns-79 : tie.Need-returns-79
+unfolding number every keyed
+returns-79 c =
     let arm = c .before in
     let start = arm .before .before .before .before in
-    arm-none (start .args .handler) (start .args .me) (start .args .n) (start .args .a) (start .args .b) (start .args .c) (λ v. no-row v _ _ _ _ _ _ ((35 ∷ []) ∷ (34 ∷ []) ∷ (33 ∷ []) ∷ (32 ∷ []) ∷ (31 ∷ []) ∷ (30 ∷ []) ∷ (29 ∷ []) ∷ (28 ∷ []) ∷ (27 ∷ []) ∷ (26 ∷ []) ∷ (25 ∷ []) ∷ (24 ∷ []) ∷ (23 ∷ []) ∷ (22 ∷ []) ∷ (21 ∷ []) ∷ (20 ∷ []) ∷ (19 ∷ []) ∷ (18 ∷ []) ∷ (17 ∷ []) ∷ (16 ∷ []) ∷ (15 ∷ []) ∷ (14 ∷ []) ∷ (13 ∷ []) ∷ (12 ∷ []) ∷ (11 ∷ []) ∷ (10 ∷ []) ∷ (9 ∷ []) ∷ (8 ∷ []) ∷ (7 ∷ []) ∷ (6 ∷ []) ∷ (5 ∷ []) ∷ (4 ∷ []) ∷ (3 ∷ []) ∷ (2 ∷ []) ∷ (1 ∷ []) ∷ []) refl (arm .match .rest)) (c .refuse36 .ensures)
+    arm-none (start .args .handler) (start .args .me) (start .args .n) (start .args .a) (start .args .b) (start .args .c) (λ v. no-row v _ _ _ _ _ _ ((39 ∷ []) ∷ (38 ∷ []) ∷ (37 ∷ []) ∷ (36 ∷ []) ∷ (35 ∷ []) ∷ (34 ∷ []) ∷ (33 ∷ []) ∷ (32 ∷ []) ∷ (31 ∷ []) ∷ (30 ∷ []) ∷ (29 ∷ []) ∷ (28 ∷ []) ∷ (27 ∷ []) ∷ (26 ∷ []) ∷ (25 ∷ []) ∷ (24 ∷ []) ∷ (23 ∷ []) ∷ (22 ∷ []) ∷ (21 ∷ []) ∷ (20 ∷ []) ∷ (19 ∷ []) ∷ (18 ∷ []) ∷ (17 ∷ []) ∷ (16 ∷ []) ∷ (15 ∷ []) ∷ (14 ∷ []) ∷ (13 ∷ []) ∷ (12 ∷ []) ∷ (11 ∷ []) ∷ (10 ∷ []) ∷ (9 ∷ []) ∷ (8 ∷ []) ∷ (7 ∷ []) ∷ (6 ∷ []) ∷ (5 ∷ []) ∷ (4 ∷ []) ∷ (3 ∷ []) ∷ (2 ∷ []) ∷ (1 ∷ []) ∷ []) refl (arm .match .rest)) (c .refuse40 .ensures)
 
 pub dispatch-spec : {M : Type 1} → statement M
 dispatch-spec =
@@ -1314,7 +1455,21 @@ dispatch-spec =
     on-nothing-requires-5
     exd-tsk-requires
     refuse-requires-35
+    on-setting-requires
+    named-requires-5
+    set-abs-requires
     refuse-requires-36
+    on-setting-requires-2
+    named-requires-6
+    set-rel-requires
+    refuse-requires-37
+    on-alarm-requires
+    can-alm-requires
+    refuse-requires-38
+    on-alarm-requires-2
+    alm-sts-requires
+    refuse-requires-39
+    refuse-requires-40
     returns
     returns-2
     returns-3
@@ -1385,4 +1540,12 @@ dispatch-spec =
     returns-68
     returns-69
     returns-70
-    returns-71)
+    returns-71
+    returns-72
+    returns-73
+    returns-74
+    returns-75
+    returns-76
+    returns-77
+    returns-78
+    returns-79)

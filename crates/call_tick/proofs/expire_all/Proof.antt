@@ -9,7 +9,7 @@ use Rattle.call_tick.proofs.expire_all.Statement.{statement}
 use Rattle.call_tick.proofs.expire_all.Tie as tie
 
 abbrev Inv-loop : tie.InvT-loop
-Inv-loop words₀ n count₀ i₀ left₀ words count i left = Along count left i words (expired n 1 words₀) (expiries n 1 words₀) × (i + left ≡ n + 1) × (count ≤ i)
+Inv-loop words₀ n count₀ i₀ left₀ words count i left = Along count left i words (expired n 1 words₀) (expiries n 1 words₀) × (i + left ≡ n + 1) × (count + left ≤ n)
 
 abbrev μ-loop : tie.MeasureT-loop
 μ-loop words₀ n count₀ i₀ left₀ words count i left = left
@@ -40,7 +40,10 @@ loop-again c =
     (expire-step _ _ _ _ (i .loop-test .taken) (r .0) (r .1 .0) (h .0), omega arith, omega (arith, r .1 .1))
 
 returns : tie.Need-returns Inv-loop μ-loop
-returns c = expire-none _ _ _ _ (c .loop-test .left) (c .before .loop .inv .0)
+returns c =
+    let h = c .before .loop .inv in
+    let r = expire-none _ _ _ _ (c .loop-test .left) (h .0) in
+    (r .0, (r .1, omega (arith, h .1, h .2)))
 
 pub expire-all-spec : {M : Type 1} → statement M
 expire-all-spec = tie.close (tie.spec Inv-loop μ-loop loop-holds expire-requires add-count add-i sub-left loop-less loop-again returns)

@@ -1,0 +1,44 @@
+-- `call_alarms::can_alm` meets its contract. It is its rule. Assumes nothing.
+use Rattle.rules.specs.Codes.{number}
+use Rattle.call_alarms.proofs.AlarmCalls.{can-idle, can-done}
+use borrow.Author.Needs.{needs}
+use Rattle.call_alarms.proofs.can_alm.Statement.{statement}
+use Rattle.call_alarms.proofs.can_alm.Tie as tie
+
+alarm-due-requires : tie.Need-alarm-due-requires
+alarm-due-requires c κs = search needs
+
+refuse-requires : tie.Need-refuse-requires
+refuse-requires c κs = search needs
+
+returns : tie.Need-returns
+unfolding number
+returns c = let first = c .before in can-idle _ (first .before .alarm-due .ensures) (first .if1 .taken) (c .refuse .ensures)
+
+alarm-code-requires : tie.Need-alarm-code-requires
+alarm-code-requires c κs = search needs
+
+set-alarm-requires : tie.Need-set-alarm-requires
+set-alarm-requires c κs = search needs
+
+done-requires : tie.Need-done-requires
+done-requires c κs = search needs
+
+returns-2 : tie.Need-returns-2
+returns-2 c =
+    let at-set = c .before in
+    let at-code = at-set .before .before in
+    let first = at-code .before .before in
+    can-done _ (first .before .alarm-due .ensures) (first .if1 .left) (at-code .alarm-code .ensures) (at-set .set-alarm .ensures) (c .done .ensures)
+
+pub can-alm-spec : {M : Type 1} → statement M
+can-alm-spec =
+    tie.close
+    (tie.spec
+    alarm-due-requires
+    refuse-requires
+    returns
+    alarm-code-requires
+    set-alarm-requires
+    done-requires
+    returns-2)
