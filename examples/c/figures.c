@@ -7,7 +7,7 @@
    It prints:
 
        a whole run: the end: 0
-       the same without its last byte: the end: 1 at 104
+       the same without its last byte: the end: 1 at 108
        month of 2 records: 0
        task 1: 0 2 1 0 0 0 0
        task 2: 0 3 0 0 0 0 0
@@ -35,6 +35,7 @@ static const uint8_t run[] = {
     WORD(1),                                                       /* a mailbox */
     WORD(2),                                                       /* messages */
     WORD(1), WORD(2),                                              /* a pool: blocks */
+    WORD(0),                                                       /* no counter */
     WORD(2),                                                       /* events: kind, call, a, b, c */
     WORD(OKROZUMBA_TASK), WORD(OKROZUMBA_STA_TSK), WORD(3), WORD(0), WORD(0),
     WORD(OKROZUMBA_TASK), WORD(OKROZUMBA_SLP_TSK), WORD(0), WORD(0), WORD(0),

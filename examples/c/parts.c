@@ -7,11 +7,11 @@
    It prints:
 
        start 1
-       70 bytes taken, runs 1
+       77 bytes taken, runs 1
        1 0 0 0 3 0
-       91 bytes taken, runs 3
+       98 bytes taken, runs 3
        2 1 0 0 1 0
-       108 bytes taken, runs 1
+       112 bytes taken, runs 1
        the end: 0
        one more end: 5
        another byte: 5 */
@@ -33,6 +33,7 @@ static const uint8_t run[] = {
     WORD(1),                                                       /* a mailbox */
     WORD(2),                                                       /* messages */
     WORD(1), WORD(2),                                              /* a pool: blocks */
+    WORD(0),                                                       /* no counter */
     WORD(2),                                                       /* events: kind, call, a, b, c */
     WORD(OKROZUMBA_TASK), WORD(OKROZUMBA_STA_TSK), WORD(3), WORD(0), WORD(0),
     WORD(OKROZUMBA_TASK), WORD(OKROZUMBA_SLP_TSK), WORD(0), WORD(0), WORD(0),

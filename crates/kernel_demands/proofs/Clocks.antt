@@ -18,9 +18,9 @@ use Rattle.memory_columns.specs.Layout.{words, entry}
 use Rattle.memory_columns.proofs.Frame.{words-length}
 use Rattle.memory_queues.specs.Moves.{readyAnchor}
 use Rattle.memory_running.specs.Running.{headAt, marksOf, readyMarks}
-use Rattle.memory_picture.specs.Picture.{taskShown, storeShown, handlersShown, bodyShown, lineShown, viewShown, Accepted}
+use Rattle.memory_picture.specs.Picture.{taskShown, storeShown, handlersShown, alarmShown, counterShown, bodyShown, lineShown, viewShown, Accepted}
 use Rattle.memory_picture.proofs.FormWords.{back-clock}
-use Rattle.check_ranges.specs.Ranges.{sizesOk, presentOk, vacantOk, taskOk, waitOk, stateOk, semaphoreOk, flagOk, poolOk, messageOk, openOk, interruptedOk, rangesOk}
+use Rattle.check_ranges.specs.Ranges.{sizesOk, presentOk, vacantOk, taskOk, waitOk, stateOk, semaphoreOk, flagOk, poolOk, messageOk, openOk, interruptedOk, alarmOk, countOk, rangesOk}
 use Rattle.check_queues.specs.Queues.{home, blockHome, atHome, queuedIn}
 use Rattle.check_state.specs.Unserved.{waitFree, unservedOk, accepts}
 use Rattle.check_state.proofs.Accepted.{accepts-law}
@@ -45,8 +45,8 @@ module _ {b m : List ℕ} (A : Accepted b m) (t : ℕ) where
   wide = words-length Layout.system b (A .whole .size) refl
 
   pub clock-shown : viewShown (clockSet t b) m ≡ record { body = at-clock t (viewShown b m .body); lines = viewShown b m .lines }
-  unfolding viewShown bodyShown storeShown taskShown handlersShown lineShown tabulate
-  clock-shown = simp (col-store, counts, low-half, high-half, wide, back-clock, taskShown, entry)
+  unfolding viewShown bodyShown storeShown taskShown handlersShown alarmShown counterShown lineShown tabulate
+  clock-shown = simp (col-store, counts, low-half, high-half, wide, back-clock, taskShown, alarmShown, entry)
 
   module _ (h : t < 2 ^ 48) where
     -- the clock's halves are in range, before and after
@@ -79,8 +79,8 @@ module _ {b m : List ℕ} (A : Accepted b m) (t : ℕ) where
 
     -- no other test reads the clock
     tests : accepts (clockSet t b) m ≡ accepts b m
-    unfolding accepts rangesOk queuedIn presentOk vacantOk taskOk stateOk waitOk poolOk openOk interruptedOk atHome home blockHome unservedOk waitFree
-    tests = simp (sizes, ready, col-store, counts, presentOk, vacantOk, taskOk, semaphoreOk, flagOk, poolOk, messageOk, atHome, unservedOk)
+    unfolding accepts rangesOk queuedIn presentOk vacantOk taskOk stateOk waitOk poolOk openOk interruptedOk alarmOk countOk atHome home blockHome unservedOk waitFree
+    tests = simp (sizes, ready, col-store, counts, presentOk, vacantOk, taskOk, semaphoreOk, flagOk, poolOk, messageOk, alarmOk, atHome, unservedOk)
 
     pub clock-accepted : Accepted (clockSet t b) m
     clock-accepted = accepts-law (clockSet t b) m (simp length-store (A .whole .size)) (A .whole .marks) .0 (tests ∙ accepts-law b m (A .whole .size) (A .whole .marks) .1 A)

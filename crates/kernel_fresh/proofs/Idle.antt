@@ -1,23 +1,26 @@
 -- The words that the start lays, part by part. Assumes nothing.
-use Prim.Native.Nat.{ℕ, _+_, _-_, _≤_, _<_}
-use mathlib.Core.Bool.{true}
+use Prim.Native.Nat.{ℕ, _+_, _-_, _*_, _≤_, _<_}
+use mathlib.Core.Bool.{Bool, true, false, cond}
 use mathlib.Core.List.{List, [], _∷_}
 use mathlib.Core.Logic.{_⊎_, inl, inr}
 use mathlib.Core.Path.{_≡_, refl, ap, _∙_}
 use native.Mathlib.Omega.{arith}
+use lib.Dec.{eqb}
 use lib.ListN.{length, getD, set, replicate}
+use borrow.Author.Tests.{eq-eqb, ne-eqb}
 use Rattle.rules.specs.Ids.{In}
+use Rattle.rules.specs.Setup.{wordAt}
 use Rattle.memory_rings.proofs.Columns.{col-store, length-store}
 use Rattle.setup.specs.declared.Plan.{Plan}
 use Rattle.setup.specs.Layout.{PlanFits}
 use Rattle.memory_columns.specs.declared.Rings.{Rings}
 use Rattle.memory_columns.specs.declared.Rings.the-variants.{Tasks, Messages, Blocks}
 use Rattle.memory_columns.specs.Layout as Layout
-use Rattle.memory_columns.specs.Layout.{Column, readyNode, mailNode, freeNode, nextOf, prevOf, linksOf, fits, clear, words, entry, Only}
+use Rattle.memory_columns.specs.Layout.{Column, maxAlarms, atMost, readyNode, mailNode, freeNode, nextOf, prevOf, linksOf, fits, clear, words, entry, Only}
 use Rattle.memory_columns.proofs.Frame.{Sized, words-length, put-only, only-none, only-both, only-on}
 use Rattle.memory_queues.specs.Moves.{emptied as emptiedAt}
 use Rattle.memory_queues.proofs.Relinks.{emptied-law}
-use Rattle.kernel_fresh.specs.Laying.{inTurn, counted, wordOfId, laidTask, laidSemaphore, laidFlag, laidPool, entered, anchorsOf, emptiedQueues, emptied}
+use Rattle.kernel_fresh.specs.Laying.{inTurn, counted, wordOfId, laidTask, laidSemaphore, laidFlag, laidPool, laidAlarm, laidCounter, entered, anchorsOf, emptiedQueues, emptied}
 use Rattle.kernel_fresh.proofs.Turns.{Within, turn-size, turn-only, turn-length, turn-below, turn-right, turn-at, queues-within}
 
 -- ---- counts
@@ -40,9 +43,13 @@ counted-system p b e = simp (col-store, e)
 
 -- ---- entries
 
+-- what the counter's entry is written into
+abbrev counterColumns : List Column
+counterColumns = Layout.counter ∷ Layout.alarmTask ∷ Layout.alarmWakes ∷ []
+
 -- what the entries of a setup are written into
 abbrev pub entryColumns : List Column
-entryColumns = Layout.priority ∷ Layout.start ∷ Layout.semaphore ∷ Layout.flag ∷ Layout.size ∷ []
+entryColumns = Layout.priority ∷ Layout.start ∷ Layout.semaphore ∷ Layout.flag ∷ Layout.size ∷ counterColumns
 
 module _ (s : List ℕ) (at : ℕ) where
   tasks-within : Within (Layout.priority ∷ Layout.start ∷ []) (laidTask s at)
@@ -63,6 +70,13 @@ module _ (s : List ℕ) (at : ℕ) where
   pools-within : Within (Layout.size ∷ []) (laidPool s at)
   unfolding laidPool
   pools-within = record { size = λ i b h. simp length-store h; only = λ i b h. put-only Layout.size i _ b }
+
+  alarms-within : Within (Layout.alarmTask ∷ Layout.alarmWakes ∷ []) (laidAlarm s at)
+  unfolding laidAlarm
+  alarms-within = record {
+    size = λ i b h. simp length-store h;
+    only = λ i b h. only-both (put-only Layout.alarmTask i _ b) (put-only Layout.alarmWakes i _ _);
+  }
 
   module _ (i : ℕ) (b : List ℕ) where
     writes-priority : words Layout.priority (laidTask s at i b) ≡ set (words Layout.priority b) i (wordOfId s at 8 i)
@@ -85,11 +99,63 @@ module _ (s : List ℕ) (at : ℕ) where
     unfolding laidPool
     writes-size = simp col-store
 
+    writes-alarm-task : words Layout.alarmTask (laidAlarm s at i b) ≡ set (words Layout.alarmTask b) i (wordAt s (at + (8 * (i - 1) + 4)))
+    unfolding laidAlarm
+    writes-alarm-task = simp col-store
+
+    writes-alarm-wakes : words Layout.alarmWakes (laidAlarm s at i b) ≡ set (words Layout.alarmWakes b) i (atMost (wordAt s (at + (8 * (i - 1) + 8))) 1)
+    unfolding laidAlarm
+    writes-alarm-wakes = simp col-store
+
 -- turn i writes g i at i of a column: after the turns of the ids 1 to n, each of them has its word there
 turned : {w : List Column} {f : ℕ → List ℕ → List ℕ} (W : Within w f) (d : Column) (g : ℕ → ℕ) → ((i : ℕ) (b : List ℕ) → words d (f i b) ≡ set (words d b) i (g i))
     → fits d ≡ true → (n : ℕ) (b : List ℕ) → Sized b → (i : ℕ) → In i n → n < d .width → entry d (inTurn f n 1 b) i ≡ g i
 turned W d g w k n b h i r l =
     turn-at W (words d) g (λ i b h. w i b) n 1 b h i (r .0) (omega (arith, r .1)) (rw (words-length d b h k) (omega (arith, r .1)))
+
+-- the counter, if there is one
+module _ (s : List ℕ) (at n : ℕ) (b : List ℕ) (h : Sized b) where
+  abbrev sized : List ℕ
+  sized = Layout.put Layout.counter Layout.counterSize (wordAt s at) b
+
+  sized-size : Sized sized
+  sized-size = simp length-store h
+
+  counter-size : Sized (laidCounter s at n b)
+  unfolding laidCounter
+  counter-size = go (eqb n 0)
+    where
+      go : (t : Bool) → Sized (cond t b (inTurn (laidAlarm s at) maxAlarms 1 sized))
+      go true = h
+      go false = turn-size (alarms-within s at) maxAlarms 1 sized sized-size
+
+  counter-only : Only counterColumns b (laidCounter s at n b)
+  unfolding laidCounter
+  counter-only = go (eqb n 0)
+    where
+      go : (t : Bool) → Only counterColumns b (cond t b (inTurn (laidAlarm s at) maxAlarms 1 sized))
+      go true = only-none counterColumns b
+      go false = only-both (put-only Layout.counter Layout.counterSize _ b) (turn-only (alarms-within s at) maxAlarms 1 sized sized-size)
+
+  -- there is none: nothing is written
+  no-counter : n ≡ 0 → laidCounter s at n b ≡ b
+  unfolding laidCounter
+  no-counter e = rw (eq-eqb n 0 e)
+
+  -- there is one
+  module _ (e : n ≡ 1) where
+    one-counter : laidCounter s at n b ≡ inTurn (laidAlarm s at) maxAlarms 1 sized
+    unfolding laidCounter
+    one-counter = rw (ne-eqb n 0 (λ d. omega (arith, d, e)))
+
+    counter-words : words Layout.counter (laidCounter s at n b) ≡ set (words Layout.counter b) Layout.counterSize (wordAt s at)
+    counter-words = ap (words Layout.counter) one-counter ∙ turn-only (alarms-within s at) maxAlarms 1 sized sized-size .kept Layout.counter refl ∙ simp col-store
+
+    alarm-task : (k : ℕ) → In k maxAlarms → entry Layout.alarmTask (laidCounter s at n b) k ≡ wordAt s (at + (8 * (k - 1) + 4))
+    alarm-task k r = ap (λ (l : List ℕ). entry Layout.alarmTask l k) one-counter ∙ turned (alarms-within s at) Layout.alarmTask _ (writes-alarm-task s at) refl maxAlarms sized sized-size k r (omega arith)
+
+    alarm-wakes : (k : ℕ) → In k maxAlarms → entry Layout.alarmWakes (laidCounter s at n b) k ≡ atMost (wordAt s (at + (8 * (k - 1) + 8))) 1
+    alarm-wakes k r = ap (λ (l : List ℕ). entry Layout.alarmWakes l k) one-counter ∙ turned (alarms-within s at) Layout.alarmWakes _ (writes-alarm-wakes s at) refl maxAlarms sized sized-size k r (omega arith)
 
 module _ (s : List ℕ) (p : Plan) (F : PlanFits p (length s)) (b : List ℕ) (h : Sized b) where
   abbrev tasks : List ℕ
@@ -101,6 +167,9 @@ module _ (s : List ℕ) (p : Plan) (F : PlanFits p (length s)) (b : List ℕ) (h
   abbrev flags : List ℕ
   flags = inTurn (laidFlag s (p .at .flags)) (p .flags) 1 semaphores
 
+  abbrev pools : List ℕ
+  pools = inTurn (laidPool s (p .at .pools)) (p .pools) 1 flags
+
   tasks-size : Sized tasks
   tasks-size = turn-size (tasks-within s (p .at .tasks)) (p .tasks) 1 b h
 
@@ -110,19 +179,25 @@ module _ (s : List ℕ) (p : Plan) (F : PlanFits p (length s)) (b : List ℕ) (h
   flags-size : Sized flags
   flags-size = turn-size (flags-within s (p .at .flags)) (p .flags) 1 semaphores semaphores-size
 
+  pools-size : Sized pools
+  pools-size = turn-size (pools-within s (p .at .pools)) (p .pools) 1 flags flags-size
+
   pub entered-size : Sized (entered s p b)
   unfolding entered
-  entered-size = turn-size (pools-within s (p .at .pools)) (p .pools) 1 flags flags-size
+  entered-size = counter-size s (p .at .counter) (p .counters) pools pools-size
 
   -- what the later ones leave of each
-  after-pools : Only (Layout.size ∷ []) flags (entered s p b)
+  after-counter : Only counterColumns pools (entered s p b)
   unfolding entered
-  after-pools = turn-only (pools-within s (p .at .pools)) (p .pools) 1 flags flags-size
+  after-counter = counter-only s (p .at .counter) (p .counters) pools pools-size
 
-  after-flags : Only (Layout.flag ∷ Layout.size ∷ []) semaphores (entered s p b)
+  after-pools : Only (Layout.size ∷ counterColumns) flags (entered s p b)
+  after-pools = only-both (turn-only (pools-within s (p .at .pools)) (p .pools) 1 flags flags-size) after-counter
+
+  after-flags : Only (Layout.flag ∷ Layout.size ∷ counterColumns) semaphores (entered s p b)
   after-flags = only-both (turn-only (flags-within s (p .at .flags)) (p .flags) 1 semaphores semaphores-size) after-pools
 
-  after-semaphores : Only (Layout.semaphore ∷ Layout.flag ∷ Layout.size ∷ []) tasks (entered s p b)
+  after-semaphores : Only (Layout.semaphore ∷ Layout.flag ∷ Layout.size ∷ counterColumns) tasks (entered s p b)
   after-semaphores = only-both (turn-only (semaphores-within s (p .at .semaphores)) (p .semaphores) 1 tasks tasks-size) after-flags
 
   pub entered-only : Only entryColumns b (entered s p b)
@@ -150,8 +225,34 @@ module _ (s : List ℕ) (p : Plan) (F : PlanFits p (length s)) (b : List ℕ) (h
         ∙ turned (flags-within s (p .at .flags)) Layout.flag _ (writes-flag s (p .at .flags)) refl (p .flags) semaphores semaphores-size i r (omega (arith, F .flags))
 
     pub entered-size-of : In i (p .pools) → entry Layout.size (entered s p b) i ≡ wordOfId s (p .at .pools) 4 i
+    entered-size-of r =
+        ap (λ (l : List ℕ). getD l i 0) (after-counter .kept Layout.size refl)
+        ∙ turned (pools-within s (p .at .pools)) Layout.size _ (writes-size s (p .at .pools)) refl (p .pools) flags flags-size i r (omega (arith, F .pools))
+
+  before-counter : Only (Layout.priority ∷ Layout.start ∷ Layout.semaphore ∷ Layout.flag ∷ Layout.size ∷ []) b pools
+  before-counter =
+      only-both (turn-only (tasks-within s (p .at .tasks)) (p .tasks) 1 b h) (only-both (turn-only (semaphores-within s (p .at .semaphores)) (p .semaphores) 1 tasks tasks-size)
+      (only-both (turn-only (flags-within s (p .at .flags)) (p .flags) 1 semaphores semaphores-size) (turn-only (pools-within s (p .at .pools)) (p .pools) 1 flags flags-size)))
+
+  -- with no counter its column stays
+  pub entered-none : p .counters ≡ 0 → words Layout.counter (entered s p b) ≡ words Layout.counter b
+  unfolding entered
+  entered-none e = ap (words Layout.counter) (no-counter s (p .at .counter) (p .counters) pools pools-size e) ∙ before-counter .kept Layout.counter refl
+
+  module _ (e : p .counters ≡ 1) where
+    pub entered-counter : words Layout.counter (entered s p b) ≡ set (words Layout.counter b) Layout.counterSize (wordAt s (p .at .counter))
     unfolding entered
-    entered-size-of r = turned (pools-within s (p .at .pools)) Layout.size _ (writes-size s (p .at .pools)) refl (p .pools) flags flags-size i r (omega (arith, F .pools))
+    entered-counter =
+        counter-words s (p .at .counter) (p .counters) pools pools-size e
+        ∙ ap (λ (l : List ℕ). set l Layout.counterSize (wordAt s (p .at .counter))) (before-counter .kept Layout.counter refl)
+
+    pub entered-alarm-task : (k : ℕ) → In k maxAlarms → entry Layout.alarmTask (entered s p b) k ≡ wordAt s (p .at .counter + (8 * (k - 1) + 4))
+    unfolding entered
+    entered-alarm-task = alarm-task s (p .at .counter) (p .counters) pools pools-size e
+
+    pub entered-alarm-wakes : (k : ℕ) → In k maxAlarms → entry Layout.alarmWakes (entered s p b) k ≡ atMost (wordAt s (p .at .counter + (8 * (k - 1) + 8))) 1
+    unfolding entered
+    entered-alarm-wakes = alarm-wakes s (p .at .counter) (p .counters) pools pools-size e
 
 -- ---- queues
 

@@ -14,7 +14,7 @@ use Rattle.memory_columns.specs.declared.Rings.the-variants.{Tasks, Messages, B
 use Rattle.memory_columns.specs.Layout as Layout
 use Rattle.memory_columns.specs.Layout.{system, stateWords, readyNode, waitNode, mailNode, freeNode, put}
 use Rattle.memory_queues.specs.Moves.{emptied as emptiedAt}
-use Rattle.kernel_fresh.specs.Laying.{inTurn, counted, laidTask, laidSemaphore, laidFlag, laidPool, entered, emptiedQueues, emptied, laid}
+use Rattle.kernel_fresh.specs.Laying.{inTurn, counted, laidTask, laidSemaphore, laidFlag, laidPool, laidCounter, entered, emptiedQueues, emptied, laid}
 
 -- ---- loops over ids
 
@@ -47,11 +47,11 @@ word-past s i h = rw (past i (omega arith), past (i + 1) (omega arith), past (i 
 
 -- ---- the parts of a plan
 
-pub entry-steps : (s : List ℕ) (p : Plan) (b : List ℕ) {b₁ b₂ b₃ b₄ : List ℕ} → b₁ ≡ inTurn (laidTask s (p .at .tasks)) (p .tasks) 1 b
+pub entry-steps : (s : List ℕ) (p : Plan) (b : List ℕ) {b₁ b₂ b₃ b₄ b₅ : List ℕ} → b₁ ≡ inTurn (laidTask s (p .at .tasks)) (p .tasks) 1 b
     → b₂ ≡ inTurn (laidSemaphore s (p .at .semaphores)) (p .semaphores) 1 b₁ → b₃ ≡ inTurn (laidFlag s (p .at .flags)) (p .flags) 1 b₂
-    → b₄ ≡ inTurn (laidPool s (p .at .pools)) (p .pools) 1 b₃ → b₄ ≡ entered s p b
+    → b₄ ≡ inTurn (laidPool s (p .at .pools)) (p .pools) 1 b₃ → b₅ ≡ laidCounter s (p .at .counter) (p .counters) b₄ → b₅ ≡ entered s p b
 unfolding entered
-entry-steps s p b e₁ e₂ e₃ e₄ = e₄ ∙ rw (e₃, e₂, e₁)
+entry-steps s p b e₁ e₂ e₃ e₄ e₅ = e₅ ∙ rw (e₄, e₃, e₂, e₁)
 
 pub empty-steps : (p : Plan) (b : List ℕ) {b₁ b₂ b₃ b₄ b₅ b₆ b₇ : List ℕ} → b₁ ≡ inTurn (emptiedAt Tasks) (p .priorities) (readyNode 1) b
     → b₂ ≡ inTurn (emptiedAt Tasks) (p .semaphores) (waitNode Layout.semaphores 1) b₁ → b₃ ≡ inTurn (emptiedAt Tasks) (p .flags) (waitNode Layout.flags 1) b₂

@@ -1,12 +1,14 @@
 -- The words that each function of src/lib.rt writes, for any words: the counts and entries of a plan, and empty queues.
+use mathlib.Core.Bool.{cond}
 use mathlib.Core.List.{List, [], _∷_}
 use Prim.Native.Nat.{ℕ, zero, suc, _+_, _-_, _*_}
+use lib.Dec.{eqb}
 use lib.ListN.{replicate}
 use Rattle.rules.specs.Setup.{wordAt}
 use Rattle.setup.specs.declared.Plan.{Plan}
 use Rattle.memory_columns.specs.declared.Rings.the-variants.{Tasks, Messages, Blocks}
 use Rattle.memory_columns.specs.Layout as Layout
-use Rattle.memory_columns.specs.Layout.{stateWords, readyNode, waitNode, mailNode, freeNode, put}
+use Rattle.memory_columns.specs.Layout.{stateWords, maxAlarms, atMost, readyNode, waitNode, mailNode, freeNode, put}
 use Rattle.memory_queues.specs.Moves.{emptied as emptiedAt}
 
 -- f for n ids from i on
@@ -39,11 +41,20 @@ laidFlag s at i b = put Layout.flag i (wordOfId s at 4 i) b
 unfoldable pub laidPool : List ℕ → ℕ → ℕ → List ℕ → List ℕ
 laidPool s at i b = put Layout.size i (wordOfId s at 4 i) b
 
+-- alarm k of the counter whose entry lies there: idle, with its task, and 1 if it wakes it
+unfoldable pub laidAlarm : List ℕ → ℕ → ℕ → List ℕ → List ℕ
+laidAlarm s at k b = put Layout.alarmWakes k (atMost (wordAt s (at + (8 * (k - 1) + 8))) 1) (put Layout.alarmTask k (wordAt s (at + (8 * (k - 1) + 4))) b)
+
+-- the counter, if there is one
+unfoldable pub laidCounter : List ℕ → ℕ → ℕ → List ℕ → List ℕ
+laidCounter s at n b = cond (eqb n 0) b (inTurn (laidAlarm s at) maxAlarms 1 (put Layout.counter Layout.counterSize (wordAt s at) b))
+
 unfoldable pub entered : List ℕ → Plan → List ℕ → List ℕ
 entered s p b =
-    inTurn (laidPool s (p .at .pools)) (p .pools) 1
+    laidCounter s (p .at .counter) (p .counters)
+    (inTurn (laidPool s (p .at .pools)) (p .pools) 1
     (inTurn (laidFlag s (p .at .flags)) (p .flags) 1
-    (inTurn (laidSemaphore s (p .at .semaphores)) (p .semaphores) 1 (inTurn (laidTask s (p .at .tasks)) (p .tasks) 1 b)))
+    (inTurn (laidSemaphore s (p .at .semaphores)) (p .semaphores) 1 (inTurn (laidTask s (p .at .tasks)) (p .tasks) 1 b))))
 
 -- the anchors of tasks' queues that are in use, each time the first and how many: ready queues, then the waiters on each kind of object
 abbrev pub anchorsOf : Plan → List (ℕ × ℕ)

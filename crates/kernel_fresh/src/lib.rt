@@ -1,4 +1,5 @@
 // A plan laid into the memory: the counts, the entries that the bytes of a setup have, and empty queues. No block is free and no task started yet.
+use memory_columns::COUNTER_SIZE;
 use memory_columns::FIRST_FLAG;
 use memory_columns::FIRST_FREE;
 use memory_columns::FIRST_MAIL;
@@ -8,6 +9,7 @@ use memory_columns::FIRST_READY;
 use memory_columns::FIRST_SEMAPHORE;
 use memory_columns::FLAGS;
 use memory_columns::MAILBOXES;
+use memory_columns::MAX_ALARMS;
 use memory_columns::MESSAGES;
 use memory_columns::POOLS;
 use memory_columns::PRIORITIES;
@@ -15,6 +17,11 @@ use memory_columns::Rings;
 use memory_columns::SEMAPHORES;
 use memory_columns::STATE_WORDS;
 use memory_columns::TASKS;
+use memory_columns::WAKES;
+use memory_columns::at_most;
+use memory_columns::set_alarm_task;
+use memory_columns::set_alarm_wakes;
+use memory_columns::set_counter;
 use memory_columns::set_flag;
 use memory_columns::set_priority;
 use memory_columns::set_semaphore;
@@ -28,9 +35,9 @@ ghost use Prim.Native.Nat.{_+_, _≤_, _<_};
 ghost use lib.ListN.{length};
 ghost use Rattle.rules.specs.Setup.{wordAt};
 ghost use Rattle.setup.specs.Layout.{planOf, PlanFits};
-ghost use Rattle.memory_columns.specs.Layout.{maxPriorities, maxTasks, maxObjects, maxPools};
+ghost use Rattle.memory_columns.specs.Layout.{maxPriorities, maxTasks, maxObjects, maxPools, maxAlarms};
 ghost use Rattle.memory_queues.specs.Moves.{emptied as emptiedAt};
-ghost use Rattle.kernel_fresh.specs.Laying.{inTurn, counted, laidTask, laidSemaphore, laidFlag, laidPool, entered, emptied, laid};
+ghost use Rattle.kernel_fresh.specs.Laying.{inTurn, counted, laidTask, laidSemaphore, laidFlag, laidPool, laidAlarm, laidCounter, entered, emptied, laid};
 
 // The word `k` bytes behind an offset, 0 past the end. The two are not added before it is known that their sum is within the bytes.
 pub fn word_at(bytes: &[u8], at: usize, k: usize) -> u32
@@ -145,6 +152,39 @@ fn lay_pools(bytes: &[u8], at: usize, n: u32, words: &mut [u32; STATE_WORDS])
     }
 }
 
+// Alarm k of the counter whose entry lies at `at`: its task, and 1 if it wakes it. It is idle.
+fn lay_alarm(bytes: &[u8], at: usize, k: u32, words: &mut [u32; STATE_WORDS])
+    requires { ⌜ 1 ≤ k ⌝ }
+    ensures { λ _. ⌜ now (words .exit) ≡ laidAlarm (now (bytes .entry)) at k (now (words .entry)) ⌝ }
+{
+    let behind = 8 * (k - 1) as usize;
+    set_alarm_task(words, k, word_at(bytes, at, behind + 4));
+    set_alarm_wakes(words, k, at_most(word_at(bytes, at, behind + 8), WAKES));
+}
+
+fn lay_alarms(bytes: &[u8], at: usize, words: &mut [u32; STATE_WORDS])
+    ensures { λ _. ⌜ now (words .exit) ≡ inTurn (laidAlarm (now (bytes .entry)) at) maxAlarms 1 (now (words .entry)) ⌝ }
+{
+    let mut k: u32 = 1;
+    let mut left = MAX_ALARMS;
+    while 0 < left {
+        lay_alarm(bytes, at, k, words);
+        k += 1;
+        left -= 1;
+    }
+}
+
+// The counter, if there is one: m, its count 0, and its alarms.
+fn lay_counter(bytes: &[u8], at: usize, n: u32, words: &mut [u32; STATE_WORDS])
+    ensures { λ _. ⌜ now (words .exit) ≡ laidCounter (now (bytes .entry)) at n (now (words .entry)) ⌝ }
+{
+    if n == 0 {
+        return;
+    }
+    set_counter(words, COUNTER_SIZE, setup::word(bytes, at));
+    lay_alarms(bytes, at, words);
+}
+
 fn lay_entries(bytes: &[u8], p: Plan, words: &mut [u32; STATE_WORDS])
     requires { ⌜ PlanFits p (length (now bytes)) ⌝ }
     ensures { λ _. ⌜ now (words .exit) ≡ entered (now (bytes .entry)) p (now (words .entry)) ⌝ }
@@ -153,6 +193,7 @@ fn lay_entries(bytes: &[u8], p: Plan, words: &mut [u32; STATE_WORDS])
     lay_semaphores(bytes, p.at.semaphores, p.semaphores, words);
     lay_flags(bytes, p.at.flags, p.flags, words);
     lay_pools(bytes, p.at.pools, p.pools, words);
+    lay_counter(bytes, p.at.counter, p.counters, words);
 }
 
 // ---- queues: the anchors that are in use

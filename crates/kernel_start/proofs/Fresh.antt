@@ -47,7 +47,7 @@ same-sizes : (b : Body) → SameSizes b b
 same-sizes b = sizes-tasks b (b .tasks) refl
 
 sizes-then : {b c d : Body} → SameSizes b c → SameSizes c d → SameSizes b d
-sizes-then h g = record { priorities = g .priorities ∙ h .priorities; tasks = g .tasks ∙ h .tasks; objects = λ k. g .objects k ∙ h .objects k; messages = g .messages ∙ h .messages; blocks = λ p. g .blocks p ∙ h .blocks p }
+sizes-then h g = record { priorities = g .priorities ∙ h .priorities; tasks = g .tasks ∙ h .tasks; objects = λ k. g .objects k ∙ h .objects k; messages = g .messages ∙ h .messages; blocks = λ p. g .blocks p ∙ h .blocks p; counter = g .counter ∙ h .counter; alarms = g .alarms ∙ h .alarms }
 
 -- the memory is accepted and shows the view
 pub record Holds (b msgs : List ℕ) (v : View) : Type 0 where

@@ -1,22 +1,23 @@
 -- The memory that the start lays for an accepted setup, before any task is started, shows the idle state with empty queues, and is accepted.
 -- Assumes nothing.
 use Prim.Native.Nat.{ℕ, zero, suc, _+_, _-_, _*_, _^_, _≤_, _<_}
-use mathlib.Core.Bool.{Bool, true, false}
+use mathlib.Core.Bool.{Bool, true, false, cond}
 use mathlib.Core.List.{List, [], _∷_, map}
 use mathlib.Core.Logic.{inl, inr}
 use mathlib.Core.Option.{none}
 use mathlib.Core.Path.{_≡_, refl, sym, ap, _∙_, subst}
 use native.Mathlib.Nat.{div-eq-of-lt}
 use native.Mathlib.Omega.{arith}
-use lib.Dec.{lit<}
-use lib.ListN.{length, getD, replicate, length-replicate, length-map}
+use lib.Dec.{eqb, leb, lit<}
+use lib.ListN.{length, getD, set, replicate, length-replicate, length-map}
 use lib.Pow.{pow-pos}
 use lib.Seq.{ext-getD}
-use Rattle.rules.specs.Ids.{of, from, ids, In}
-use Rattle.rules.specs.Setup.{Setup, Entry}
-use Rattle.rules.specs.State.{semaphore, flag, mailbox, pool, nobody, Store, no-handler}
+use borrow.Author.Tests.{leb-true, leb-false, ne-eqb}
+use Rattle.rules.specs.Ids.{of, from, ids, In, Each}
+use Rattle.rules.specs.Setup.{wordAt, Entry, AlarmEntry, CounterEntry, Setup, GoodCounter}
+use Rattle.rules.specs.State.{semaphore, flag, mailbox, pool, nobody, Store, no-handler, noAlarm, alarmCount}
 use Rattle.rules.specs.Places.{Place, readyAt, waiters, mail, freeIn, Sort, tasks, messages, blocks, sortAt, Exists, tabulate}
-use Rattle.rules.specs.Kernel.{idleTask, idle}
+use Rattle.rules.specs.Kernel.{idleTask, idleAlarm, idleCounter, idle}
 use Rattle.rules.proofs.Ids.{of-replicate, map-ids}
 use Rattle.rules.proofs.Accepted.{GoodSetup, idle-sound, unstarted-sound}
 use Rattle.rules.proofs.Lines.{tabulate-same}
@@ -24,17 +25,17 @@ use Rattle.memory_rings.specs.Rings.{lineOf, Linked}
 use Rattle.memory_rings.proofs.Columns.{col-at}
 use Rattle.memory_rings.proofs.Laws.{blank-law, linked-ext, line-is}
 use Rattle.setup.specs.declared.Plan.{Plan}
-use Rattle.setup.specs.Layout.{PlanShows, PlanFits}
+use Rattle.setup.specs.Layout.{alarmsAt, counterAt, PlanShows, PlanFits}
 use Rattle.memory_columns.specs.declared.Rings.{Rings}
 use Rattle.memory_columns.specs.declared.Rings.the-variants.{Tasks, Messages, Blocks}
 use Rattle.memory_columns.specs.Layout as Layout
-use Rattle.memory_columns.specs.Layout.{Column, stateWords, maxMessages, nextOf, prevOf, linksOf, fits, clear, words, entry, Only}
+use Rattle.memory_columns.specs.Layout.{Column, stateWords, maxMessages, maxAlarms, atMost, nextOf, prevOf, linksOf, fits, clear, words, entry, Only}
 use Rattle.memory_columns.proofs.Frame.{Sized, words-length, only-both}
-use Rattle.memory_picture.specs.Picture.{codeOf, stateShown, taskShown, messageShown, bitsOf, poolShown, storeShown, handlersShown, bodyShown, anchor, ringsAt, idsShown, numbersOf, lineShown, viewShown, maskOf, occupied, nonemptyShown, Used, Whole, Accepted}
+use Rattle.memory_picture.specs.Picture.{codeOf, stateShown, taskShown, messageShown, bitsOf, poolShown, storeShown, handlersShown, keptOf, alarmShown, countShown, counterShown, bodyShown, anchor, ringsAt, idsShown, numbersOf, lineShown, viewShown, maskOf, occupied, nonemptyShown, Used, Whole, Accepted}
 use Rattle.memory_picture.proofs.Done.{used-at}
 use Rattle.memory_picture.proofs.FormPile.{table-is}
 use Rattle.kernel_fresh.specs.Laying.{counted, entered, emptied}
-use Rattle.kernel_fresh.proofs.Idle.{counted-size, counted-only, counted-system, entryColumns, entered-size, entered-only, entered-priority, entered-start, entered-semaphore, entered-flag, entered-size-of, emptied-size, emptied-only, InUse, firstNode, emptied-anchor, emptied-id}
+use Rattle.kernel_fresh.proofs.Idle.{counted-size, counted-only, counted-system, entryColumns, entered-size, entered-only, entered-priority, entered-start, entered-semaphore, entered-flag, entered-size-of, entered-none, entered-counter, entered-alarm-task, entered-alarm-wakes, emptied-size, emptied-only, InUse, firstNode, emptied-anchor, emptied-id}
 
 -- ---- tables of one entry
 
@@ -73,6 +74,33 @@ no-bits (suc k) = ap (λ (l : List Bool). false ∷ l) (no-bits k)
 out-pool : (k : ℕ) → poolShown k 0 ≡ replicate k false
 unfolding poolShown
 out-pool k = rw (div-eq-of-lt {n = 0} {m = 2 ^ k} (pow-pos k)) (no-bits k)
+
+-- ---- an alarm's entry
+
+-- its task, then 1 if it wakes it
+alarm-at : (s : List ℕ) (n i k : ℕ) (d : AlarmEntry) → In k n → of (alarmsAt s i n) k d ≡ record { task = wordAt s (i + 8 * (k - 1)); wakes = eqb (wordAt s (i + 8 * (k - 1) + 4)) 1 }
+alarm-at s n i zero d r = absurd (omega (arith, r .0))
+alarm-at s zero i (suc k) d r = absurd (omega (arith, r .1))
+alarm-at s (suc n) i (suc zero) d r = ap (λ (j : ℕ). record { task = wordAt s j; wakes = eqb (wordAt s (j + 4)) 1 }) (omega arith)
+alarm-at s (suc n) i (suc (suc k)) d r =
+    alarm-at s n (i + 8) (suc k) d (omega arith, omega (arith, r .1)) ∙ ap (λ (j : ℕ). record { task = wordAt s j; wakes = eqb (wordAt s (j + 4)) 1 }) (omega arith)
+
+-- a word that is 0 or 1 in the memory, and 1 where the entry's is
+bit-kept : (w : ℕ) → (leb (atMost w 1) 1 ≡ true) × (eqb (atMost w 1) 1 ≡ eqb w 1)
+bit-kept w = go (leb w 1) refl
+  where
+    go : (t : Bool) → leb w 1 ≡ t → (leb (cond t w 0) 1 ≡ true) × (eqb (cond t w 0) 1 ≡ eqb w 1)
+    go true e = (e, refl)
+    go false e = (refl, sym (ne-eqb w 1 (λ d. omega (arith, d, leb-false w 1 e))))
+
+-- there is no count where there is no counter
+count-zero : (m : ℕ) → countShown m 0 ≡ 0
+count-zero zero = refl
+count-zero (suc m) = refl
+
+eight-alarms : (m : ℕ) → 1 ≤ m → alarmCount m ≡ 8
+eight-alarms zero r = absurd (omega (arith, r))
+eight-alarms (suc m) r = refl
 
 -- ---- the memory
 
@@ -179,12 +207,87 @@ module _ (s : List ℕ) (u : Setup) (G : GoodSetup u) (p : Plan) (S : PlanShows 
   unfolding handlersShown
   handlers-shown = rw (at-zero Layout.handling refl refl refl Layout.depth)
 
+  -- ---- the counter
+
+  at-counter : (k : ℕ) → entry Layout.counter memory k ≡ getD (words Layout.counter (entered s p (counted p z))) k 0
+  at-counter k = as-entered Layout.counter refl k
+
+  unwritten : words Layout.counter (counted p z) ≡ 0 ∷ 0 ∷ []
+  unwritten = counted-only p z .kept Layout.counter refl ∙ blank Layout.counter refl
+
+  none-shown : p .counters ≡ 0 → counterShown memory ≡ idleCounter []
+  unfolding counterShown ids
+  none-shown e = λ x. record { size = none x; now = countShown (none x) (entry Layout.counter memory Layout.counterNow); alarms = map (alarmShown memory) (ids (alarmCount (none x))) }
+    where
+      none : entry Layout.counter memory Layout.counterSize ≡ 0
+      none = at-counter Layout.counterSize ∙ ap (λ (l : List ℕ). getD l Layout.counterSize 0) (entered-none s p F (counted p z) c₀ e ∙ unwritten)
+
+  module _ (e : p .counters ≡ 1) where
+    one-words : words Layout.counter (entered s p (counted p z)) ≡ wordAt s (p .at .counter) ∷ 0 ∷ []
+    one-words = entered-counter s p F (counted p z) c₀ e ∙ ap (λ (l : List ℕ). set l Layout.counterSize (wordAt s (p .at .counter))) unwritten
+
+    one-size : entry Layout.counter memory Layout.counterSize ≡ wordAt s (p .at .counter)
+    one-size = at-counter Layout.counterSize ∙ ap (λ (l : List ℕ). getD l Layout.counterSize 0) one-words
+
+    one-now : entry Layout.counter memory Layout.counterNow ≡ 0
+    one-now = at-counter Layout.counterNow ∙ ap (λ (l : List ℕ). getD l Layout.counterNow 0) one-words
+
+    alarm-shown : (k : ℕ) (d : AlarmEntry) → In k maxAlarms → alarmShown memory k ≡ idleAlarm (of (alarmsAt s (p .at .counter + 4) 8) k d)
+    unfolding alarmShown keptOf
+    alarm-shown k d r =
+        let task : wordAt s (p .at .counter + (8 * (k - 1) + 4)) ≡ wordAt s (p .at .counter + 4 + 8 * (k - 1)) = ap (wordAt s) (omega arith) in
+        let wakes : wordAt s (p .at .counter + (8 * (k - 1) + 8)) ≡ wordAt s (p .at .counter + 4 + 8 * (k - 1) + 4) = ap (wordAt s) (omega arith) in
+        rw (
+          as-entered Layout.alarmWakes refl k,
+          entered-alarm-wakes s p F (counted p z) c₀ e k r,
+          as-entered Layout.alarmTask refl k,
+          entered-alarm-task s p F (counted p z) c₀ e k r,
+          at-zero Layout.alarmCode refl refl refl k,
+          at-zero Layout.alarmDue refl refl refl k,
+          bit-kept (wordAt s (p .at .counter + (8 * (k - 1) + 8))) .0,
+          bit-kept (wordAt s (p .at .counter + (8 * (k - 1) + 8))) .1,
+          task,
+          wakes,
+        ) (ap idleAlarm (sym (alarm-at s 8 (p .at .counter + 4) k d r)))
+
+    one-shown : (c : CounterEntry) → GoodCounter (length (u .tasks)) c → c ≡ counterAt s (p .at .counter) → (l : List CounterEntry) → counterShown memory ≡ idleCounter (c ∷ l)
+    unfolding counterShown
+    one-shown c g a l = λ x. record { size = sized x; now = counted-now x; alarms = alarms x }
+      where
+        sized : entry Layout.counter memory Layout.counterSize ≡ c .size
+        sized = one-size ∙ ap (λ (y : CounterEntry). y .size) (sym a)
+
+        counted-now : countShown (entry Layout.counter memory Layout.counterSize) (entry Layout.counter memory Layout.counterNow) ≡ 0
+        counted-now = ap (countShown (entry Layout.counter memory Layout.counterSize)) one-now ∙ count-zero (entry Layout.counter memory Layout.counterSize)
+
+        many : length (map idleAlarm (c .alarms)) ≡ 8
+        many = length-map (c .alarms) idleAlarm ∙ g .eight
+
+        each : (k : ℕ) → In k (length (map idleAlarm (c .alarms))) → alarmShown memory k ≡ of (map idleAlarm (c .alarms)) k noAlarm
+        each k h =
+            let d : AlarmEntry = record { task = 0; wakes = false } in
+            alarm-shown k d (subst (In k) many h) ∙ ap (λ (y : CounterEntry). idleAlarm (of (y .alarms) k d)) (sym a)
+            ∙ sym (of-map-in idleAlarm (c .alarms) k d noAlarm (subst (In k) (length-map (c .alarms) idleAlarm) h))
+
+        alarms : map (alarmShown memory) (ids (alarmCount (entry Layout.counter memory Layout.counterSize))) ≡ map idleAlarm (c .alarms)
+        alarms = table-is (map idleAlarm (c .alarms)) _ (alarmShown memory) noAlarm (ap alarmCount sized ∙ eight-alarms (c .size) (g .size .0) ∙ sym many) each
+
+  counter-shown : counterShown memory ≡ idleCounter (u .counters)
+  counter-shown = go (u .counters) refl (G .counter) (G .counters)
+    where
+      go : (l : List CounterEntry) → u .counters ≡ l → Each (GoodCounter (length (u .tasks))) l → length l ≤ 1 → counterShown memory ≡ idleCounter l
+      go [] e g h = none-shown (S .counters ∙ ap length e)
+      go (c ∷ l) e g h =
+          let one : p .counters ≡ 1 = omega (arith, h, S .counters, ap length e) in
+          one-shown one c (g .0) (ap (λ (m : List CounterEntry). of m 1 c) (sym e) ∙ S .counter 1 c (omega arith, omega (arith, one)) ∙ ap (counterAt s) (omega arith)) l
+
   body-shown : bodyShown memory marks ≡ idle u
   unfolding bodyShown idle counts
   body-shown = λ x. record {
     tasks = table-is (map idleTask (u .tasks)) _ (taskShown memory) nobody (at-system Layout.tasks ∙ S .tasks ∙ sym (length-map (u .tasks) idleTask)) task-shown x;
     store = store-shown x;
     handlers = handlers-shown x;
+    counter = counter-shown x;
   }
 
   -- ---- the links: no id has one, and each anchor in use points to itself

@@ -2,7 +2,7 @@
 use mathlib.Core.List.{List, [], _∷_, _++_, map}
 use mathlib.Core.Path.{_≡_, refl}
 use Prim.Native.Nat.{ℕ}
-use Rattle.rules.specs.Setup.{and-then, readWord, readEntry, readEntries, readSection, readSections, readSetup}
+use Rattle.rules.specs.Setup.{and-then, readWord, readEntry, readEntries, readSection, readSections, readWith, readSetup}
 use Rattle.rules_examples.specs.BenchSheet.{benchBytes}
 use Rattle.rules_examples.specs.Examples.{bytes}
 use Rattle.run_reading.specs.Recorded.{mostEvents, readHead}
@@ -23,8 +23,8 @@ unfolding textOf eat items after atEnd itemsIn afterAll
 byte-by-byte = refl
 
 -- 1,000,000 events are accepted
-pub most-accepted : onEnd (readHead (benchBytes ++ bytes (mostEvents ∷ []))) ≡ []
-unfolding readHead and-then readWord readEntry readEntries readSection readSections readSetup
+pub most-accepted : onEnd (readHead (benchBytes ++ bytes (0 ∷ mostEvents ∷ []))) ≡ []
+unfolding readHead and-then readWord readEntry readEntries readSection readSections readWith readSetup
 most-accepted = refl
 
 -- a nonempty part after a refusal or after the end is S5; an empty one never is

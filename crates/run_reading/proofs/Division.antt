@@ -7,7 +7,7 @@ use native.Mathlib.Omega.{arith}
 use lib.Dec.{leb}
 use lib.ListN.{length, take, drop, length-append}
 use borrow.Author.Tests.{le-leb, lt-leb, leb-true, leb-false}
-use Rattle.rules.specs.Setup.{Fault, S1, S2, S3, S4, Read, got, refused, and-then, readWord, readSection, readSetup}
+use Rattle.rules.specs.Setup.{Fault, S1, S2, S3, S4, Read, got, refused, and-then, readWord, readSection, readWith, readSetup}
 use Rattle.rules.specs.Writing.{joined}
 use Rattle.run_reading.specs.Recorded.{Head, readHead, eventBytes, eventIn, Item, begins, occurs, refuses, eventItems, itemsBehind, itemsOf}
 use Rattle.run_reading.specs.Recorder.{Recorder, heading, running, stopped, ended, begun, closed, onHead, eat, items, after, atEnd, itemsIn, afterAll}
@@ -131,7 +131,7 @@ rest-heading l (b ∷ s) p e = rest-next (heading l) b s ∙ go (λ p′ q. rest
 
 -- the recorder, fed the whole, says what the bytes hold
 pub whole : (s : List ℕ) → items begun s ++ atEnd (after begun s) ≡ itemsOf s
-unfolding rest readHead readSetup readSection readWord and-then
+unfolding rest readHead readSetup readWith readSection readWord and-then
 whole s = rest-heading [] s 0 refl
 
 -- ---- parts

@@ -9,8 +9,9 @@ use native.Mathlib.Omega.{arith}
 use lib.Dec.{leb}
 use lib.ListN.{length, take, getD, length-take, length-append}
 use borrow.Author.Tests.{le-leb, lt-leb, leb-true, leb-false}
-use Rattle.rules.specs.Setup.{Fault, S1, S2, S3, S4, Read, got, refused, and-then, wordAt, Range, to, within, readWord, Section, priorities, sections, readEntry, readEntries, readSection, readSections, Setup, setupOf, readSetup, at-end, setup}
+use Rattle.rules.specs.Setup.{Fault, S1, S2, S3, S4, Read, got, refused, and-then, wordAt, Range, to, within, readWord, Section, priorities, sections, counters, readEntry, readEntries, readSection, readSections, Setup, entriesOf, setupOf, readWith, readSetup, perhaps, at-end, setup}
 use Rattle.rules.proofs.Accepted.{Reads, from-read, reads-then}
+use Rattle.rules.proofs.Recorded.{from-more, more-alone}
 use Rattle.setup.proofs.Reading.{WordAt, word-lies}
 use Rattle.run_reading.specs.Recorded.{mostEvents, headBytes, Head, readHead}
 
@@ -112,11 +113,12 @@ module _ (s t : List ℕ) (n : ℕ) (hs : n ≤ length s) (ht : n ≤ length t) 
       (steady-then (readSection s x i) (readSection t x i) (section-steady x i)
       (λ y j q. steady-then (readSections s l j) (readSections t l j) (sections-steady l j) (λ ys k p. steady-got (y ∷ ys) k)))
 
-  setup-steady : (i : ℕ) → Steady i 444 (readSetup s i) (readSetup t i)
-  unfolding readSetup
+  setup-steady : (i : ℕ) → Steady i 516 (readSetup s i) (readSetup t i)
+  unfolding readSetup readWith
   setup-steady i =
       steady-then (readSection s priorities i) (readSection t priorities i) (section-steady priorities i)
-      (λ p j q. steady-then (readSections s (sections (length p)) j) (readSections t (sections (length p)) j) (sections-steady (sections (length p)) j) (λ l k r. steady-got (setupOf (length p) l) k))
+      (λ p j q. steady-then (readSections s (sections (length p)) j) (readSections t (sections (length p)) j) (sections-steady (sections (length p)) j)
+      (λ l k r. let x : Section = counters (length (entriesOf l 0)) in steady-then (readSection s x k) (readSection t x k) (section-steady x k) (λ c m w. steady-got (setupOf (length p) l c) m)))
 
   head-steady : Steady 0 headBytes (readHead s) (readHead t)
   unfolding readHead
@@ -138,7 +140,8 @@ unfolding setup at-end
 setup-prefix s u k e h =
     let l : length (take k s) ≡ k = length-take k s ∙ omega (arith, h) in
     let r : readSetup (take k s) 0 ≡ readSetup s 0 = setup-steady s (take k s) k h (omega (arith, l)) (λ j q. getD-take s k j q) 0 .same (rw e (omega arith)) in
-    rw (r, e) (rw (le-leb (length (take k s)) k (omega (arith, l))) refl)
+    let a : readWith perhaps (take k s) 0 ≡ got u k = from-more (readSetup (take k s) 0) _ u k (r ∙ e) (more-alone (take k s) 0) in
+    rw a (rw (le-leb (length (take k s)) k (omega (arith, l))) refl)
 
 -- ---- a read's word is whole, but for S1
 
@@ -198,10 +201,11 @@ module _ (s : List ℕ) where
   sections-ends (x ∷ l) i h = ends-then (readSection s x i) _ (section-ends x i) (λ y j k. ends-then (readSections s l j) _ (sections-ends l j k) (λ ys k m. m))
 
   pub head-ends : Ends s (readHead s)
-  unfolding readHead readSetup
+  unfolding readHead readSetup readWith
   head-ends =
       ends-then (readSetup s 0) _
-      (ends-then (readSection s priorities 0) _ (section-ends priorities 0) (λ p j k. ends-then (readSections s (sections (length p)) j) _ (sections-ends (sections (length p)) j k) (λ l i m. m)))
+      (ends-then (readSection s priorities 0) _ (section-ends priorities 0) (λ p j k. ends-then (readSections s (sections (length p)) j) _ (sections-ends (sections (length p)) j k)
+      (λ l i m. ends-then (readSection s (counters (length (entriesOf l 0))) i) _ (section-ends (counters (length (entriesOf l 0))) i) (λ c n w. w))))
       (λ u i k. ends-then (readWord s (to 0 mostEvents) S2 i) _ (word-ends (to 0 mostEvents) S2 tt i) (λ n j m. m))
 
 -- ---- more bytes behind

@@ -22,9 +22,9 @@ pub record Head : Type 0 where
 unfoldable pub readHead : List ℕ → Read Head
 readHead s = and-then (readSetup s 0) (λ u i. and-then (readWord s (to 0 mostEvents) S2 i) (λ n j. got (record { setup = u; events = n }) j))
 
--- the most bytes of both: 111 words of a setup, and one
+-- the most bytes of both: 129 words of a setup, and one
 abbrev pub headBytes : ℕ
-headBytes = 448
+headBytes = 520
 
 -- ---- events
 

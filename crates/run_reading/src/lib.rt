@@ -10,8 +10,8 @@ ghost use Rattle.run_reading.specs.Recorded.{signedWord, readHead};
 // The most events of a run.
 pub const EVENTS: u32 = 1000000;
 
-// The most bytes of a setup and the count of events behind it: 111 words, and one.
-pub const HEAD: usize = 448;
+// The most bytes of a setup and the count of events behind it: 129 words, and one.
+pub const HEAD: usize = 520;
 
 // The bytes of an event: kind, call and three arguments.
 pub const EVENT: usize = 20;

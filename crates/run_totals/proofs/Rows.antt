@@ -191,5 +191,7 @@ code-proper Codes.H-MSG = omega arith
 code-proper Codes.H-NEST = omega arith
 code-proper Codes.H-EXIST = omega arith
 code-proper Codes.H-ILBLK = omega arith
+code-proper Codes.H-USED = omega arith
+code-proper Codes.H-IDLE = omega arith
 code-proper Codes.E-TMOUT = omega arith
 code-proper Codes.E-RLWAI = omega arith

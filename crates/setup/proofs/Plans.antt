@@ -7,11 +7,12 @@ use Prim.Native.Nat.{ℕ, zero, suc, _+_, _-_, _*_, _≤_, _<_, min}
 use native.Mathlib.Nat.{min-eq-left, min-le-right}
 use native.Mathlib.Omega.{arith}
 use lib.Dec.{eqb, leb}
-use lib.ListN.{length, drop, getD, length-map}
-use Rattle.rules.specs.Ids.{of, In}
-use Rattle.rules.specs.Setup.{S4, Read, got, refused, wordAt, Range, Section, section, priorities, sections, readSection, readSections, Entry, Setup, wordOf, taskEntry, setupOf, readSetup, at-end, setup}
-use Rattle.rules.proofs.Accepted.{Reads, SectionFits, section-reads, reads-then, from-read}
-use Rattle.setup.specs.Layout.{partAt, planOf, entryAt, PlanShows, PlanFits}
+use borrow.Author.Tests.{leb-true}
+use lib.ListN.{length, drop, getD, length-map, List·getD-eq-default}
+use Rattle.rules.specs.Ids.{of, In, Each}
+use Rattle.rules.specs.Setup.{S4, Read, got, refused, wordAt, Range, Section, section, priorities, sections, alarmRanges, counters, readSection, readSections, Entry, AlarmEntry, CounterEntry, Setup, entriesOf, wordOf, taskEntry, alarmEntries, counterEntry, setupOf, readWith, readSetup, perhaps, at-end, setup}
+use Rattle.rules.proofs.Accepted.{Reads, Fits, SectionFits, section-reads, reads-then, from-read}
+use Rattle.setup.specs.Layout.{partAt, planOf, entryAt, alarmsAt, counterAt, PlanShows, PlanFits}
 use Rattle.setup.proofs.Reading.{RowsAt, section-lies}
 
 -- an entry within a table, whatever the defaults
@@ -69,18 +70,88 @@ module _ (s : List ℕ) where
       let second : wordOf 1 (getD rows y []) ≡ wordAt s (i + 4 + 8 * (suc y - 1) + 4) = h .words y 1 (within .1) (omega arith) ∙ ap (wordAt s) (omega arith) in
       map-at taskEntry rows y d [] (within .1) ∙ λ z. record { priority = first z; started = eqb (second z) 1 }
 
+  -- ---- the eighth section
+
+  -- from i on it was read as these rows, of a setup with some number of tasks; where it was left out, as none
+  record Counted (i : ℕ) (rows : List (List ℕ)) : Type 0 where
+    tasks : ℕ
+    fits : Each (Fits (counters tasks .entry)) rows
+    count : partAt s 1 68 i .count ≡ length rows
+    words : (y x : ℕ) → y < length rows → x < 17 → wordOf x (getD rows y []) ≡ wordAt s (partAt s 1 68 i .first + 4 * (17 * y + x))
+
+  counters-laid : (n i : ℕ) → Reads (λ c j. Counted i c) (readSection s (counters n) i)
+  counters-laid n i = go (readSection s (counters n) i) (section-laid (counters n) i) (section-reads s (counters n) i)
+    where
+      go : (r : Read (List (List ℕ))) → Reads (Lies (counters n) i) r → Reads (λ l j. SectionFits (counters n) l × (j ≤ length s)) r → Reads (λ c j. Counted i c) r
+      go (got rows j) h g = record { tasks = n; fits = g .0 .1; count = ap (λ p. p .count) (h .part); words = λ y x a b. h .words y x a b ∙ ap (λ (p : ℕ). wordAt s (p + 4 * (17 * y + x))) (sym (ap (λ p. p .first) (h .part))) }
+      go (refused d place) h g = tt
+
+  -- past the end every word is 0
+  past : (i : ℕ) → length s ≤ i → wordAt s i ≡ 0
+  past i h =
+      rw (List·getD-eq-default s 0 h, List·getD-eq-default s 0 (beyond 1), List·getD-eq-default s 0 (beyond 2), List·getD-eq-default s 0 (beyond 3))
+    where
+      beyond : (k : ℕ) → length s ≤ i + k
+      beyond k = omega (arith, h)
+
+  last-laid : (n i : ℕ) → Reads (λ c j. Counted i c) (perhaps s (counters n) i)
+  unfolding perhaps
+  last-laid n i = go (leb (length s) i) refl
+    where
+      go : (t : Bool) → leb (length s) i ≡ t → Reads (λ c j. Counted i c) (cond t (got [] i) (readSection s (counters n) i))
+      go true e = record { tasks = n; fits = tt; count = none; words = λ y x a b. absurd (omega (arith, a)) }
+        where
+          none : partAt s 1 68 i .count ≡ 0
+          none = unfold partAt in rw (past i (leb-true _ _ e))
+      go false e = counters-laid n i
+
+  alarms-lie : (n k : ℕ) (w : List ℕ) (i : ℕ) → Fits (alarmRanges n k) w → ((x : ℕ) → x < 2 * k → getD w x 0 ≡ wordAt s (i + 4 * x)) → alarmEntries w ≡ alarmsAt s i k
+  alarms-lie n zero [] i f h = refl
+  alarms-lie n zero (x ∷ w) i f h = absurd f
+  alarms-lie n (suc k) [] i f h = absurd f
+  alarms-lie n (suc k) (t ∷ []) i f h = absurd (f .1)
+  alarms-lie n (suc k) (t ∷ v ∷ w) i f h =
+      let first : t ≡ wordAt s i = h 0 (omega arith) ∙ ap (wordAt s) (omega arith) in
+      let second : v ≡ wordAt s (i + 4) = h 1 (omega arith) ∙ ap (wordAt s) (omega arith) in
+      let rest = alarms-lie n k w (i + 8) (f .1 .1) (λ x r. h (suc (suc x)) (omega arith) ∙ ap (wordAt s) (omega arith)) in
+      λ z. record { task = first z; wakes = eqb (second z) 1 } ∷ rest z
+
+  counter-lies : (n : ℕ) (w : List ℕ) (i : ℕ) → Fits (counters n .entry) w → ((x : ℕ) → x < 17 → getD w x 0 ≡ wordAt s (i + 4 * x)) → counterEntry w ≡ counterAt s i
+  counter-lies n [] i f h = absurd f
+  counter-lies n (m ∷ w) i f h =
+      let first : m ≡ wordAt s i = h 0 (omega arith) ∙ ap (wordAt s) (omega arith) in
+      let rest = alarms-lie n 8 w (i + 4) (f .1) (λ x r. h (suc x) (omega arith) ∙ ap (wordAt s) (omega arith)) in
+      λ z. record { size = first z; alarms = rest z }
+
+  counter-shown : (i : ℕ) (rows : List (List ℕ)) → Counted i rows → (y : ℕ) (d : CounterEntry) → In y (partAt s 1 68 i .count) → of (map counterEntry rows) y d ≡ counterAt s (partAt s 1 68 i .first + 68 * (y - 1))
+  counter-shown i rows h zero d within = absurd (omega (arith, within .0))
+  counter-shown i rows h (suc y) d within =
+      map-at counterEntry rows y d [] there
+      ∙ counter-lies (h .tasks) (getD rows y []) (partAt s 1 68 i .first + 68 * (suc y - 1)) (nth-fits rows y (h .fits) there) (λ x r. h .words y x there r ∙ ap (wordAt s) (omega arith))
+    where
+      there : y < length rows
+      there = omega (arith, within .1, h .count)
+
+      nth-fits : (l : List (List ℕ)) (y : ℕ) → Each (Fits (counters (h .tasks) .entry)) l → y < length l → Fits (counters (h .tasks) .entry) (getD l y [])
+      nth-fits [] y f r = absurd (omega (arith, r))
+      nth-fits (x ∷ l) zero f r = f .0
+      nth-fits (x ∷ l) (suc y) f r = nth-fits l y (f .1) (omega (arith, r))
+
+  -- ---- the plan
+
   -- the section n behind the priorities, of which there are P
   abbrev nth : ℕ → ℕ → Section
   nth P n = getD (sections P) n priorities
 
-  module _ (i : ℕ) (p a b c d e f : List (List ℕ)) (j k l m n o q : ℕ)
+  module _ (i : ℕ) (p a b c d e f g : List (List ℕ)) (j k l m n o q : ℕ)
       (hp : Lies priorities i p j)
       (ha : Lies (nth (length p) 0) j a k)
       (hb : Lies (nth (length p) 1) k b l)
       (hc : Lies (nth (length p) 2) l c m)
       (hd : Lies (nth (length p) 3) m d n)
       (he : Lies (nth (length p) 4) n e o)
-      (hf : Lies (nth (length p) 5) o f q) where
+      (hf : Lies (nth (length p) 5) o f q)
+      (hg : Counted q g) where
     plan-is : planOf s i ≡ record {
       priorities = length p;
       tasks = length a;
@@ -89,12 +160,13 @@ module _ (s : List ℕ) where
       mailboxes = length d;
       messages = length e;
       pools = length f;
-      at = record { tasks = j + 4; semaphores = k + 4; flags = l + 4; pools = o + 4 };
+      counters = partAt s 1 68 q .count;
+      at = record { tasks = j + 4; semaphores = k + 4; flags = l + 4; pools = o + 4; counter = partAt s 1 68 q .first };
     }
     unfolding planOf
     plan-is = simp (hp .part, ha .part, hb .part, hc .part, hd .part, he .part, hf .part)
 
-    shows : PlanShows (planOf s i) s (setupOf (length p) (a ∷ b ∷ c ∷ d ∷ e ∷ f ∷ []))
+    shows : PlanShows (planOf s i) s (setupOf (length p) (a ∷ b ∷ c ∷ d ∷ e ∷ f ∷ []) g)
     shows = rw plan-is (record {
       priorities = refl;
       tasks = sym (length-map a taskEntry);
@@ -103,15 +175,17 @@ module _ (s : List ℕ) where
       mailboxes = refl;
       messages = refl;
       pools = sym (length-map f (wordOf 0));
+      counters = hg .count ∙ sym (length-map g counterEntry);
       starts = two-words _ _ _ j a k ha;
       counts = one-word _ _ k b l hb;
       patterns = one-word _ _ l c m hc;
       blocks = one-word _ _ o f q hf;
+      counter = counter-shown q g hg;
     })
 
-  -- the plan shows the setup of these sections
+  -- the plan shows the setup of these sections and of the eighth behind them
   abbrev Shown : ℕ → ℕ → List (List (List ℕ)) → ℕ → Type 0
-  Shown i P x q = PlanShows (planOf s i) s (setupOf P x)
+  Shown i P x q = (g : List (List ℕ)) → Counted q g → PlanShows (planOf s i) s (setupOf P x g)
 
   -- the sections behind that one
   abbrev behind : ℕ → ℕ → List Section
@@ -127,13 +201,15 @@ module _ (s : List ℕ) where
       sections-then (λ x. Shown i P (a ∷ b ∷ c ∷ x)) (nth P 3) (behind P 3) m (λ d n hd.
       sections-then (λ x. Shown i P (a ∷ b ∷ c ∷ d ∷ x)) (nth P 4) (behind P 4) n (λ e o he.
       sections-then (λ x. Shown i P (a ∷ b ∷ c ∷ d ∷ e ∷ x)) (nth P 5) (behind P 5) o (λ f q hf.
-      shows i p a b c d e f j k l m n o q hp ha hb hc hd he hf))))))
+      λ g hg. shows i p a b c d e f g j k l m n o q hp ha hb hc hd he hf hg))))))
 
-  plan-reads : (i : ℕ) → Reads (λ u q. PlanShows (planOf s i) s u) (readSetup s i)
-  unfolding readSetup
-  plan-reads i =
+  plan-reads : (eighth : List ℕ → Section → ℕ → Read (List (List ℕ))) → ((n q : ℕ) → Reads (λ c j. Counted q c) (eighth s (counters n) q))
+      → (i : ℕ) → Reads (λ u q. PlanShows (planOf s i) s u) (readWith eighth s i)
+  unfolding readWith
+  plan-reads eighth e i =
       reads-then (Lies priorities i) _ (readSection s priorities i) _ (section-laid priorities i)
-      (λ p j hp. reads-then (Shown i (length p)) _ (readSections s (sections (length p)) j) _ (sections-show i p j hp) (λ x q h. h))
+      (λ p j hp. reads-then (Shown i (length p)) _ (readSections s (sections (length p)) j) _ (sections-show i p j hp)
+      (λ x q h. reads-then (λ c j. Counted q c) _ (eighth s (counters (length (entriesOf x 0))) q) _ (e (length (entriesOf x 0)) q) (λ c r g. h c g)))
 
 -- what is accepted with nothing left over was read
 ended : {A : Type 0} (s : List ℕ) (r : Read A) (a : A) (k : ℕ) → at-end s r ≡ got a k → r ≡ got a k
@@ -147,12 +223,13 @@ ended s (refused d place) a k e = absurd (let z : _≡_ {A = ℕ} 0 1 = cc in om
 
 -- The plan of a setup that is read shows it: its counts, and the entry of each id.
 pub plan-law : (s : List ℕ) (at : ℕ) (u : Setup) (k : ℕ) → readSetup s at ≡ got u k → PlanShows (planOf s at) s u
-plan-law s at u k e = from-read _ (readSetup s at) u k e (plan-reads s at)
+unfolding readSetup
+plan-law s at u k e = from-read _ (readSetup s at) u k e (plan-reads s readSection (counters-laid s) at)
 
 -- the same of a setup alone
 pub whole-plan-law : (s : List ℕ) (u : Setup) (k : ℕ) → setup s ≡ got u k → PlanShows (planOf s 0) s u
 unfolding setup
-whole-plan-law s u k e = plan-law s 0 u k (ended s (readSetup s 0) u k e)
+whole-plan-law s u k e = from-read _ (readWith perhaps s 0) u k (ended s (readWith perhaps s 0) u k e) (plan-reads s perhaps (last-laid s) 0)
 
 part-fits : (s : List ℕ) (most size i : ℕ) → (partAt s most size i .count ≤ most) × (partAt s most size i .first ≤ length s)
 unfolding partAt
@@ -169,8 +246,10 @@ plan-fits s at = record {
   mailboxes = part-fits s _ _ _ .0;
   messages = part-fits s _ _ _ .0;
   pools = part-fits s _ _ _ .0;
+  counters = part-fits s _ _ _ .0;
   starts = part-fits s _ _ _ .1;
   counts = part-fits s _ _ _ .1;
   patterns = part-fits s _ _ _ .1;
   blocks = part-fits s _ _ _ .1;
+  counter = part-fits s _ _ _ .1;
 }

@@ -1,7 +1,7 @@
 -- What judging a setup gives: what the rules' reader gives, without what was read.
 use mathlib.Core.List.{List, [], _∷_}
 use Prim.Native.Nat.{ℕ, zero, suc}
-use Rattle.rules.specs.Setup.{S1, S2, S3, S4, digit, Read, got, refused, Range, to}
+use Rattle.rules.specs.Setup.{S1, S2, S3, S4, digit, Read, got, refused, Range, to, Section}
 use Rattle.setup.specs.declared.Judged.{Judged}
 use Rattle.setup.specs.declared.Judged.the-variants.{Bad, Good}
 use Rattle.setup.specs.declared.Shape.{Shape}
@@ -18,6 +18,10 @@ toldAs d (refused S1 place) = Bad (digit S1) place
 toldAs d (refused S2 place) = Bad (digit S2) place
 toldAs d (refused S3 place) = Bad d place
 toldAs d (refused S4 place) = Bad (digit S4) place
+
+-- a section that is not read
+abbrev pub leftOut : List ℕ → Section → ℕ → Read (List (List ℕ))
+leftOut s t i = got [] i
 
 -- an earlier fault stays
 abbrev pub onGood : Judged → (ℕ → Judged) → Judged

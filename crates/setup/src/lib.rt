@@ -5,8 +5,8 @@ ghost use mathlib.Core.List.{[], _∷_};
 ghost use Prim.Native.Nat.{_+_, _≤_, _<_};
 ghost use lib.Dec.{leb};
 ghost use lib.ListN.{length, getD};
-ghost use Rattle.rules.specs.Setup.{S3, wordAt, to, section, readWord, readEntry, readEntries, readSection, readSetup, setup};
-ghost use Rattle.setup.specs.Judging.{judgedOf, toldAs, onGood, rangesOf};
+ghost use Rattle.rules.specs.Setup.{S3, wordAt, to, section, counters, readWord, readEntry, readEntries, readSection, readWith, readSetup, perhaps, setup};
+ghost use Rattle.setup.specs.Judging.{judgedOf, toldAs, onGood, rangesOf, leftOut};
 ghost use Rattle.setup.specs.Layout.{countAt, onward, partAt, planOf};
 
 // The largest counts.
@@ -23,6 +23,16 @@ const MAILBOXES: u32 = 16;
 const MESSAGES: u32 = 256;
 
 const POOLS: u32 = 8;
+
+const COUNTERS: u32 = 1;
+
+// The range of a counter's size, m.
+const LEAST_SIZE: u32 = 1;
+
+const MOST_SIZE: u32 = 65535;
+
+// How many alarms a counter has.
+const ALARMS: u32 = 8;
 
 // ---- words
 
@@ -183,14 +193,11 @@ fn one_word(least: u32, most: u32) -> Shape
     }
 }
 
-// A task's entry: its starting priority, and 1 if it is started.
-fn task_words(priorities: u32) -> Shape
-    ensures { λ r. ⌜ rangesOf r ≡ to 1 priorities ∷ to 0 1 ∷ [] ⌝ }
+// From 1 to `most`, and 0 or 1: of a task its starting priority and 1 if it is started, of an alarm its task and 1 if it wakes it.
+fn two_words(most: u32) -> Shape
+    ensures { λ r. ⌜ rangesOf r ≡ to 1 most ∷ to 0 1 ∷ [] ⌝ }
 {
-    let first = Span {
-        least: 1,
-        most: priorities,
-    };
+    let first = Span { least: 1, most };
     let second = Span { least: 0, most: 1 };
     Shape {
         words: 2,
@@ -199,12 +206,12 @@ fn task_words(priorities: u32) -> Shape
     }
 }
 
-// A setup that begins at an offset. Where its first count is refused, what is read as the number of priorities does not matter.
-pub fn judge(bytes: &[u8], at: usize) -> Judged
-    ensures { λ r. ⌜ r ≡ judgedOf (readSetup (now (bytes .entry)) at) ⌝ }
+// The first seven sections. Where the first count is refused, what is read as the number of priorities does not matter.
+fn judge_seven(bytes: &[u8], at: usize) -> Judged
+    ensures { λ r. ⌜ r ≡ judgedOf (readWith leftOut (now (bytes .entry)) at) ⌝ }
 {
     let priorities = judge_section(bytes, 1, PRIORITIES, no_words(), at);
-    let tasks = after(bytes, 1, TASKS, task_words(word(bytes, at)), priorities);
+    let tasks = after(bytes, 1, TASKS, two_words(word(bytes, at)), priorities);
     let semaphores = after(bytes, 0, SEMAPHORES, one_word(0, 65535), tasks);
     let flags = after(bytes, 0, FLAGS, one_word(0, 4294967295), semaphores);
     let mailboxes = after(bytes, 0, MAILBOXES, no_words(), flags);
@@ -212,11 +219,76 @@ pub fn judge(bytes: &[u8], at: usize) -> Judged
     after(bytes, 0, POOLS, one_word(1, 32), messages)
 }
 
+// A counter's entry, of a setup with so many tasks: m, and its alarms.
+fn judge_counter(bytes: &[u8], tasks: u32, at: usize) -> Judged
+    ensures { λ r. ⌜ r ≡ judgedOf (readEntry (now (bytes .entry)) (counters tasks .entry) at) ⌝ }
+{
+    let m = Span {
+        least: LEAST_SIZE,
+        most: MOST_SIZE,
+    };
+    match judge_word(bytes, m, 3, at) {
+        Judged::Bad(d, i) => Judged::Bad(d, i),
+        Judged::Good(next) => judge_entries(bytes, two_words(tasks), ALARMS, next),
+    }
+}
+
+// The eighth section.
+fn judge_counters(bytes: &[u8], tasks: u32, at: usize) -> Judged
+    ensures { λ r. ⌜ r ≡ judgedOf (readSection (now (bytes .entry)) (counters tasks) at) ⌝ }
+{
+    let count = Span {
+        least: 0,
+        most: COUNTERS,
+    };
+    match judge_word(bytes, count, 2, at) {
+        Judged::Bad(d, i) => Judged::Bad(d, i),
+        Judged::Good(next) => {
+            if word(bytes, at) == 0 {
+                return Judged::Good(next);
+            }
+            judge_counter(bytes, tasks, next)
+        }
+    }
+}
+
+// The number of tasks of a setup that begins at an offset.
+fn task_count(bytes: &[u8], at: usize) -> u32
+    ensures { λ r. ⌜ r ≡ wordAt (now (bytes .entry)) (onward (now (bytes .entry)) at 4) ⌝ }
+{
+    word(bytes, onward(bytes, at, 4))
+}
+
+// A recorded setup that begins at an offset: all eight sections.
+pub fn judge(bytes: &[u8], at: usize) -> Judged
+    ensures { λ r. ⌜ r ≡ judgedOf (readSetup (now (bytes .entry)) at) ⌝ }
+{
+    match judge_seven(bytes, at) {
+        Judged::Bad(d, i) => Judged::Bad(d, i),
+        Judged::Good(next) => judge_counters(bytes, task_count(bytes, at), next),
+    }
+}
+
+// The eighth section may be left out where the bytes end.
+fn judge_alone(bytes: &[u8]) -> Judged
+    ensures { λ r. ⌜ r ≡ judgedOf (readWith perhaps (now (bytes .entry)) 0) ⌝ }
+{
+    match judge_seven(bytes, 0) {
+        Judged::Bad(d, i) => Judged::Bad(d, i),
+        Judged::Good(next) => {
+            if bytes.len() <= next {
+                return Judged::Good(next);
+            }
+            judge_counters(bytes, task_count(bytes, 0), next)
+        }
+    }
+}
+
 // A setup alone: nothing may follow.
 pub fn judge_whole(bytes: &[u8]) -> Judged
     ensures { λ r. ⌜ r ≡ judgedOf (setup (now (bytes .entry))) ⌝ }
 {
-    let judged = judge(bytes, 0);
+    let judged = judge_alone(bytes);
     match judged {
         Judged::Bad(d, i) => Judged::Bad(d, i),
         Judged::Good(end) => {
@@ -244,6 +316,7 @@ pub struct Offsets {
     pub semaphores: usize,
     pub flags: usize,
     pub pools: usize,
+    pub counter: usize,
 }
 
 // What the counts of a setup say, and where the entries lie.
@@ -255,6 +328,7 @@ pub struct Plan {
     pub mailboxes: u32,
     pub messages: u32,
     pub pools: u32,
+    pub counters: u32,
     pub at: Offsets,
 }
 
@@ -282,7 +356,7 @@ fn count_at(bytes: &[u8], most: u32, at: usize) -> u32
 
 // A section whose count stands at an offset, with entries of `size` bytes.
 fn part_at(bytes: &[u8], most: u32, size: usize, at: usize) -> Part
-    requires { ⌜ size ≤ 8 ⌝ }
+    requires { ⌜ size ≤ 68 ⌝ }
     ensures { λ r. ⌜ r ≡ partAt (now (bytes .entry)) most size at ⌝ }
 {
     let count = count_at(bytes, most, at);
@@ -302,11 +376,13 @@ pub fn plan_of(bytes: &[u8], at: usize) -> Plan
     let mailboxes = part_at(bytes, MAILBOXES, 0, flags.next);
     let messages = part_at(bytes, MESSAGES, 0, mailboxes.next);
     let pools = part_at(bytes, POOLS, 4, messages.next);
+    let counters = part_at(bytes, COUNTERS, 68, pools.next);
     let first = Offsets {
         tasks: tasks.first,
         semaphores: semaphores.first,
         flags: flags.first,
         pools: pools.first,
+        counter: counters.first,
     };
     Plan {
         priorities: priorities.count,
@@ -316,6 +392,7 @@ pub fn plan_of(bytes: &[u8], at: usize) -> Plan
         mailboxes: mailboxes.count,
         messages: messages.count,
         pools: pools.count,
+        counters: counters.count,
         at: first,
     }
 }

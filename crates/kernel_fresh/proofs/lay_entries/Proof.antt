@@ -15,11 +15,15 @@ lay-flags-requires c κs = search needs
 lay-pools-requires : tie.Need-lay-pools-requires
 lay-pools-requires c κs = search needs
 
+lay-counter-requires : tie.Need-lay-counter-requires
+lay-counter-requires c κs = search needs
+
 returns : tie.Need-returns
 returns c =
-    let f = c .before .before in
+    let p = c .before .before in
+    let f = p .before .before in
     let s = f .before .before in
-    entry-steps _ _ _ (s .before .before .lay-tasks .ensures) (s .lay-semaphores .ensures) (f .lay-flags .ensures) (c .lay-pools .ensures)
+    entry-steps _ _ _ (s .before .before .lay-tasks .ensures) (s .lay-semaphores .ensures) (f .lay-flags .ensures) (p .lay-pools .ensures) (c .lay-counter .ensures)
 
 pub lay-entries-spec : {M : Type 1} → statement M
 lay-entries-spec =
@@ -29,4 +33,5 @@ lay-entries-spec =
     lay-semaphores-requires
     lay-flags-requires
     lay-pools-requires
+    lay-counter-requires
     returns)

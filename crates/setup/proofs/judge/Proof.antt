@@ -1,98 +1,49 @@
--- `judge`: section after section, as `setup-judged` says. Assumes nothing.
-use Rattle.setup.proofs.Judging.{setup-judged}
+-- `judge`: seven sections, then the eighth by the number of tasks. Assumes nothing.
+use mathlib.Core.Path.{_≡_, sym, _∙_}
+use Rattle.rules.specs.Setup.{wordAt, counters, readSection, readSetup}
+use Rattle.setup.specs.Judging.{judgedOf, onGood}
+use Rattle.setup.specs.Layout.{onward}
+use Rattle.setup.proofs.Judging.{eight-judged}
 use borrow.Author.Needs.{needs}
 use Rattle.setup.proofs.judge.Statement.{statement}
 use Rattle.setup.proofs.judge.Tie as tie
 
-no-words-requires : tie.Need-no-words-requires
-no-words-requires c κs = search needs
+judge-seven-requires : tie.Need-judge-seven-requires
+judge-seven-requires c κs = search needs
 
-judge-section-requires : tie.Need-judge-section-requires
-judge-section-requires c κs = search needs
+enum-known-d : tie.Need-enum-known-d
+enum-known-d c = search needs
 
-word-requires : tie.Need-word-requires
-word-requires c κs = search needs
+enum-known-next : tie.Need-enum-known-next
+enum-known-next c = search needs
 
-task-words-requires : tie.Need-task-words-requires
-task-words-requires c κs = search needs
+task-count-requires : tie.Need-task-count-requires
+task-count-requires c κs = search needs
 
-after-requires : tie.Need-after-requires
-after-requires c κs = search needs
+judge-counters-requires : tie.Need-judge-counters-requires
+judge-counters-requires c κs = search needs
 
-one-word-requires : tie.Need-one-word-requires
-one-word-requires c κs = search needs
-
-after-requires-2 : tie.Need-after-requires-2
-after-requires-2 c κs = search needs
-
-one-word-requires-2 : tie.Need-one-word-requires-2
-one-word-requires-2 c κs = search needs
-
-after-requires-3 : tie.Need-after-requires-3
-after-requires-3 c κs = search needs
-
-no-words-requires-2 : tie.Need-no-words-requires-2
-no-words-requires-2 c κs = search needs
-
-after-requires-4 : tie.Need-after-requires-4
-after-requires-4 c κs = search needs
-
-no-words-requires-3 : tie.Need-no-words-requires-3
-no-words-requires-3 c κs = search needs
-
-after-requires-5 : tie.Need-after-requires-5
-after-requires-5 c κs = search needs
-
-one-word-requires-3 : tie.Need-one-word-requires-3
-one-word-requires-3 c κs = search needs
-
-after-requires-6 : tie.Need-after-requires-6
-after-requires-6 c κs = search needs
+behind : (c : tie.After-judge-seven) → let a = c .before .before .args in
+    judgedOf (readSetup (a .bytes .now) (a .at)) ≡ onGood (c .judge-seven .result) (λ k. judgedOf (readSection (a .bytes .now) (counters (wordAt (a .bytes .now) (onward (a .bytes .now) (a .at) 4))) k))
+unfolding readSetup
+behind c = eight-judged _ readSection _ ∙ simp (c .judge-seven .ensures)
 
 returns : tie.Need-returns
-returns c =
-    let messages = c .before .before in
-    let mailboxes = messages .before .before in
-    let flags = mailboxes .before .before in
-    let semaphores = flags .before .before in
-    let tasks = semaphores .before .before in
-    let priorities = tasks .before .before .before in
-    rw setup-judged
-    (simp (
-      c .after6 .ensures,
-      c .before .one-word3 .ensures,
-      messages .after5 .ensures,
-      messages .before .no-words3 .ensures,
-      mailboxes .after4 .ensures,
-      mailboxes .before .no-words2 .ensures,
-      flags .after3 .ensures,
-      flags .before .one-word2 .ensures,
-      semaphores .after2 .ensures,
-      semaphores .before .one-word .ensures,
-      tasks .after .ensures,
-      tasks .before .task-words .ensures,
-      tasks .before .before .word .ensures,
-      priorities .judge-section .ensures,
-      priorities .before .no-words .ensures,
-    ))
+returns c = sym (behind (c .before .before .before) ∙ simp (c .before .d .given .1))
+
+returns-2 : tie.Need-returns-2
+returns-2 c =
+    let next = c .before .before .before in
+    c .judge-counters .ensures ∙ sym (behind (next .before .before) ∙ simp (next .next .given .1, c .before .task-count .ensures))
 
 pub judge-spec : {M : Type 1} → statement M
 judge-spec =
     tie.close
     (tie.spec
-    no-words-requires
-    judge-section-requires
-    word-requires
-    task-words-requires
-    after-requires
-    one-word-requires
-    after-requires-2
-    one-word-requires-2
-    after-requires-3
-    no-words-requires-2
-    after-requires-4
-    no-words-requires-3
-    after-requires-5
-    one-word-requires-3
-    after-requires-6
-    returns)
+    judge-seven-requires
+    enum-known-d
+    enum-known-next
+    task-count-requires
+    judge-counters-requires
+    returns
+    returns-2)

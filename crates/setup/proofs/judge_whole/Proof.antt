@@ -12,8 +12,8 @@ use borrow.Author.Needs.{needs}
 use Rattle.setup.proofs.judge_whole.Statement.{statement}
 use Rattle.setup.proofs.judge_whole.Tie as tie
 
-judge-requires : tie.Need-judge-requires
-judge-requires c κs = search needs
+judge-alone-requires : tie.Need-judge-alone-requires
+judge-alone-requires c κs = search needs
 
 enum-known-judged : tie.Need-enum-known-judged
 enum-known-judged c = search needs
@@ -22,9 +22,9 @@ enum-known-judged-2 : tie.Need-enum-known-judged-2
 enum-known-judged-2 c = search needs
 
 -- the whole goes by what was judged
-ended : (c : tie.After-judge) → let s = c .before .before .args .bytes .now in
-    judgedOf (setup s) ≡ onGood (c .judge .result) (λ i. cond (leb (length s) i) (Good i) (Bad 4 i))
-ended c = whole-judged _ ∙ simp (c .judge .ensures)
+ended : (c : tie.After-judge-alone) → let s = c .before .before .args .bytes .now in
+    judgedOf (setup s) ≡ onGood (c .judge-alone .result) (λ i. cond (leb (length s) i) (Good i) (Bad 4 i))
+ended c = whole-judged _ ∙ simp (c .judge-alone .ensures)
 
 returns : tie.Need-returns
 returns c = sym (ended (c .before .before .before) ∙ simp (c .before .judged .given .1))
@@ -42,4 +42,4 @@ returns-3 c =
 pub judge-whole-spec : {M : Type 1} → statement M
 judge-whole-spec =
     tie.close
-    (tie.spec judge-requires enum-known-judged enum-known-judged-2 returns returns-2 returns-3)
+    (tie.spec judge-alone-requires enum-known-judged enum-known-judged-2 returns returns-2 returns-3)

@@ -1,4 +1,4 @@
--- `part_at`: its fields are what the callees ensure; the size of the entries fits since an entry has at most 8 bytes. Assumes nothing.
+-- `part_at`: its fields are what the callees ensure; the size of the entries fits since an entry has at most 68 bytes. Assumes nothing.
 use Prim.Native.Nat.{_≤_}
 use native.Mathlib.Nat.{mul-le-mul, lt-of-le-of-lt}
 use native.Mathlib.Omega.{arith}

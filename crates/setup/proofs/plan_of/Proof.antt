@@ -25,16 +25,21 @@ part-at-requires-6 c κs = search needs
 part-at-requires-7 : tie.Need-part-at-requires-7
 part-at-requires-7 c κs = search needs
 
+part-at-requires-8 : tie.Need-part-at-requires-8
+part-at-requires-8 c κs = search needs
+
 returns : tie.Need-returns
 unfolding planOf
 returns c =
-    let messages = c .before in
+    let pools = c .before in
+    let messages = pools .before in
     let mailboxes = messages .before in
     let flags = mailboxes .before in
     let semaphores = flags .before in
     let tasks = semaphores .before in
     simp (
-      c .part-at7 .ensures,
+      c .part-at8 .ensures,
+      pools .part-at7 .ensures,
       messages .part-at6 .ensures,
       mailboxes .part-at5 .ensures,
       flags .part-at4 .ensures,
@@ -54,4 +59,5 @@ plan-of-spec =
     part-at-requires-5
     part-at-requires-6
     part-at-requires-7
+    part-at-requires-8
     returns)

@@ -1,0 +1,28 @@
+use borrow.Author.Needs.{needs}
+use borrow.Author.Tests.{eq-eqb, ne-eqb}
+use Rattle.kernel_fresh.specs.Laying.{laidCounter}
+use Rattle.kernel_fresh.proofs.lay_counter.Statement.{statement}
+use Rattle.kernel_fresh.proofs.lay_counter.Tie as tie
+
+returns : tie.Need-returns
+unfolding laidCounter
+returns c = simp (eq-eqb _ _ (c .if1 .taken))
+
+word-requires : tie.Need-word-requires
+word-requires c κs = search needs
+
+set-counter-requires : tie.Need-set-counter-requires
+set-counter-requires c κs = search needs
+
+lay-alarms-requires : tie.Need-lay-alarms-requires
+lay-alarms-requires c κs = search needs
+
+returns-2 : tie.Need-returns-2
+unfolding laidCounter
+returns-2 c =
+    let sized = c .before .before in
+    simp (ne-eqb _ _ (sized .before .before .before .if1 .left), c .lay-alarms .ensures, sized .set-counter .ensures, sized .before .word .ensures)
+
+pub lay-counter-spec : {M : Type 1} → statement M
+lay-counter-spec =
+    tie.close (tie.spec returns word-requires set-counter-requires lay-alarms-requires returns-2)

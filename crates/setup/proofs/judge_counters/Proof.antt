@@ -1,0 +1,60 @@
+-- `judge_counters`: none, or one. Assumes nothing.
+use mathlib.Core.Bool.{cond}
+use mathlib.Core.Path.{_≡_, sym, _∙_}
+use lib.Dec.{eqb}
+use borrow.Author.Tests.{eq-eqb, ne-eqb}
+use Rattle.rules.specs.Setup.{S2, wordAt, counters, readEntry, readSection}
+use Rattle.setup.specs.Judging.{judgedOf, onGood}
+use Rattle.setup.specs.declared.Judged.the-variants.{Good}
+use Rattle.setup.proofs.Judging.{counters-judged, word-told}
+use borrow.Author.Needs.{needs}
+use Rattle.setup.proofs.judge_counters.Statement.{statement}
+use Rattle.setup.proofs.judge_counters.Tie as tie
+
+judge-word-requires : tie.Need-judge-word-requires
+judge-word-requires c κs = search needs
+
+enum-known-d : tie.Need-enum-known-d
+enum-known-d c = search needs
+
+enum-known-next : tie.Need-enum-known-next
+enum-known-next c = search needs
+
+word-requires : tie.Need-word-requires
+word-requires c κs = search needs
+
+-- the entry goes by what was judged of the count
+counted : (c : tie.After-judge-word) → let a = c .before .before .args in
+    judgedOf (readSection (a .bytes .now) (counters (a .tasks)) (a .at))
+    ≡ onGood (c .judge-word .result) (λ j. cond (eqb (wordAt (a .bytes .now) (a .at)) 0) (Good j) (judgedOf (readEntry (a .bytes .now) (counters (a .tasks) .entry) j)))
+counted c = counters-judged _ _ _ ∙ simp (word-told _ _ S2 _ (c .judge-word .ensures))
+
+returns : tie.Need-returns
+returns c =
+    let next = c .before .before .before in
+    sym (counted (next .before .before) ∙ simp (next .next .given .1, ← c .before .word .ensures, eq-eqb _ _ (c .if1 .taken)))
+
+judge-counter-requires : tie.Need-judge-counter-requires
+judge-counter-requires c κs = search needs
+
+returns-2 : tie.Need-returns-2
+returns-2 c = sym (counted (c .before .before .before) ∙ simp (c .before .d .given .1))
+
+returns-3 : tie.Need-returns-3
+returns-3 c =
+    let word = c .before .before in
+    let next = word .before .before in
+    c .judge-counter .ensures ∙ sym (counted (next .before .before) ∙ simp (next .next .given .1, ← word .word .ensures, ne-eqb _ _ (c .before .if1 .left)))
+
+pub judge-counters-spec : {M : Type 1} → statement M
+judge-counters-spec =
+    tie.close
+    (tie.spec
+    judge-word-requires
+    enum-known-d
+    enum-known-next
+    word-requires
+    returns
+    judge-counter-requires
+    returns-2
+    returns-3)
