@@ -19,10 +19,10 @@ extern "C" {
 
 /* ---- the state */
 
-#define OKROZUMBA_STATE_WORDS 1713
+#define OKROZUMBA_STATE_WORDS 1760
 #define OKROZUMBA_MESSAGES 256
 
-/* The kernel's memory, 7876 bytes. Only the functions below give its words a meaning. A copy of it is a second kernel in the same state. */
+/* The kernel's memory, 8064 bytes. Only the functions below give its words a meaning. A copy of it is a second kernel in the same state. */
 typedef struct okrozumba_state {
     uint32_t words[OKROZUMBA_STATE_WORDS];
     uint32_t messages[OKROZUMBA_MESSAGES];
@@ -75,7 +75,11 @@ enum {
     OKROZUMBA_GET_TIM = 32,  /* the clock: w1 its quotient by 2^32, w2 the remainder */
     OKROZUMBA_CRE_TSK = 33,  /* T, task that is not there, starting priority: it is dormant then */
     OKROZUMBA_DEL_TSK = 34,  /* T, dormant task: it is not there then */
-    OKROZUMBA_EXD_TSK = 35   /* T: ext_tsk, and then the task is not there */
+    OKROZUMBA_EXD_TSK = 35,  /* T: ext_tsk, and then the task is not there */
+    OKROZUMBA_SET_ABS = 36,  /* idle alarm, count at which it fires, 0 for once or the period: both up to the counter's size m */
+    OKROZUMBA_SET_REL = 37,  /* idle alarm, ticks until it fires, 0 for once or the period: both up to m; 0 ticks are m */
+    OKROZUMBA_CAN_ALM = 38,  /* alarm in use: it is idle then */
+    OKROZUMBA_ALM_STS = 39   /* alarm; w1 1 if it is in use, else 0, w2 the code of its last firing without the sign, 0 before any */
 };
 
 /* The time of wai_tsk that never ends. */
@@ -103,8 +107,9 @@ enum {
 enum {
     OKROZUMBA_E_OK = 0,
     OKROZUMBA_WAITS = 1,          /* the caller waits: its answer will be in its cell */
-    OKROZUMBA_H_CALL = -1,        /* call number not 1..35, or context not 0 or 1 */
-    OKROZUMBA_H_PAR = -2,         /* flag pattern 0 in a wait or poll, mode not 0..3, message number outside 1..count */
+    OKROZUMBA_H_CALL = -1,        /* call number not 1..39, or context not 0 or 1 */
+    OKROZUMBA_H_PAR = -2,         /* flag pattern 0 in a wait or poll, mode not 0..3, message number outside 1..count; alarm not 1..8, its
+                                     count or period not 0..m, no counter */
     OKROZUMBA_H_NODMT = -3,       /* sta_tsk or del_tsk on a task not dormant */
     OKROZUMBA_H_SUS = -4,         /* sus_tsk on a suspended task */
     OKROZUMBA_H_POLL = -5,        /* a poll that can't be served at once */
@@ -112,6 +117,8 @@ enum {
     OKROZUMBA_H_NEST = -7,        /* an entry while 15 handlers are open */
     OKROZUMBA_H_EXIST = -8,       /* cre_tsk on a task that is there */
     OKROZUMBA_H_ILBLK = -10,      /* block number outside the pool, or free */
+    OKROZUMBA_H_USED = -11,       /* set_abs or set_rel on an alarm in use */
+    OKROZUMBA_H_IDLE = -12,       /* can_alm on an idle alarm */
     /* The state is damaged; the first of these that applies. */
     OKROZUMBA_H_NUMBER = -20,     /* a number out of range anywhere, or any breach but the next four; w1 0 */
     OKROZUMBA_H_QUEUE = -21,      /* a task missing from, doubled in or foreign to a queue; w1 the smallest such task */
@@ -194,7 +201,7 @@ okrozumba_outcome okrozumba_start(const uint8_t *setup, size_t setup_bytes, uint
 okrozumba_answer okrozumba_call(uint32_t words[OKROZUMBA_STATE_WORDS], uint32_t messages[OKROZUMBA_MESSAGES], int32_t context,
                                 int32_t number, int32_t a, int32_t b, int32_t c);
 
-/* A tick: the clock rises, and timed waits that run out end. On a damaged state: as okrozumba_call. It looks for damage itself. */
+/* A tick: the clock rises, timed waits that run out end, the counter goes one on, and alarms that are due fire. On a damaged state: as okrozumba_call. It looks for damage itself. */
 okrozumba_answer okrozumba_tick(uint32_t words[OKROZUMBA_STATE_WORDS], const uint32_t messages[OKROZUMBA_MESSAGES]);
 
 /* A handler is entered, up to 15 in each other. While one is open no task is switched: the running task reported is the one at the
@@ -227,14 +234,14 @@ okrozumba_outcome okrozumba_run(const uint8_t *setup, size_t setup_bytes, uint32
 
 /* ---- recorded runs, as they come */
 
-/* A recorded run is a setup, the number of events (0 to 1,000,000), and five words for each, kind, call, a, b, c. Its text has "start" and the running task, once setup and number are
+/* A recorded run is a setup with all eight sections, the number of events (0 to 1,000,000), and five words for each, kind, call, a, b, c. Its text has "start" and the running task, once setup and number are
    accepted; then a line for each event: number, code, w1, w2, running task, released. Where the bytes have a fault, a last line follows those that stand: "refused", digit of the fault (1 to 4
    for S1 to S4), place from the input's start. The input may come in parts of any size: the text, the last state and the refusal are the same. */
 
 /* A recorder: its numbers, and the bytes of the setup and the count, or of an event, that are not whole yet. Any content is a value. Its kernel is an okrozumba_state beside it, which needs no
    preparation; once the start line is written it can be read by the functions above. */
 #define OKROZUMBA_NUMBERS 5
-#define OKROZUMBA_HELD 448
+#define OKROZUMBA_HELD 520
 
 typedef struct okrozumba_recorder {
     uint32_t numbers[OKROZUMBA_NUMBERS];

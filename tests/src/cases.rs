@@ -1,4 +1,6 @@
-//! The bench sheet of the paper, its further cases and those of requests K2, K5, K7 and K9, as data: what a kernel must answer, word by word.
+//! The bench sheet of the paper, its further cases and those of requests K2, K5, K7, K9 and K11, as data: what a kernel must answer, word by word.
+mod alarms;
+
 use crate::plain::{Answer, Event};
 use crate::setup::{self, Setup};
 
@@ -632,6 +634,7 @@ fn crowd() -> Setup {
         mailboxes: 0,
         messages: 0,
         pools: vec![],
+        counter: None,
     }
 }
 
@@ -765,12 +768,17 @@ fn play(bench: &mut impl Bench, name: &str, steps: &[Step]) -> Result<(), String
 
 /// Plays each case on a bench of its own; gives how many there are.
 pub fn check<B: Bench>(fresh: impl Fn(&Setup) -> Result<B, String>) -> Result<usize, String> {
-    let (sheet, crowd, queues) = (setup()?, crowd(), queues());
-    for (name, steps) in CASES {
+    let (sheet, counted) = (setup()?, alarms::setup()?);
+    let (crowd, queues) = (crowd(), queues());
+    for (name, steps) in CASES.iter().chain(&alarms::UNCOUNTED) {
         play(&mut fresh(&sheet)?, name, steps)?;
+    }
+    for (name, steps) in alarms::CASES {
+        play(&mut fresh(&counted)?, name, steps)?;
     }
     for (name, steps) in &queues {
         play(&mut fresh(&crowd)?, name, steps)?;
     }
-    Ok(CASES.len() + queues.len())
+    let alarms = alarms::UNCOUNTED.len() + alarms::CASES.len();
+    Ok(CASES.len() + alarms + queues.len())
 }

@@ -2,9 +2,10 @@
 //! for (crates/memory_picture/specs/Picture.antt). What any two arrays show, and arrays that show a picture. An id is an index into a column; entry
 //! 0 is unused.
 use crate::picture::{
-    Breach, Object, Picture, Queues, Standing, Task, Wait, BACKWARD_RULE, NONEMPTY_RULE,
-    UNLINKED_RULE,
+    Alarm, Breach, Counter, Due, Object, Picture, Queues, Standing, Task, Wait, ALARM_ACT_RULE,
+    BACKWARD_RULE, NONEMPTY_RULE, UNLINKED_RULE,
 };
+use crate::setup::ALARMS;
 use okrozumba::{State, MESSAGES, STATE_WORDS};
 
 /// Words of a column: where it begins. Its entries are found by id.
@@ -29,6 +30,14 @@ const SIZE: Column = Column(616);
 const SYSTEM: Column = Column(1171);
 const HANDLING: Column = Column(1180);
 const NONEMPTY: Column = Column(1182);
+const COUNTER: Column = Column(1713);
+const ALARM_TASK: Column = Column(1715);
+const ALARM_WAKES: Column = Column(1724);
+const ALARM_KEPT: Column = Column(1733);
+const ALARM_DUE: Column = Column(1742);
+const ALARM_PERIOD: Column = Column(1751);
+/// All words of the counter and its alarms.
+pub const ALARM_WORDS: std::ops::Range<usize> = 1713..1760;
 
 /// The two directions of links.
 #[derive(Clone, Copy)]
@@ -86,6 +95,10 @@ const CLOCK_HIGH: u32 = 8;
 /// Entries of the handlers' column: how many are open, and the interrupted task or 0.
 const DEPTH: u32 = 0;
 const INTERRUPTED: u32 = 1;
+
+/// Entries of the counter's column: its size, 0 if there is none, and its present count.
+const COUNTER_SIZE: u32 = 0;
+const PRESENT: u32 = 1;
 
 /// A cell's code as the memory has it.
 const CELL_CODES: [i32; 3] = [0, -3413, -3414];
@@ -209,6 +222,41 @@ impl Reader<'_> {
         (self.at(HANDLING, DEPTH) > 0 && task != 0).then_some(task)
     }
 
+    /// A due of 0 is an idle alarm, whose period is no part of the state; any other is one more than the expiry.
+    fn alarm(&self, id: u32) -> Result<Alarm, Breach> {
+        let wakes = match self.at(ALARM_WAKES, id) {
+            0 => Ok(false),
+            1 => Ok(true),
+            _ => Err(Breach::number(ALARM_ACT_RULE)),
+        };
+        let due = self.at(ALARM_DUE, id).checked_sub(1);
+        Ok(Alarm {
+            task: self.at(ALARM_TASK, id),
+            wakes: wakes?,
+            // without its sign; what is too great for a code is none of them
+            kept: self.at(ALARM_KEPT, id).wrapping_neg() as i32,
+            due: due.map(|expiry| Due {
+                expiry,
+                period: self.at(ALARM_PERIOD, id),
+            }),
+        })
+    }
+
+    /// Without a counter nothing of the alarms is part of the state.
+    fn counter(&self) -> Result<Option<Counter>, Breach> {
+        let size = self.at(COUNTER, COUNTER_SIZE);
+        if size == 0 {
+            return Ok(None);
+        }
+        let alarms = (1..=ALARMS as u32).map(|id| self.alarm(id));
+        let alarms = alarms.collect::<Result<Vec<Alarm>, _>>()?;
+        Ok(Some(Counter {
+            size,
+            present: self.at(COUNTER, PRESENT),
+            alarms: std::array::from_fn(|i| alarms[i]),
+        }))
+    }
+
     /// What the memory shows, unless a number says nothing at all.
     fn picture(&self) -> Result<Picture, Breach> {
         let tasks = self.count(TASKS)?;
@@ -240,6 +288,7 @@ impl Reader<'_> {
             pool_waiters: of_tasks(POOL_ANCHORS, pools),
             mail: self.queues(MAIL_LINKS, MAIL_ANCHORS, mailboxes, messages),
             free: (1..=pools).map(|pool| self.free(pool, pools)).collect(),
+            counter: self.counter()?,
         })
     }
 }
@@ -435,6 +484,24 @@ impl Writer {
         }
     }
 
+    /// The period of an idle alarm, and all of the alarms where there is no counter, are no part of the state.
+    fn counter(&mut self, counter: Option<&Counter>) {
+        self.put(COUNTER, COUNTER_SIZE, counter.map_or(0, |all| all.size));
+        let Some(counter) = counter else {
+            return;
+        };
+        self.put(COUNTER, PRESENT, counter.present);
+        for (id, alarm) in (1..).zip(&counter.alarms) {
+            self.put(ALARM_TASK, id, alarm.task);
+            self.put(ALARM_WAKES, id, u32::from(alarm.wakes));
+            self.put(ALARM_KEPT, id, alarm.kept.unsigned_abs());
+            self.put(ALARM_DUE, id, alarm.due.map_or(0, |due| due.expiry + 1));
+            if let Some(due) = alarm.due {
+                self.put(ALARM_PERIOD, id, due.period);
+            }
+        }
+    }
+
     fn links(&mut self, p: &Picture) {
         for id in 1..=p.tasks.len() as u32 {
             self.put(TASK_LINKS.next, id, 0);
@@ -473,6 +540,7 @@ pub fn drawn(p: &Picture, mut any: impl FnMut() -> u32) -> State {
         w.pool(id, free);
     }
     messages[..p.messages.len()].copy_from_slice(&p.messages);
+    w.counter(p.counter.as_ref());
     w.links(p);
     State::of(w.words, messages)
 }

@@ -1,5 +1,6 @@
 //! A second kernel, from the paper alone, and what it takes to hold the first one to it. Nothing here looks at the first kernel's rules;
 //! of its memory only `layout` knows, and that from the documents.
+pub mod alarms;
 pub mod cases;
 pub mod curve;
 pub mod figures;

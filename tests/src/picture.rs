@@ -1,5 +1,6 @@
 //! A state as the paper's picture: what is kept of each task and object, and the queues as lists. Whether a picture is a sound state is
-//! decided here by "A sound state" of the paper alone, and what is told of one that is not by requests K6 and K7 alone.
+//! decided here by "A sound state" of the paper and request K11 alone, and what is told of one that is not by requests K6 and K7 alone.
+use crate::setup::ALARMS;
 use std::fmt;
 
 /// What a task can wait on, by id.
@@ -70,6 +71,33 @@ pub const ABSENT: Task = Task {
     cell: (0, 0),
 };
 
+/// When an alarm fires: at this count, and with a period again and again.
+#[derive(Clone, Copy, PartialEq, Eq, Debug)]
+pub struct Due {
+    pub expiry: u32,
+    /// 0 for once.
+    pub period: u32,
+}
+
+#[derive(Clone, Copy, PartialEq, Eq, Debug)]
+pub struct Alarm {
+    pub task: u32,
+    /// It wakes its task, else it starts it.
+    pub wakes: bool,
+    /// The code of the last firing, 0 before any.
+    pub kept: i32,
+    /// None while it is idle.
+    pub due: Option<Due>,
+}
+
+#[derive(Clone, PartialEq, Eq, Debug)]
+pub struct Counter {
+    /// It goes to one less and round.
+    pub size: u32,
+    pub present: u32,
+    pub alarms: [Alarm; ALARMS],
+}
+
 /// The waiters on each object of a kind, by id from 1.
 pub type Queues = Vec<Vec<u32>>;
 
@@ -99,6 +127,7 @@ pub struct Picture {
     pub mail: Queues,
     /// The free blocks of each pool.
     pub free: Queues,
+    pub counter: Option<Counter>,
 }
 
 /// A rule in words.
@@ -106,6 +135,13 @@ pub type Rule = &'static str;
 pub const DEPTH_RULE: Rule = "depth of handlers";
 pub const INTERRUPTED_RULE: Rule = "interrupted task";
 pub const ABSENT_RULE: Rule = "task not there";
+pub const COUNTER_SIZE_RULE: Rule = "counter's size";
+pub const PRESENT_RULE: Rule = "counter's present count";
+pub const ALARM_TASK_RULE: Rule = "alarm's task";
+pub const ALARM_ACT_RULE: Rule = "alarm's start or wake";
+pub const KEPT_RULE: Rule = "alarm's kept code";
+pub const EXPIRY_RULE: Rule = "alarm's expiry";
+pub const PERIOD_RULE: Rule = "alarm's period";
 pub const MARK_RULE: Rule = "message's mark against its list";
 /// These three only a memory can break, no picture.
 pub const BACKWARD_RULE: Rule = "backward link";
@@ -188,6 +224,9 @@ pub const TICKS_MOST: u32 = 2_147_483_647;
 pub const CLOCK_END: u64 = 1 << 48;
 const DEPTH_MOST: u32 = 15;
 const CELL_CODES: [i32; 3] = [0, -3413, -3414];
+/// What an alarm can have kept: E_NOEXS or H_NODMT of a start; E_NOEXS, E_DMT or E_QOVR of a wake.
+const START_CODES: [i32; 3] = [0, -2100, -3];
+const WAKE_CODES: [i32; 4] = [0, -2100, -2101, -2889];
 
 /// A rule on numbers, or one that has no code of its own.
 fn keep(holds: bool, rule: Rule) -> Result<(), Breach> {
@@ -275,6 +314,7 @@ impl Picture {
             self.task_in_range(task)?;
         }
         self.handlers_in_range()?;
+        self.alarms_in_range()?;
         self.entries_in_range()
     }
 
@@ -289,6 +329,17 @@ impl Picture {
                 rule: rule.rule,
             })
         })
+    }
+}
+
+impl Alarm {
+    /// Those that it can have kept.
+    pub fn codes(&self) -> &'static [i32] {
+        if self.wakes {
+            &WAKE_CODES
+        } else {
+            &START_CODES
+        }
     }
 }
 
@@ -337,6 +388,23 @@ impl Picture {
         )?;
         let stands = matches!(self.task(id).standing, Standing::Ready | Standing::Suspend);
         keep(stands, INTERRUPTED_RULE)
+    }
+
+    fn alarms_in_range(&self) -> Result<(), Breach> {
+        let Some(counter) = &self.counter else {
+            return Ok(());
+        };
+        keep((1..=65535).contains(&counter.size), COUNTER_SIZE_RULE)?;
+        keep(counter.present < counter.size, PRESENT_RULE)?;
+        for alarm in &counter.alarms {
+            keep(numbered(alarm.task, self.tasks.len()), ALARM_TASK_RULE)?;
+            keep(alarm.codes().contains(&alarm.kept), KEPT_RULE)?;
+            if let Some(due) = alarm.due {
+                keep(due.expiry < counter.size, EXPIRY_RULE)?;
+                keep(due.period <= counter.size, PERIOD_RULE)?;
+            }
+        }
+        Ok(())
     }
 
     fn task_in_range(&self, task: &Task) -> Result<(), Breach> {

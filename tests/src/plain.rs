@@ -1,7 +1,9 @@
 //! The plain kernel of the paper, written from the paper alone and in the plainest way: arrival numbers, and no queue that outlives the
 //! look at it. It is fed the setup and the events and nothing of the other kernel's.
-use crate::picture::{meets, Object, Picture, Queues, Standing, Task, Wait, ABSENT, CLOCK_END};
-use crate::setup::Setup;
+use crate::picture::{
+    meets, Alarm, Counter, Due, Object, Picture, Queues, Standing, Task, Wait, ABSENT, CLOCK_END,
+};
+use crate::setup::{self, Setup, ALARMS};
 
 pub const H_CALL: i32 = -1;
 pub const H_PAR: i32 = -2;
@@ -12,6 +14,8 @@ pub const H_MSG: i32 = -6;
 pub const H_NEST: i32 = -7;
 pub const H_EXIST: i32 = -8;
 pub const H_ILBLK: i32 = -10;
+pub const H_USED: i32 = -11;
+pub const H_IDLE: i32 = -12;
 pub const E_TPRI: i32 = -1830;
 pub const E_ILTIME: i32 = -1831;
 pub const E_SELF: i32 = -2097;
@@ -31,11 +35,17 @@ const WAKEUPS_MOST: u32 = 15;
 const SEMAPHORE_MOST: u32 = 65535;
 const TASK: i32 = 0;
 const HANDLER: i32 = 1;
+const STA_TSK: i32 = 1;
+const WUP_TSK: i32 = 11;
 pub const CRE_TSK: i32 = 33;
 pub const DEL_TSK: i32 = 34;
 pub const EXD_TSK: i32 = 35;
+pub const SET_ABS: i32 = 36;
+pub const SET_REL: i32 = 37;
+pub const CAN_ALM: i32 = 38;
+pub const ALM_STS: i32 = 39;
 /// The number of calls.
-pub const CALLS: i32 = 35;
+pub const CALLS: i32 = 39;
 const TASK_ONLY: [i32; 11] = [2, 3, 9, 10, 14, 18, 21, 23, 33, 34, 35];
 
 /// A tick, a handler's entry or return, or a call.
@@ -92,6 +102,7 @@ pub struct Plain {
     depth: u32,
     /// The task that ran at the outermost entry; none if none did, or no handler is open.
     interrupted: Option<u32>,
+    counter: Option<Counter>,
     /// Numbers given so far.
     numbers: u64,
 }
@@ -158,6 +169,20 @@ fn made(start: u32) -> Task {
     }
 }
 
+/// A counter at 0 with all alarms idle.
+fn counter_of(setup: &setup::Counter) -> Counter {
+    Counter {
+        size: setup.size,
+        present: 0,
+        alarms: setup.alarms.map(|(task, wakes)| Alarm {
+            task,
+            wakes,
+            kept: 0,
+            due: None,
+        }),
+    }
+}
+
 /// Ids by rising number.
 fn listed(mut numbered: Vec<(u64, u32)>) -> Vec<u32> {
     numbered.sort();
@@ -205,6 +230,7 @@ impl Plain {
             clock: 0,
             depth: 0,
             interrupted: None,
+            counter: setup.counter.as_ref().map(counter_of),
             numbers: 0,
         };
         for (id, task) in (1..).zip(&setup.tasks) {
@@ -245,6 +271,7 @@ impl Plain {
             clock: p.clock,
             depth: p.depth,
             interrupted: p.interrupted,
+            counter: p.counter.clone(),
             numbers: 0,
         };
         for id in p.task_queues().into_iter().flatten().flatten() {
@@ -406,6 +433,7 @@ impl Plain {
             free: (1..=self.counts().pools)
                 .map(|pool| self.free_blocks(pool))
                 .collect(),
+            counter: self.counter.clone(),
         }
     }
 }
@@ -418,7 +446,7 @@ impl Plain {
         refuse_if(context != TASK && context != HANDLER, H_CALL)?;
         self.judge_a(number, a)?;
         self.judge_b(number, b)?;
-        refuse_if(matches!(number, 18 | 19) && !(0..=3).contains(&c), H_PAR)?;
+        self.judge_c(number, c)?;
         let caller = self.judge_context(context, number)?;
         if names_task(number) && number != CRE_TSK {
             self.judge_there(a as u32)?;
@@ -442,6 +470,10 @@ impl Plain {
             16..=19 | 29 => inside(a, self.flags.len(), E_NOEXS),
             20..=22 | 30 => inside(a, self.mailboxes as usize, E_NOEXS),
             23..=25 | 31 => inside(a, self.pools.len(), E_NOEXS),
+            SET_ABS..=ALM_STS => {
+                refuse_if(self.counter.is_none(), H_PAR)?;
+                inside(a, ALARMS, H_PAR)
+            }
             _ => Ok(()),
         }
     }
@@ -451,8 +483,23 @@ impl Plain {
             4 | CRE_TSK => inside(b, self.priorities as usize, E_TPRI),
             18 | 19 => refuse_if(b == 0, H_PAR),
             20 => inside(b, self.messages.len(), H_PAR),
+            SET_ABS | SET_REL => self.judge_count(b),
             _ => Ok(()),
         }
+    }
+
+    fn judge_c(&self, number: i32, c: i32) -> Result<(), i32> {
+        match number {
+            18 | 19 => refuse_if(!(0..=3).contains(&c), H_PAR),
+            SET_ABS | SET_REL => self.judge_count(c),
+            _ => Ok(()),
+        }
+    }
+
+    /// A count or a period goes up to the counter's size.
+    fn judge_count(&self, count: i32) -> Result<(), i32> {
+        let size = self.counter.as_ref().map_or(0, |counter| counter.size);
+        refuse_if(count < 0 || count as u32 > size, H_PAR)
     }
 
     /// An id in range may be nobody's.
@@ -500,6 +547,8 @@ impl Plain {
                 refuse_if(self.pools[at(id)][at(b as u32)].free, H_ILBLK)
             }
             CRE_TSK => refuse_if(self.task(id).standing != Standing::Absent, H_EXIST),
+            SET_ABS | SET_REL => refuse_if(self.in_use(id), H_USED),
+            CAN_ALM => refuse_if(!self.in_use(id), H_IDLE),
             _ => Ok(()),
         }
     }
@@ -633,6 +682,7 @@ impl Plain {
         for id in 1..=self.counts().tasks {
             self.lose_one(id);
         }
+        self.count_on();
         DONE
     }
 
@@ -699,6 +749,10 @@ impl Plain {
                 self.end(me);
                 self.delete(me)
             }
+            SET_ABS => self.set_alarm(a, 0, b, c),
+            SET_REL => self.set_alarm(a, self.present(), b, c),
+            CAN_ALM => self.cancel(a),
+            ALM_STS => self.alm_sts(a),
             _ => unreachable!("judged"),
         }
     }
@@ -918,5 +972,76 @@ impl Plain {
     fn mpl_sts(&self, pool: u32) -> Said {
         let free = self.free_blocks(pool).len() as u32;
         (0, self.first_or_0(Object::Pool(pool)), free)
+    }
+}
+
+// ---- the counter and its alarms
+
+impl Plain {
+    /// The counter, if the setup has one.
+    pub fn counter(&self) -> Option<&Counter> {
+        self.counter.as_ref()
+    }
+
+    fn judged(&mut self) -> &mut Counter {
+        self.counter.as_mut().expect("judged")
+    }
+
+    fn present(&self) -> u32 {
+        self.counter.as_ref().map_or(0, |counter| counter.present)
+    }
+
+    fn in_use(&self, alarm: u32) -> bool {
+        let found = self.counter.as_ref().map(|all| all.alarms[at(alarm)]);
+        found.is_some_and(|alarm| alarm.due.is_some())
+    }
+
+    /// So many counts from another one on, by remainder.
+    fn set_alarm(&mut self, alarm: u32, from: u32, count: u32, period: u32) -> Said {
+        let counter = self.judged();
+        let expiry = (from + count) % counter.size;
+        counter.alarms[at(alarm)].due = Some(Due { expiry, period });
+        DONE
+    }
+
+    fn cancel(&mut self, alarm: u32) -> Said {
+        self.judged().alarms[at(alarm)].due = None;
+        DONE
+    }
+
+    fn alm_sts(&mut self, alarm: u32) -> Said {
+        let used = self.in_use(alarm);
+        let kept = self.judged().alarms[at(alarm)].kept;
+        (0, u32::from(used), kept.unsigned_abs())
+    }
+
+    /// The counter's step in a tick, and then the alarms that it reaches, by number.
+    fn count_on(&mut self) {
+        let Some(counter) = &mut self.counter else {
+            return;
+        };
+        counter.present = (counter.present + 1) % counter.size;
+        let present = counter.present;
+        for alarm in 1..=ALARMS as u32 {
+            match self.judged().alarms[at(alarm)].due {
+                Some(Due { expiry, period }) if expiry == present => self.fire(alarm, period),
+                _ => {}
+            }
+        }
+    }
+
+    /// Starts or wakes the task as a handler would; then idle, or set again by the period.
+    fn fire(&mut self, alarm: u32, period: u32) {
+        let Alarm { task, wakes, .. } = self.judged().alarms[at(alarm)];
+        let call = if wakes { WUP_TSK } else { STA_TSK };
+        let code = match self.judge(HANDLER, call, task as i32, 0, 0) {
+            Ok(()) => self.perform(call, task, 0, 0).0,
+            Err(code) => code,
+        };
+        self.judged().alarms[at(alarm)].kept = code;
+        self.cancel(alarm);
+        if period != 0 {
+            self.set_alarm(alarm, self.present(), period, period);
+        }
     }
 }

@@ -1,13 +1,13 @@
-//! The kernel of paper 01 and requests K2, K5 to K7 and K9 once more, unproved and written for speed: what `bench` measures the proved one against.
+//! The kernel of paper 01 and requests K2, K5 to K7, K9 and K11 once more, unproved and written for speed: what `bench` measures the proved one against.
 //!
 //! Queues are doubly linked rings in arrays: nodes 1 to 32 are tasks (1 to 256 messages, or free blocks, 32 for each pool), the nodes behind
 //! them anchors, one for each queue.
-//! Bit masks say which ready queues are nonempty and which tasks wait for a time. Nothing is allocated. Numbers that a sound state keeps in
+//! Bit masks say which ready queues are nonempty, which tasks wait for a time and which alarms are in use. Nothing is allocated. Numbers that a sound state keeps in
 //! their ranges are trusted; `Kernel::is_sound` looks at all of them, and `Kernel::checked_event` does so before the event.
 
 mod damage;
 
-use crate::setup::{self, Fault};
+use crate::setup::{self, Fault, ALARMS};
 use okrozumba::code::*;
 use okrozumba::task_state::*;
 use okrozumba::Answer;
@@ -74,6 +74,17 @@ struct Task {
     ticks: u32,
     code: i32,
     word: u32,
+}
+
+#[derive(Clone, Copy, Default, PartialEq)]
+struct Alarm {
+    task: u32,
+    /// 1 to wake it, 0 to start it.
+    wakes: u32,
+    kept: i32,
+    /// These two count while it is in use.
+    expiry: u32,
+    period: u32,
 }
 
 #[derive(Clone, Copy, Default, PartialEq)]
@@ -164,6 +175,11 @@ pub struct Kernel {
     mail: Rings<{ MESSAGES + 17 }>,
     mailbox: [u32; MESSAGES + 1],
     blocks: Rings<{ BLOCKS + 9 }>,
+    /// The counter's size, 0 if there is none; its present count; and the alarms in use.
+    round: u32,
+    present: u32,
+    used: u32,
+    alarm: [Alarm; ALARMS + 1],
 }
 
 const fn ready_anchor(priority: u32) -> u32 {
@@ -278,7 +294,18 @@ impl Kernel {
             mail: Rings::new(),
             mailbox: [0; MESSAGES + 1],
             blocks: Rings::new(),
+            round: 0,
+            present: 0,
+            used: 0,
+            alarm: [Alarm::default(); ALARMS + 1],
         };
+        if let Some(counter) = &setup.counter {
+            k.round = counter.size;
+            for (alarm, &(task, wakes)) in k.alarm[1..].iter_mut().zip(&counter.alarms) {
+                alarm.task = task;
+                alarm.wakes = u32::from(wakes);
+            }
+        }
         k.count[1..=setup.semaphores.len()].copy_from_slice(&setup.semaphores);
         k.pattern[1..=setup.flags.len()].copy_from_slice(&setup.flags);
         k.size[1..=setup.pools.len()].copy_from_slice(&setup.pools);
@@ -441,6 +468,11 @@ impl Kernel {
     fn sta_tsk(&mut self, by: Caller, a: i32) -> Result<Said, i32> {
         let t = self.task_id(a)?;
         by.any()?;
+        self.start_task(t)?;
+        DONE
+    }
+
+    fn start_task(&mut self, t: u32) -> Result<(), i32> {
         self.there(t)?;
         let task = self.at_mut(t);
         if task.status != DORMANT {
@@ -449,7 +481,7 @@ impl Kernel {
         task.code = 0;
         task.word = 0;
         self.make_ready(t);
-        DONE
+        Ok(())
     }
 
     fn ext_tsk(&mut self, by: Caller) -> Result<Said, i32> {
@@ -612,21 +644,26 @@ impl Kernel {
     fn wup_tsk(&mut self, by: Caller, a: i32) -> Result<Said, i32> {
         let t = self.task_id(a)?;
         by.any()?;
-        self.there(t)?;
         if by.me == t {
             return Err(E_SELF);
         }
+        released(self.wake(t)?)
+    }
+
+    /// Gives how many tasks are released.
+    fn wake(&mut self, t: u32) -> Result<u32, i32> {
+        self.there(t)?;
         self.not_dormant(t)?;
         if self.is_waiting(t) && self.at(t).kind <= TIMED {
             self.release(t, 0, 0);
-            return released(1);
+            return Ok(1);
         }
         let task = self.at_mut(t);
         if task.wakeups == 15 {
             return Err(E_QOVR);
         }
         task.wakeups += 1;
-        DONE
+        Ok(0)
     }
 
     fn can_wup(&mut self, by: Caller, a: i32) -> Result<Said, i32> {
@@ -928,6 +965,107 @@ impl Kernel {
         )
     }
 
+    // ---- calls on alarms
+
+    fn alarm_id(&self, a: i32) -> Result<u32, i32> {
+        if self.round == 0 {
+            return Err(H_PAR);
+        }
+        within(a, ALARMS as u32, H_PAR)
+    }
+
+    fn is_used(&self, i: u32) -> bool {
+        self.used >> (i - 1) & 1 != 0
+    }
+
+    /// So many counts behind another one; both are at most the round.
+    fn set_alarm(
+        &mut self,
+        by: Caller,
+        a: i32,
+        from: u32,
+        count: i32,
+        period: i32,
+    ) -> Result<Said, i32> {
+        let i = self.alarm_id(a)?;
+        if count as u32 > self.round || period as u32 > self.round {
+            return Err(H_PAR);
+        }
+        by.any()?;
+        if self.is_used(i) {
+            return Err(H_USED);
+        }
+        self.used |= 1 << (i - 1);
+        let expiry = self.reduced(from + count as u32);
+        let alarm = &mut self.alarm[i as usize];
+        alarm.expiry = expiry;
+        alarm.period = period as u32;
+        DONE
+    }
+
+    /// The remainder of what is below two rounds.
+    fn reduced(&self, count: u32) -> u32 {
+        if count < self.round {
+            count
+        } else {
+            count - self.round
+        }
+    }
+
+    fn can_alm(&mut self, by: Caller, a: i32) -> Result<Said, i32> {
+        let i = self.alarm_id(a)?;
+        by.any()?;
+        if !self.is_used(i) {
+            return Err(H_IDLE);
+        }
+        self.used &= !(1 << (i - 1));
+        DONE
+    }
+
+    fn alm_sts(&self, by: Caller, a: i32) -> Result<Said, i32> {
+        let i = self.alarm_id(a)?;
+        by.any()?;
+        let kept = self.alarm[i as usize].kept;
+        gives(u32::from(self.is_used(i)), kept.unsigned_abs())
+    }
+
+    /// The counter's step in a tick: gives how many tasks the alarms release.
+    fn count_on(&mut self) -> u32 {
+        self.present = self.reduced(self.present + 1);
+        let mut left = self.used;
+        let mut n = 0;
+        while left != 0 {
+            let i = left.trailing_zeros() + 1;
+            left &= left - 1;
+            if self.alarm[i as usize].expiry == self.present {
+                n += self.fire(i);
+            }
+        }
+        n
+    }
+
+    fn fire(&mut self, i: u32) -> u32 {
+        let Alarm {
+            task,
+            wakes,
+            period,
+            ..
+        } = self.alarm[i as usize];
+        let done = if wakes != 0 {
+            self.wake(task)
+        } else {
+            self.start_task(task).map(|()| 0)
+        };
+        let again = self.reduced(self.present + period);
+        let alarm = &mut self.alarm[i as usize];
+        alarm.kept = done.err().unwrap_or(0);
+        alarm.expiry = again;
+        if period == 0 {
+            self.used &= !(1 << (i - 1));
+        }
+        done.unwrap_or(0)
+    }
+
     // ---- events
 
     fn call(&mut self, by: Caller, n: i32, a: i32, b: i32, c: i32) -> Result<Said, i32> {
@@ -969,6 +1107,10 @@ impl Kernel {
             33 => self.cre_tsk(by, a, b),
             34 => self.del_tsk(by, a),
             35 => self.exd_tsk(by),
+            36 => self.set_alarm(by, a, 0, b, c),
+            37 => self.set_alarm(by, a, self.present, b, c),
+            38 => self.can_alm(by, a),
+            39 => self.alm_sts(by, a),
             _ => Err(H_CALL),
         }
     }
@@ -987,6 +1129,9 @@ impl Kernel {
                 self.release(t, E_TMOUT, 0);
                 n += 1;
             }
+        }
+        if self.round != 0 {
+            n += self.count_on();
         }
         n
     }
@@ -1083,12 +1228,33 @@ impl Kernel {
             && self.pools <= 8
             && self.clock < 1 << 48;
         counts
+            && self.alarms_are_sound()
             && self.count[1..=self.semaphores as usize]
                 .iter()
                 .all(|&n| n <= 65535)
             && (1..=self.pools as usize).all(|p| {
                 (1..=32).contains(&self.size[p]) && self.free[p] & !all_free(self.size[p]) == 0
             })
+    }
+
+    /// Without a counter nothing of the alarms counts.
+    fn alarms_are_sound(&self) -> bool {
+        self.round == 0
+            || self.round <= 65535
+                && self.present < self.round
+                && self.used < 1 << ALARMS
+                && (1..=ALARMS as u32).all(|i| self.is_alarm_sound(i))
+    }
+
+    fn is_alarm_sound(&self, i: u32) -> bool {
+        let alarm = &self.alarm[i as usize];
+        let kept = match alarm.wakes {
+            0 => matches!(alarm.kept, 0 | E_NOEXS | H_NODMT),
+            1 => matches!(alarm.kept, 0 | E_NOEXS | E_DMT | E_QOVR),
+            _ => false,
+        };
+        let due = alarm.expiry < self.round && alarm.period <= self.round;
+        kept && alarm.task.wrapping_sub(1) < self.tasks && (due || !self.is_used(i))
     }
 
     fn is_wait_sound(&self, task: &Task, t: u32) -> bool {

@@ -1,8 +1,10 @@
 //! Random setups and events that lead a kernel into every corner: moods that crowd few objects with many tasks, and wrong words.
 use crate::picture::Standing;
-use crate::plain::{names_task, Event, Plain, CALLS, CRE_TSK, DEL_TSK};
+use crate::plain::{
+    names_task, Event, Plain, ALM_STS, CALLS, CAN_ALM, CRE_TSK, DEL_TSK, SET_ABS, SET_REL,
+};
 use crate::random::Random;
-use crate::setup::Setup;
+use crate::setup::{Counter, Setup, ALARMS};
 
 // ---- setups
 
@@ -67,6 +69,25 @@ fn pool(random: &mut Random) -> u32 {
     }
 }
 
+/// Mostly small, so that alarms fire often. As often alarms of one task as of any.
+fn counter(random: &mut Random, tasks: u32) -> Counter {
+    let size = match random.below(8) {
+        0 => 1,
+        1 => random.pick(&[65535, 65534, 1000]),
+        _ => random.within(2, 6),
+    };
+    let one = random.percent(50).then(|| random.within(1, tasks));
+    let wake = random.pick(&[0, 50, 80, 100]);
+    let mut alarm = || {
+        let task = one.unwrap_or_else(|| random.within(1, tasks));
+        (task, random.percent(wake))
+    };
+    Counter {
+        size,
+        alarms: std::array::from_fn(|_| alarm()),
+    }
+}
+
 pub fn setup(random: &mut Random, size: Size) -> Setup {
     let priorities = match size {
         Size::Small | Size::Crowd => random.within(1, 4),
@@ -85,6 +106,8 @@ pub fn setup(random: &mut Random, size: Size) -> Setup {
         Size::Full | Size::Crowd => 256,
     };
     let pools = (0..many(random, size, 8)).map(|_| pool(random)).collect();
+    let counted = matches!(size, Size::Full) || random.percent(75);
+    let counter = counted.then(|| counter(random, tasks.len() as u32));
     Setup {
         priorities,
         tasks,
@@ -93,6 +116,7 @@ pub fn setup(random: &mut Random, size: Size) -> Setup {
         mailboxes,
         messages,
         pools,
+        counter,
     }
 }
 
@@ -126,12 +150,12 @@ const fn nested(deeper: u32, mood: Mood) -> Mood {
 }
 
 /// sta_tsk and cre_tsk twice, so that tasks that end or go come again.
-const ALL: [i32; 37] = [
+const ALL: [i32; 41] = [
     1, 2, 3, 4, 5, 6, 7, 8, 9, 10, 11, 12, 13, 14, 15, 16, 17, 18, 19, 20, 21, 22, 23, 24, 25, 26,
-    27, 28, 29, 30, 31, 32, 33, 34, 35, 1, 33,
+    27, 28, 29, 30, 31, 32, 33, 34, 35, 36, 37, 38, 39, 1, 33,
 ];
 
-const MOODS: [Mood; 18] = [
+const MOODS: [Mood; 23] = [
     // of everything, right and wrong
     mood(&ALL, 10, 35, 10, 30),
     mood(&ALL, 5, 50, 50, 30),
@@ -155,6 +179,13 @@ const MOODS: [Mood; 18] = [
         5,
         10,
     ),
+    // alarms are set, all of them, and fire
+    mood(&[36, 37], 2, 40, 2, 10),
+    mood(&[36, 37, 37, 38, 39], 40, 40, 5, 10),
+    // on tasks that sleep, end, go and come
+    mood(&[1, 2, 3, 9, 10, 10, 36, 37], 40, 10, 2, 10),
+    mood(&[3, 33, 34, 34, 36, 37, 39], 30, 10, 2, 10),
+    mood(&[7, 9, 10, 10, 10, 12, 37], 30, 5, 0, 0),
     // waits end while tasks are suspended
     mood(&[7, 8, 6, 10, 9, 14], 20, 50, 3, 40),
     // counts rise and mailboxes fill; the last is short of events to fill one with all messages if it does anything else
@@ -305,6 +336,9 @@ impl Author {
             16..=19 | 29 => self.id(random, counts.flags),
             20..=22 | 30 => self.id(random, counts.mailboxes),
             23..=25 | 31 => self.id(random, counts.pools),
+            SET_ABS | SET_REL => self.alarm(random, plain, false),
+            CAN_ALM => self.alarm(random, plain, true),
+            ALM_STS => self.id(random, ALARMS as u32),
             _ => any(random),
         };
         let b = match number {
@@ -314,12 +348,13 @@ impl Author {
             18 | 19 => self.wish(random),
             20 => self.message(random, plain, counts.messages),
             25 => self.block(random, plain, a),
+            SET_ABS | SET_REL => self.count(random, plain),
             _ => any(random),
         };
-        let c = if matches!(number, 18 | 19) {
-            self.mode(random)
-        } else {
-            any(random)
+        let c = match number {
+            18 | 19 => self.mode(random),
+            SET_ABS | SET_REL => self.period(random, plain),
+            _ => any(random),
         };
         (a, b, c)
     }
@@ -345,6 +380,48 @@ impl Author {
         let mut ids = (first..=count as i32).chain(1..first);
         let found = ids.find(|id| plain.task(*id as u32).standing == wanted);
         found.unwrap_or(first)
+    }
+
+    /// Mostly one that is in use, or idle, as it is wanted.
+    fn alarm(&self, random: &mut Random, plain: &Plain, used: bool) -> i32 {
+        let count = ALARMS as i32;
+        let first = self.id(random, ALARMS as u32);
+        let (Some(counter), true) = (plain.counter(), (1..=count).contains(&first)) else {
+            return first;
+        };
+        if random.percent(20) {
+            return first;
+        }
+        let mut ids = (first..=count).chain(1..first);
+        let found = ids.find(|id| counter.alarms[*id as usize - 1].due.is_some() == used);
+        found.unwrap_or(first)
+    }
+
+    /// Up to the counter's size: mostly soon, and often at an end or the present count.
+    fn count(&self, random: &mut Random, plain: &Plain) -> i32 {
+        let Some(counter) = plain.counter() else {
+            return random.below(4) as i32;
+        };
+        let (size, present) = (counter.size as i32, counter.present as i32);
+        if self.wrong(random) {
+            return random.pick(&[-1, size + 1, i32::MIN, i32::MAX, 65536]);
+        }
+        match random.below(8) {
+            0 => 0,
+            1 => size,
+            2 => present,
+            3 => random.below(counter.size + 1) as i32,
+            4 => (present + 1) % size,
+            _ => random.within(1, 3).min(counter.size) as i32,
+        }
+    }
+
+    /// As often none.
+    fn period(&self, random: &mut Random, plain: &Plain) -> i32 {
+        if random.percent(50) && !self.wrong(random) {
+            return 0;
+        }
+        self.count(random, plain)
     }
 
     fn rotated(&self, random: &mut Random, priorities: u32) -> i32 {

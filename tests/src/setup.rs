@@ -1,5 +1,17 @@
-//! A second reader of setups, from "The setup" of the paper alone: the first fault and its place, or what the setup has. Recorded runs begin
-//! with a setup and are read by the same reader.
+//! A second reader of setups, from "The setup" of the paper and request K11 alone: the first fault and its place, or what the setup has.
+//! Recorded runs begin with a setup and are read by the same reader.
+
+pub const ALARMS: usize = 8;
+const COUNTER_MOST: u32 = 65535;
+
+/// A counter and its alarms.
+#[derive(Clone, PartialEq, Eq, Debug)]
+pub struct Counter {
+    /// It goes to one less and round.
+    pub size: u32,
+    /// The task of each alarm; whether it wakes it or starts it.
+    pub alarms: [(u32, bool); ALARMS],
+}
 
 /// What a setup has.
 #[derive(Clone, PartialEq, Eq, Debug)]
@@ -13,6 +25,7 @@ pub struct Setup {
     pub messages: u32,
     /// Blocks of each.
     pub pools: Vec<u32>,
+    pub counter: Option<Counter>,
 }
 
 /// The number of an S fault, and its place.
@@ -60,8 +73,35 @@ impl Reader<'_> {
         (0..count).map(|_| self.entry(low, high)).collect()
     }
 
-    /// The seven sections.
+    /// All eight sections, which a recorded run always has.
     pub fn setup(&mut self) -> Result<Setup, Fault> {
+        let mut setup = self.seven_sections()?;
+        setup.counter = self.counters(setup.tasks.len() as u32)?;
+        Ok(setup)
+    }
+
+    /// A setup alone may end after seven sections: it has no counter then.
+    fn setup_alone(&mut self) -> Result<Setup, Fault> {
+        let mut setup = self.seven_sections()?;
+        if self.end().is_err() {
+            setup.counter = self.counters(setup.tasks.len() as u32)?;
+        }
+        Ok(setup)
+    }
+
+    fn counters(&mut self, tasks: u32) -> Result<Option<Counter>, Fault> {
+        if self.count(0, 1)? == 0 {
+            return Ok(None);
+        }
+        let size = self.entry(1, COUNTER_MOST)?;
+        let mut alarms = [(0, false); ALARMS];
+        for alarm in &mut alarms {
+            *alarm = (self.entry(1, tasks)?, self.entry(0, 1)? == 1);
+        }
+        Ok(Some(Counter { size, alarms }))
+    }
+
+    fn seven_sections(&mut self) -> Result<Setup, Fault> {
         let priorities = self.count(1, 16)?;
         let mut tasks = Vec::new();
         for _ in 0..self.count(1, 32)? {
@@ -83,6 +123,7 @@ impl Reader<'_> {
             mailboxes,
             messages,
             pools,
+            counter: None,
         })
     }
 
@@ -99,12 +140,12 @@ impl Reader<'_> {
 /// The setup that the bytes have, or their first fault.
 pub fn read(bytes: &[u8]) -> Result<Setup, Fault> {
     let mut reader = Reader::new(bytes);
-    let setup = reader.setup()?;
+    let setup = reader.setup_alone()?;
     reader.end()?;
     Ok(setup)
 }
 
-/// The words of a setup, each with its smallest and greatest value.
+/// The words of a setup with all its sections, each with its smallest and greatest value.
 pub fn ranged_words(s: &Setup) -> Vec<(u32, u32, u32)> {
     let mut words = vec![(s.priorities, 1, 16), (s.tasks.len() as u32, 1, 32)];
     for (priority, started) in &s.tasks {
@@ -119,6 +160,14 @@ pub fn ranged_words(s: &Setup) -> Vec<(u32, u32, u32)> {
     words.push((s.messages, 0, 256));
     words.push((s.pools.len() as u32, 0, 8));
     words.extend(s.pools.iter().map(|blocks| (*blocks, 1, 32)));
+    words.push((u32::from(s.counter.is_some()), 0, 1));
+    if let Some(counter) = &s.counter {
+        words.push((counter.size, 1, COUNTER_MOST));
+        for (task, wakes) in counter.alarms {
+            words.push((task, 1, s.tasks.len() as u32));
+            words.push((u32::from(wakes), 0, 1));
+        }
+    }
     words
 }
 
@@ -127,7 +176,7 @@ pub fn bytes_of(words: impl IntoIterator<Item = u32>) -> Vec<u8> {
     words.into_iter().flat_map(u32::to_le_bytes).collect()
 }
 
-/// The bytes of a setup.
+/// The bytes of a setup with all its sections.
 pub fn bytes(s: &Setup) -> Vec<u8> {
     bytes_of(ranged_words(s).into_iter().map(|(word, _, _)| word))
 }

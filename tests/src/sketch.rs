@@ -1,9 +1,10 @@
 //! Random sound states, also those that no short run reaches: the clock at its end, full counts, any order in any queue.
 use crate::picture::{
-    meets, Object, Picture, Queues, Standing, Task, Wait, ABSENT, CLOCK_END, TICKS_MOST,
+    meets, Alarm, Counter, Due, Object, Picture, Queues, Standing, Task, Wait, ABSENT, CLOCK_END,
+    TICKS_MOST,
 };
 use crate::random::Random;
-use crate::setup::Setup;
+use crate::setup::{self, Setup};
 
 fn clock(random: &mut Random) -> u64 {
     match random.below(4) {
@@ -191,6 +192,55 @@ fn handlers(random: &mut Random, tasks: &[Task]) -> (u32, Option<u32>) {
     (depth, interrupted.filter(|_| random.percent(80)))
 }
 
+/// A count below the size: mostly the next ones after the present count.
+fn expiry(random: &mut Random, size: u32, present: u32) -> u32 {
+    match random.below(4) {
+        0 => random.below(size),
+        1 => present,
+        _ => (present + random.within(1, 3)) % size,
+    }
+}
+
+fn period(random: &mut Random, size: u32) -> u32 {
+    match random.below(4) {
+        0 => random.below(size + 1),
+        1 => size,
+        2 => random.within(1, 3).min(size),
+        _ => 0,
+    }
+}
+
+/// Any present count, and alarms that are idle or due, with any code that they can have kept.
+fn counter(random: &mut Random, from: &setup::Counter) -> Counter {
+    let size = from.size;
+    let present = match random.below(3) {
+        0 => size - 1,
+        1 => random.below(size),
+        _ => random.below(size.min(3)),
+    };
+    let mut alarm = |(task, wakes)| {
+        let due = random.percent(70).then(|| Due {
+            expiry: expiry(random, size, present),
+            period: period(random, size),
+        });
+        let fresh = Alarm {
+            task,
+            wakes,
+            kept: 0,
+            due,
+        };
+        Alarm {
+            kept: random.pick(fresh.codes()),
+            ..fresh
+        }
+    };
+    Counter {
+        size,
+        present,
+        alarms: from.alarms.map(&mut alarm),
+    }
+}
+
 /// A sound state with as much of each thing as the setup has.
 pub fn picture(random: &mut Random, setup: &Setup) -> Picture {
     let tasks: Vec<Task> = setup.tasks.iter().map(|_| task(random, setup)).collect();
@@ -208,6 +258,7 @@ pub fn picture(random: &mut Random, setup: &Setup) -> Picture {
         .map(|(many, queue)| blocks(random, *many, queue))
         .collect();
     let (depth, interrupted) = handlers(random, &tasks);
+    let counter = setup.counter.as_ref().map(|from| counter(random, from));
     Picture {
         priorities: setup.priorities,
         semaphores: semaphore_waiters
@@ -232,5 +283,6 @@ pub fn picture(random: &mut Random, setup: &Setup) -> Picture {
         flag_waiters,
         mailbox_waiters,
         pool_waiters,
+        counter,
     }
 }

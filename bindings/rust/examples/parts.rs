@@ -10,8 +10,8 @@
 //!     half an event: Taken
 //!     the rest of it: Taken
 //!     1 0 0 0 3 0
-//!     the end: Refused(BadRun { fault: S1, place: 88 })
-//!     refused 1 88
+//!     the end: Refused(BadRun { fault: S1, place: 92 })
+//!     refused 1 92
 //!     another byte: Closed
 //!     running: task 3
 
@@ -19,7 +19,7 @@ use okrozumba::recorder::{Recorder, Said};
 use std::io;
 
 /// The bench sheet's setup; two events, of which the first, sta_tsk(3), comes whole.
-const FRONT: [u32; 17] = [4, 3, 2, 1, 2, 1, 1, 0, 1, 0, 1, 0, 1, 2, 1, 2, 2];
+const FRONT: [u32; 18] = [4, 3, 2, 1, 2, 1, 1, 0, 1, 0, 1, 0, 1, 2, 1, 2, 0, 2];
 const START_3: [u32; 5] = [0, 1, 3, 0, 0];
 
 fn bytes(words: &[u32]) -> Vec<u8> {

@@ -70,3 +70,11 @@ pub const CRE_TSK: i32 = 33;
 pub const DEL_TSK: i32 = 34;
 /// T: ext_tsk, and then the task is not there.
 pub const EXD_TSK: i32 = 35;
+/// Idle alarm, count at which it fires, 0 for once or the period: both up to the counter's size m.
+pub const SET_ABS: i32 = 36;
+/// Idle alarm, ticks until it fires, 0 for once or the period: both up to m; 0 ticks are m.
+pub const SET_REL: i32 = 37;
+/// Alarm in use: it is idle then.
+pub const CAN_ALM: i32 = 38;
+/// Alarm; w1 1 if it is in use, else 0, w2 the code of its last firing without the sign, 0 before any.
+pub const ALM_STS: i32 = 39;

@@ -5,9 +5,10 @@
 pub const E_OK: i32 = 0;
 /// The caller waits: its answer will be in its cell.
 pub const WAITS: i32 = 1;
-/// Call number not 1..35, or context not 0 or 1.
+/// Call number not 1..39, or context not 0 or 1.
 pub const H_CALL: i32 = -1;
-/// Flag pattern 0 in a wait or poll, mode not 0..3, message number outside 1..count.
+/// Flag pattern 0 in a wait or poll, mode not 0..3, message number outside 1..count; alarm not 1..8, its count or period not 0..m, no
+/// counter.
 pub const H_PAR: i32 = -2;
 /// sta_tsk or del_tsk on a task not dormant.
 pub const H_NODMT: i32 = -3;
@@ -23,6 +24,10 @@ pub const H_NEST: i32 = -7;
 pub const H_EXIST: i32 = -8;
 /// Block number outside the pool, or free.
 pub const H_ILBLK: i32 = -10;
+/// set_abs or set_rel on an alarm in use.
+pub const H_USED: i32 = -11;
+/// can_alm on an idle alarm.
+pub const H_IDLE: i32 = -12;
 /// Damage: a number out of range anywhere, or any breach but those of the next four; w1 is 0.
 pub const H_NUMBER: i32 = -20;
 /// Damage: a task missing from, doubled in or foreign to a queue; w1 is the smallest such task.

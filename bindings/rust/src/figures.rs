@@ -8,7 +8,7 @@
 //! use okrozumba::recorder::Said;
 //!
 //! // One priority; one task, of priority 1 and started; nothing else; then two events, slp_tsk and a tick.
-//! let words: [u32; 20] = [1, 1, 1, 1, 0, 0, 0, 0, 0, 2, 0, 9, 0, 0, 0, 2, 0, 0, 0, 0];
+//! let words: [u32; 21] = [1, 1, 1, 1, 0, 0, 0, 0, 0, 0, 2, 0, 9, 0, 0, 0, 2, 0, 0, 0, 0];
 //! let file: Vec<u8> = words.iter().flat_map(|word| word.to_le_bytes()).collect();
 //!
 //! let mut counter = Counter::new();

@@ -55,7 +55,7 @@ pub mod playback;
 pub mod recorder;
 
 /// Words of a state, without the marks of the messages.
-pub const STATE_WORDS: usize = 1713;
+pub const STATE_WORDS: usize = 1760;
 /// Messages that a state has room for.
 pub const MESSAGES: usize = 256;
 /// Words of an event in [`State::events`]: kind, number, a, b, c.
@@ -261,7 +261,7 @@ impl State {
         }
     }
 
-    /// A tick: the clock rises, and timed waits that run out end.
+    /// A tick: the clock rises, timed waits that run out end, the counter goes one on, and alarms that are due fire.
     pub fn tick(&mut self) -> Answer {
         // SAFETY: as in `call`.
         unsafe { archive::okrozumba_tick(&mut self.words, &self.messages) }

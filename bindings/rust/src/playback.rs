@@ -4,8 +4,8 @@
 //! use okrozumba::playback::{play, Short};
 //!
 //! // One priority; one task, of priority 1 and started; nothing else; then four events, slp_tsk and a handler: entry, wup_tsk(1), return.
-//! let words: [u32; 30] = [
-//!     1, 1, 1, 1, 0, 0, 0, 0, 0, 4, 0, 9, 0, 0, 0, 3, 0, 0, 0, 0, 1, 11, 1, 0, 0, 4, 0, 0, 0, 0,
+//! let words: [u32; 31] = [
+//!     1, 1, 1, 1, 0, 0, 0, 0, 0, 0, 4, 0, 9, 0, 0, 0, 3, 0, 0, 0, 0, 1, 11, 1, 0, 0, 4, 0, 0, 0, 0,
 //! ];
 //! let file: Vec<u8> = words.iter().flat_map(|word| word.to_le_bytes()).collect();
 //!
@@ -16,8 +16,8 @@
 //! assert_eq!(&text[..long], b"start 1\n1 1 0 0 0 0\n2 0 0 0 0 0\n3 0 0 0 0 1\n4 0 0 0 1 0\n");
 //!
 //! // Bytes that end too early are refused, with the offset of the word that isn't whole, behind the lines that stand.
-//! let long = play(&file[..62], &mut text).unwrap();
-//! assert_eq!(&text[..long], b"start 1\n1 1 0 0 0 0\nrefused 1 60\n");
+//! let long = play(&file[..66], &mut text).unwrap();
+//! assert_eq!(&text[..long], b"start 1\n1 1 0 0 0 0\nrefused 1 64\n");
 //! ```
 use std::io;
 

@@ -8,12 +8,12 @@
 //! use okrozumba::recorder::{Recorder, Said, LINE};
 //!
 //! // One priority; one task, of priority 1 and started; nothing else; then one event, slp_tsk.
-//! let words: [u32; 15] = [1, 1, 1, 1, 0, 0, 0, 0, 0, 1, 0, 9, 0, 0, 0];
+//! let words: [u32; 16] = [1, 1, 1, 1, 0, 0, 0, 0, 0, 0, 1, 0, 9, 0, 0, 0];
 //! let file: Vec<u8> = words.iter().flat_map(|word| word.to_le_bytes()).collect();
 //!
 //! let mut recorder = Recorder::new();
 //! let mut text = [0; LINE];
-//! let mut told = recorder.part(&file[..41], &mut text);
+//! let mut told = recorder.part(&file[..45], &mut text);
 //! assert_eq!((told.said, told.written), (Said::Full, 8));
 //! assert_eq!(&text[..8], b"start 1\n");
 //! // the rest of that part is the next one
@@ -30,7 +30,7 @@ use std::io::{self, Write};
 /// Numbers of a recorder.
 pub const NUMBERS: usize = 5;
 /// Bytes that a recorder holds: of the setup and the number of events, then of an event.
-pub const HELD: usize = 448;
+pub const HELD: usize = 520;
 /// No line is longer: with so much room at least one byte of a part is taken.
 pub const LINE: usize = 67;
 

@@ -2,7 +2,7 @@
 // came of it. The stored output was made by a kernel of its own, written from the paper alone.
 //
 // A line begins with a letter that says what is done, and its numbers follow; all other text is for the reader:
-//   S w w ..     the words of the setup, at most 20
+//   S w w ..     the words of the setup, at most 40
 //   F n          a fresh start over the setup's first n bytes
 //   W i v        word i of the state is overwritten by v; M: the mark at index i of the messages
 //   X k a b c    call k from a task; I: from a handler; N, Q: from the contexts -1 and 5
@@ -67,7 +67,7 @@ fn kind_of(letter: u8) -> i32 {
 fn prepared(
     line: &[u8],
     letter: u8,
-    setup: &[u8; 80],
+    setup: &[u8; 160],
     words: &mut [u32; STATE_WORDS],
     messages: &mut [u32; 256],
 ) -> bool {
@@ -93,7 +93,7 @@ fn prepared(
 // Does what a line says; gives how many events stand in the list then.
 fn obey(
     line: &[u8],
-    setup: &mut [u8; 80],
+    setup: &mut [u8; 160],
     words: &mut [u32; STATE_WORDS],
     messages: &mut [u32; 256],
     first_words: &mut [u32; STATE_WORDS],
@@ -143,7 +143,7 @@ fn line_end(text: &[u8], from: usize) -> usize
 }
 
 fn play(text: &[u8]) {
-    let mut setup = [0u8; 80];
+    let mut setup = [0u8; 160];
     let mut words = [0u32; STATE_WORDS];
     let mut messages = [0u32; 256];
     let mut first_words = [0u32; STATE_WORDS];

@@ -10,8 +10,8 @@ use memory_columns::STATE_WORDS;
 ghost use Prim.Native.Nat.{_≤_};
 
 // Word i of the setup.
-fn lay_word(setup: &mut [u8; 80], i: usize, w: u32) {
-    if i < 20 {
+fn lay_word(setup: &mut [u8; 160], i: usize, w: u32) {
+    if i < 40 {
         setup[4 * i] = (w % 256) as u8;
         setup[4 * i + 1] = (w / 256 % 256) as u8;
         setup[4 * i + 2] = (w / 65536 % 256) as u8;
@@ -19,9 +19,9 @@ fn lay_word(setup: &mut [u8; 80], i: usize, w: u32) {
     }
 }
 
-pub fn lay(setup: &mut [u8; 80], line: &[u8]) {
+pub fn lay(setup: &mut [u8; 160], line: &[u8]) {
     let mut i: u32 = 0;
-    while i < 20 {
+    while i < 40 {
         lay_word(setup, i as usize, word(line, i + 1));
         i += 1;
     }
@@ -46,7 +46,7 @@ pub fn look(words: &[u32; STATE_WORDS], messages: &[u32; 256]) {
 
 // A start over as many bytes of the setup as the line says.
 pub fn start(line: &[u8], setup: &[u8], words: &mut [u32; STATE_WORDS], messages: &mut [u32; 256]) {
-    let n = upto(line, 1, 80);
+    let n = upto(line, 1, 160);
     if setup.len() < n {
         return;
     }

@@ -285,7 +285,7 @@ fn batch(
     let e = short(line, 1, 5 * n);
     let c = short(line, 2, n);
     let a = short(line, 3, 4 * n);
-    let bytes = upto(line, 4, 80);
+    let bytes = upto(line, 4, 160);
     if list.len() < e {
         return false;
     }
@@ -321,7 +321,7 @@ fn batch(
 pub fn at_once(
     line: &[u8],
     by_run: bool,
-    setup: &[u8; 80],
+    setup: &[u8; 160],
     words: &[u32; STATE_WORDS],
     messages: &[u32; 256],
     list: &[i32; LIST_WORDS],

@@ -6,10 +6,10 @@
 use okrozumba::brightness::Curve;
 use okrozumba::recorder::Recorder;
 use okrozumba::{Answer, State};
-use second::plain::{names_task, CALLS, CRE_TSK};
+use second::plain::{names_task, ALM_STS, CALLS, CRE_TSK, SET_ABS};
 use second::random::Random;
 use second::rings::Kernel;
-use second::setup::{self, Setup};
+use second::setup::{self, Counter, Setup, ALARMS};
 use std::fmt::Write;
 use std::time::Instant;
 
@@ -17,6 +17,9 @@ const ROUNDS: u32 = 31;
 const TEXT_ROUNDS: u32 = 7;
 const MIXED: usize = 20_000;
 const LONG: usize = 1_000_000;
+/// The size of a counter among mixed events, and one that no round of ticks goes through.
+const ROUND: u32 = 100;
+const ROUND_MOST: u32 = 65535;
 
 // ---- setups
 
@@ -40,26 +43,40 @@ fn sized(
         mailboxes: objects as u32,
         messages,
         pools: vec![blocks; pools],
+        counter: None,
     }
 }
 
-/// The bench sheet's.
-fn small() -> Setup {
+/// With a counter, whose alarms start and wake the tasks in turn.
+fn counted(size: u32, s: Setup) -> Setup {
+    let tasks = s.tasks.len();
     Setup {
+        counter: Some(Counter {
+            size,
+            alarms: std::array::from_fn(|i| (1 + (i % tasks) as u32, i % 2 == 1)),
+        }),
+        ..s
+    }
+}
+
+/// The bench sheet's, with a counter.
+fn small() -> Setup {
+    let sheet = Setup {
         tasks: vec![(2, true), (2, true), (1, false)],
         ..sized(4, 3, 2, 1, 2, 1, 2)
-    }
+    };
+    counted(ROUND, sheet)
 }
 
 fn middle() -> Setup {
-    sized(6, 8, 6, 4, 32, 2, 8)
+    counted(ROUND, sized(6, 8, 6, 4, 32, 2, 8))
 }
 
 fn large() -> Setup {
-    sized(16, 32, 24, 16, 256, 8, 32)
+    counted(ROUND, sized(16, 32, 24, 16, 256, 8, 32))
 }
 
-/// As large, but for the tasks, all of which are started.
+/// As large, but for the tasks, all of which are started, and with no counter.
 fn with_tasks(tasks: u32) -> Setup {
     sized(16, tasks, tasks, 16, 256, 8, 32)
 }
@@ -88,6 +105,7 @@ fn any(random: &mut Random, s: &Setup) -> Five {
         5 => random.below(s.priorities + 1) as i32,
         10 => random.below(12) as i32 - 1,
         23 | 24 | 25 | 31 => id(random, pools),
+        SET_ABS..=ALM_STS => id(random, ALARMS as u32),
         _ => id(random, objects),
     };
     let b = match number {
@@ -351,6 +369,55 @@ fn ticks() {
     );
 }
 
+/// A tick with alarms, from all tasks asleep.
+fn alarms() {
+    let (s, counter) = (&with_tasks(32), &counted(ROUND_MOST, with_tasks(32)));
+    let events = &repeated(&[[2, 0, 0, 0, 0]], MIXED);
+    let asleep = repeated(&[[0, 9, 0, 0, 0]], 31);
+    // by the last task, which sleeps then
+    let set = |count, period| {
+        let set = (1..=ALARMS as i32).flat_map(|i| [0, 37, i, count, period]);
+        [&asleep[..], &set.collect::<Vec<i32>>(), &[0, 9, 0, 0, 0]].concat()
+    };
+    let (far, each) = (&set(ROUND_MOST as i32, 0), &set(1, 1));
+    let none = after(Events(proved(s)), &asleep);
+    let idle = after(Events(proved(counter)), &asleep);
+    let waiting = after(Events(proved(counter)), far);
+    let firing = after(Events(proved(counter)), each);
+    row(
+        "tick in `events`, eight idle alarms / no counter",
+        (idle, events),
+        (none.clone(), events),
+    );
+    row(
+        "tick in `events`, eight alarms set / no counter",
+        (waiting.clone(), events),
+        (none.clone(), events),
+    );
+    row(
+        "tick in `events`, eight alarms fire / no counter",
+        (firing.clone(), events),
+        (none.clone(), events),
+    );
+    row(
+        "`tick`, eight alarms set / no counter",
+        (Calls(waiting.0.clone()), events),
+        (Calls(none.0), events),
+    );
+    row_alike(
+        "tick in `events`, eight alarms set / rings",
+        waiting,
+        after(Unchecked(rings(counter)), far),
+        events,
+    );
+    row_alike(
+        "tick in `events`, eight alarms fire / rings",
+        firing,
+        after(Unchecked(rings(counter)), each),
+        events,
+    );
+}
+
 /// A start and a million events: both sides from the setup's bytes.
 fn long_run() {
     let s = &large();
@@ -519,6 +586,7 @@ fn main() {
     let lying = after(Events(many.clone()), &all_messages_sent()).0;
     growth("256 messages lie / none", &lying, &many);
     ticks();
+    alarms();
     levels();
     long_run();
     texts();

@@ -328,6 +328,7 @@ fn run(tally: &mut Tally, seed: u64) -> Result<(), String> {
         mailboxes: MAILBOXES,
         messages: random.within(8, 12),
         pools: vec![2],
+        counter: None,
     };
     let count = random.within(1, 16) as usize;
     let good = Points::good(random, count);

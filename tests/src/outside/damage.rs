@@ -9,8 +9,9 @@ use crate::Verdict;
 use okrozumba::{Answer, State, MESSAGES, STATE_WORDS};
 use second::layout;
 use second::picture::{
-    Breach, Picture, Rule, Standing, ABSENT_RULE, BACKWARD_RULE, DAMAGE_CODES, DEPTH_RULE, H_FREE,
-    H_NUMBER, H_QUEUE, H_SERVED, H_TWICE, INTERRUPTED_RULE, MARK_RULE, NONEMPTY_RULE,
+    Breach, Picture, Rule, Standing, ABSENT_RULE, ALARM_ACT_RULE, ALARM_TASK_RULE, BACKWARD_RULE,
+    COUNTER_SIZE_RULE, DAMAGE_CODES, DEPTH_RULE, EXPIRY_RULE, H_FREE, H_NUMBER, H_QUEUE, H_SERVED,
+    H_TWICE, INTERRUPTED_RULE, KEPT_RULE, MARK_RULE, NONEMPTY_RULE, PERIOD_RULE, PRESENT_RULE,
     UNLINKED_RULE,
 };
 use second::plain::{Event, Plain, CALLS};
@@ -109,11 +110,18 @@ pub fn answers_sound(state: &State, picture: &Picture, events: &[Event]) -> Resu
 
 // ---- what was told how often
 
-/// The rules on handlers and on tasks that are not there, and those that are tried behind all others.
-const NAMED_RULES: [Rule; 7] = [
+/// The rules on handlers, on tasks that are not there and on alarms, and those that are tried behind all others.
+const NAMED_RULES: [Rule; 14] = [
     DEPTH_RULE,
     INTERRUPTED_RULE,
     ABSENT_RULE,
+    COUNTER_SIZE_RULE,
+    PRESENT_RULE,
+    ALARM_TASK_RULE,
+    ALARM_ACT_RULE,
+    KEPT_RULE,
+    EXPIRY_RULE,
+    PERIOD_RULE,
     MARK_RULE,
     BACKWARD_RULE,
     UNLINKED_RULE,
@@ -178,8 +186,9 @@ struct Tally {
     codes: [u64; DAMAGE_CODES.len()],
     corners: [u64; CORNERS.len()],
     named: [u64; NAMED_RULES.len()],
-    /// Sound, with a handler open.
+    /// Sound, with a handler open, and with a counter.
     open: u64,
+    counted: u64,
 }
 
 impl Tally {
@@ -194,6 +203,7 @@ impl Tally {
             Ok(picture) => {
                 self.sound += 1;
                 self.open += u64::from(picture.depth > 0);
+                self.counted += u64::from(picture.counter.is_some());
                 answers_sound(state, &picture, &events)
             }
         }
@@ -315,6 +325,36 @@ fn each_word(tally: &mut Tally, random: &mut Random, base: &State) -> Result<(),
     Ok(())
 }
 
+/// Each word of the counter and its alarms at the edges of what it means, codes that alarms keep and others among them.
+fn each_alarm_word(tally: &mut Tally, random: &mut Random, base: &State) -> Result<(), String> {
+    let size = word_at(base, layout::ALARM_WORDS.start);
+    for at in layout::ALARM_WORDS {
+        for word in [
+            0,
+            1,
+            2,
+            3,
+            size.wrapping_sub(1),
+            size,
+            size.wrapping_add(1),
+            size.wrapping_add(2),
+            65535,
+            65536,
+            2100,
+            2101,
+            2889,
+            3413,
+            2100_u32.wrapping_neg(),
+            1 << 31,
+            u32::MAX,
+            random.below(34),
+        ] {
+            tally.judge(&with_word(base, at, word))?;
+        }
+    }
+    Ok(())
+}
+
 /// Each bit of the word of nonempty ready queues by itself, above the priorities too.
 fn each_ready_bit(tally: &mut Tally, base: &State) -> Result<(), String> {
     for bit in 0..u32::BITS {
@@ -366,18 +406,19 @@ pub fn check() -> Verdict {
         let named = |d| format!("base {seed}: {d}");
         each_word(&mut tally, random, &base).map_err(named)?;
         each_ready_bit(&mut tally, &base).map_err(named)?;
+        each_alarm_word(&mut tally, random, &base).map_err(named)?;
         for _ in 0..SETS {
             tally.judge(&random_set(random, &base)).map_err(named)?;
         }
         noise(&mut tally, random).map_err(named)?;
     }
     aimed::check(&mut tally)?;
-    if tally.open == 0 {
-        return Err("too little tested of handlers".to_string());
+    if tally.open == 0 || tally.counted == 0 {
+        return Err("too little tested of handlers or alarms".to_string());
     }
     let lines = tally.lines()?;
     Ok(format!(
-        "{} damaged memories refused, {worked} of them worked by hand; {} still sound accepted, {} of them with a handler open; {} events\n{lines}",
-        tally.damaged, tally.sound, tally.open, tally.events
+        "{} damaged memories refused, {worked} of them worked by hand; {} still sound accepted, {} of them with a handler open, {} with a counter; {} events\n{lines}",
+        tally.damaged, tally.sound, tally.open, tally.counted, tally.events
     ))
 }

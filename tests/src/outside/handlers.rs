@@ -44,6 +44,7 @@ fn one_of_each() -> Result<State, String> {
         mailboxes: 0,
         messages: 0,
         pools: Vec::new(),
+        counter: None,
     };
     let mut pair = Pair::fresh(&setup)?;
     for event in EVENTS {

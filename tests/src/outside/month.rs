@@ -64,7 +64,11 @@ pub fn check() -> Verdict {
         runs.push(seen);
     }
     let output = month(&files)?;
-    expect("month", &String::from_utf8_lossy(&output.stdout), &figures::report(&runs))?;
+    expect(
+        "month",
+        &String::from_utf8_lossy(&output.stdout),
+        &figures::report(&runs),
+    )?;
     let done = String::from_utf8_lossy(&output.stderr).lines().count();
     if done != RUNS {
         return Err(format!("month: {done} lines of files that are done"));
@@ -73,14 +77,26 @@ pub fn check() -> Verdict {
     let empty = PathBuf::from(format!("{FOLDER}/empty.run"));
     fs::write(&empty, []).map_err(said)?;
     expect("an empty run", &figures(&empty)?, &Figures::none().line())?;
-    expect("no run", &String::from_utf8_lossy(&month(&[])?.stdout), &figures::report(&[]))?;
+    expect(
+        "no run",
+        &String::from_utf8_lossy(&month(&[])?.stdout),
+        &figures::report(&[]),
+    )?;
     // more records than a month has; a file that is not there
     let mut many = files.clone();
     many.push(empty);
-    expect("65 runs", &String::from_utf8_lossy(&month(&many)?.stdout), "T1\n")?;
+    expect(
+        "65 runs",
+        &String::from_utf8_lossy(&month(&many)?.stdout),
+        "T1\n",
+    )?;
     let missing = PathBuf::from(format!("{FOLDER}/missing.run"));
     let output = month(&[files[0].clone(), missing])?;
-    expect("a missing run", &String::from_utf8_lossy(&output.stdout), "")?;
+    expect(
+        "a missing run",
+        &String::from_utf8_lossy(&output.stdout),
+        "",
+    )?;
     if !String::from_utf8_lossy(&output.stderr).contains("missing.run") {
         return Err("month does not name the missing run".into());
     }

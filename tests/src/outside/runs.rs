@@ -2,6 +2,7 @@
 use crate::pair::Pair;
 use crate::reach::Reached;
 use crate::Verdict;
+use second::alarms::Alarms;
 use second::looks::Looks;
 use second::picture::{Picture, Queues, Standing};
 use second::plain::{Event, Plain, DEPTH_MOST};
@@ -24,6 +25,7 @@ struct Tally {
     deepest: u32,
     corners: [u64; CORNERS.len()],
     looks: Looks,
+    alarms: Alarms,
 }
 
 /// What runs must meet, most of it with a handler open.
@@ -109,6 +111,7 @@ impl Tally {
         self.reached.answer(&before, event, answer.code);
         self.corners(&before, event, &pair.plain);
         self.looks.event(&before, event, &pair.plain, &answer);
+        self.alarms.event(&before, event, &pair.plain, answer.code);
         self.released_most = self.released_most.max(answer.released);
         pair.same_running()?;
         self.cells(pair)?;
@@ -169,9 +172,10 @@ pub fn check() -> Verdict {
     }
     let table = tally.reached.table()?;
     let looks = tally.looks.lines()?;
+    let alarms = tally.alarms.lines()?;
     tally.deep_enough()?;
     Ok(format!(
-        "{RUNS} runs, {} events, {} cells, {} states\n  longest queues: ready {}, waiters {}, messages {}; most released at once {}; handlers {} deep\n{}{looks}{table}",
+        "{RUNS} runs, {} events, {} cells, {} states\n  longest queues: ready {}, waiters {}, messages {}; most released at once {}; handlers {} deep\n{}{looks}{alarms}{table}",
         tally.events,
         tally.cells,
         tally.pictures,

@@ -1,9 +1,10 @@
 //! The rings beside the proved kernel, and beside the plain one, which no archive is needed for.
 use super::*;
+use crate::alarms::Alarms;
 use crate::cases::{self, Bench};
 use crate::layout;
 use crate::looks::Looks;
-use crate::picture::{self, Breach, Object, Picture, Queues, Standing, Wait, DAMAGE_CODES};
+use crate::picture::{self, Breach, Due, Object, Picture, Queues, Standing, Wait, DAMAGE_CODES};
 use crate::plain::{Event, Plain};
 use crate::random::Random;
 use crate::recording;
@@ -168,6 +169,40 @@ fn shown(k: &Kernel) -> Picture {
         pool_waiters: of_tasks(wait_anchor(POOL, 1), k.pools),
         mail: listed(&k.mail, mail_anchor(1), k.mailboxes, k.messages),
         free: (1..=k.pools).map(blocks).collect(),
+        counter: (k.round != 0).then(|| counter_of(k)),
+    }
+}
+
+fn counter_of(k: &Kernel) -> picture::Counter {
+    let alarm = |i: usize| {
+        let from = &k.alarm[i + 1];
+        picture::Alarm {
+            task: from.task,
+            wakes: from.wakes != 0,
+            kept: from.kept,
+            due: k.is_used(i as u32 + 1).then_some(Due {
+                expiry: from.expiry,
+                period: from.period,
+            }),
+        }
+    };
+    picture::Counter {
+        size: k.round,
+        present: k.present,
+        alarms: std::array::from_fn(alarm),
+    }
+}
+
+fn put_counter(k: &mut Kernel, from: &picture::Counter) {
+    k.present = from.present;
+    for (i, alarm) in (1..).zip(&from.alarms) {
+        let to = &mut k.alarm[i as usize];
+        to.kept = alarm.kept;
+        if let Some(due) = alarm.due {
+            to.expiry = due.expiry;
+            to.period = due.period;
+            k.used |= 1 << (i - 1);
+        }
     }
 }
 
@@ -220,6 +255,10 @@ fn standing(p: &Picture) -> Kernel {
         mailboxes: p.mailboxes,
         messages: p.messages.len() as u32,
         pools: p.pools.iter().map(|free| free.len() as u32).collect(),
+        counter: p.counter.as_ref().map(|counter| setup::Counter {
+            size: counter.size,
+            alarms: counter.alarms.map(|alarm| (alarm.task, alarm.wakes)),
+        }),
     };
     let mut k = Kernel::start(&setup::bytes(&setup)).unwrap();
     for (t, task) in (1..).zip(&p.tasks) {
@@ -242,6 +281,9 @@ fn standing(p: &Picture) -> Kernel {
     for (p, free) in (1..).zip(&p.free) {
         while k.take_block(p) != 0 {}
         free.iter().for_each(|block| k.free_block(p, *block));
+    }
+    if let Some(counter) = &p.counter {
+        put_counter(&mut k, counter);
     }
     k.clock = p.clock;
     k.depth = p.depth;
@@ -293,6 +335,7 @@ fn cases_hold() {
 fn answers_are_the_plain_kernels() {
     let mut deepest = 0;
     let mut looks = Looks::default();
+    let mut alarms = Alarms::default();
     for seed in 0..RUNS {
         let (mut random, setup) = drawn(40_000 + seed);
         let mut both = Both::fresh(&setup);
@@ -305,10 +348,12 @@ fn answers_are_the_plain_kernels() {
                 .unwrap_or_else(|d| panic!("seed {seed}: {d}"));
             deepest = deepest.max(both.plain.depth());
             looks.event(&before, event, &both.plain, &answer);
+            alarms.event(&before, event, &both.plain, answer.code);
         }
     }
     assert_eq!(deepest, 15);
     looks.lines().unwrap();
+    alarms.lines().unwrap();
 }
 
 /// From sound states that no short run reaches, too; and each has a memory that shows it.
@@ -374,10 +419,12 @@ fn damage_is_found() {
     assert!(sound.event(&[0, 18, 1, 1 << 31, 0]).code >= 0);
     assert!(sound.event(&[0, 20, 1, 1, 0]).code >= 0);
     assert!(sound.event(&[0, 10, 9, 0, 0]).code >= 0);
+    sound.alarm[1].wakes = 1;
+    assert_eq!(sound.event(&[0, 37, 1, 1, 1]).code, 0);
     assert!(sound.is_sound());
     let t = sound.running;
     type Damage = fn(&mut Kernel, u32);
-    let damages: [(Damage, i32, u32); 25] = [
+    let damages: [(Damage, i32, u32); 35] = [
         (|k, _| k.priorities = 17, H_NUMBER, 0),
         (|k, _| k.ready ^= 1 << 3, H_NUMBER, 0),
         (|k, _| k.timed ^= 1, H_NUMBER, 0),
@@ -403,6 +450,16 @@ fn damage_is_found() {
         (|k, _| k.running = 0, H_NUMBER, 0),
         (|k, _| k.depth = 16, H_NUMBER, 0),
         (|k, _| k.clock = 1 << 48, H_NUMBER, 0),
+        (|k, _| k.round = 65536, H_NUMBER, 0),
+        (|k, _| k.present = k.round, H_NUMBER, 0),
+        (|k, _| k.used |= 1 << 8, H_NUMBER, 0),
+        (|k, _| k.alarm[8].task = 0, H_NUMBER, 0),
+        (|k, _| k.alarm[1].task = k.tasks + 1, H_NUMBER, 0),
+        (|k, _| k.alarm[2].wakes = 2, H_NUMBER, 0),
+        (|k, _| k.alarm[3].kept = E_TMOUT, H_NUMBER, 0),
+        (|k, _| k.alarm[1].kept = H_NODMT, H_NUMBER, 0),
+        (|k, _| k.alarm[1].expiry = k.round, H_NUMBER, 0),
+        (|k, _| k.alarm[1].period = k.round + 1, H_NUMBER, 0),
     ];
     for (i, (damage, code, id)) in damages.into_iter().enumerate() {
         let mut k = sound.clone();
@@ -427,7 +484,8 @@ fn hurt(random: &mut Random, k: &mut Kernel) {
     };
     let block = random.below(265) as usize;
     let p = random.below(k.pools + 1) as usize;
-    match random.below(16) {
+    let alarm = &mut k.alarm[random.within(1, 8) as usize];
+    match random.below(23) {
         0 => k.queue.link[random.below(105) as usize].next = node(random, k.tasks),
         1 => k.queue.link[random.below(105) as usize].prev = node(random, k.tasks),
         2 => k.mail.link[random.below(273) as usize].next = node(random, k.messages.max(1)),
@@ -445,6 +503,13 @@ fn hurt(random: &mut Random, k: &mut Kernel) {
         12 => k.blocks.link[block].prev = node(random, 264),
         13 => k.free[p] ^= 1 << random.below(k.size[p].max(1)),
         14 => k.delete(t),
+        15 => k.round = random.pick(&[0, 1, k.round + 1, 65535, 65536]),
+        16 => k.present = random.pick(&[0, k.round, k.round.wrapping_sub(1)]),
+        17 => alarm.task = random.below(34),
+        18 => alarm.wakes ^= 1,
+        19 => alarm.kept = random.pick(&[0, -3, -2100, -2101, -2889, -3413, 1, i32::MIN]),
+        20 => alarm.expiry = random.below(k.round + 2),
+        21 => alarm.period = random.below(k.round + 2),
         _ => k.depth = random.below(17),
     }
 }

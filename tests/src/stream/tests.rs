@@ -100,3 +100,31 @@ fn counts_are_judged() {
     let wanted = format!("refused 2 {at}\n");
     assert_eq!(text([&with(1_000_001)[..]]), wanted);
 }
+
+/// A setup alone may end after seven sections; in a run the eighth always stands.
+#[test]
+fn eighth_section_stands() {
+    let setup = cases::setup().unwrap();
+    let eight = crate::setup::bytes(&setup);
+    let at = eight.len() - 4;
+    let seven = &eight[..at];
+    let read = crate::setup::read;
+    assert_eq!(read(seven), Ok(setup.clone()));
+    assert_eq!(read(&eight), Ok(setup));
+    for end in at + 1..at + 4 {
+        assert_eq!(read(&eight[..end]), Err((S1, at)));
+    }
+    assert_eq!(read(&[seven, &2_u32.to_le_bytes()].concat()), Err((2, at)));
+    assert_eq!(read(&[&eight[..], &[0]].concat()), Err((S4, at + 4)));
+    // a count of events in its place
+    for many in [0, 1, 2, 3000_u32] {
+        let events = vec![1; 20 * many as usize];
+        let old = [seven, &many.to_le_bytes(), &events].concat();
+        let refused = match many {
+            0 => (S1, at + 4),
+            1 => (3, at + 4),
+            _ => (2, at),
+        };
+        assert_eq!(text([&old[..]]), recording::refusal(refused));
+    }
+}

@@ -2,8 +2,9 @@
 use super::{sketched, Tally};
 use okrozumba::State;
 use second::layout::{self, Links, BLOCK_LINKS, MAIL_LINKS, TASK_LINKS};
-use second::picture::{Object, Picture, Queues, Standing, Wait, ABSENT, H_NUMBER};
+use second::picture::{Due, Object, Picture, Queues, Standing, Wait, ABSENT, H_NUMBER};
 use second::random::Random;
+use second::setup::ALARMS;
 
 const AIMED: u64 = 60_000;
 
@@ -146,6 +147,28 @@ fn interrupt_any(random: &mut Random, p: &mut Picture) {
     });
 }
 
+/// A number of the counter or of an alarm at the edges of its range, or the counter gone.
+fn wind(random: &mut Random, p: &mut Picture) {
+    let Some(counter) = &mut p.counter else {
+        return;
+    };
+    let size = counter.size;
+    let edges = [0, 1, size - 1, size, size + 1, 65535, 65536];
+    let alarm = &mut counter.alarms[random.below(ALARMS as u32) as usize];
+    match random.below(8) {
+        0 => counter.size = random.pick(&[1, size + 1, 65535, 65536, u32::MAX]),
+        1 => counter.present = random.pick(&edges),
+        2 => alarm.task = random.pick(&[0, 1, p.tasks.len() as u32, p.tasks.len() as u32 + 1]),
+        3 => alarm.wakes ^= true,
+        4 => alarm.kept = random.pick(&[0, -3, -2100, -2101, -2889, -4, -3413, i32::MIN]),
+        5 => p.counter = None,
+        _ => {
+            let (expiry, period) = (random.pick(&edges), random.pick(&edges));
+            alarm.due = random.percent(80).then_some(Due { expiry, period });
+        }
+    }
+}
+
 // ---- links
 
 /// A queue of somebody.
@@ -180,7 +203,7 @@ fn join_mail(random: &mut Random, state: &State, mail: &Queues) -> State {
 
 /// By turns nothing, one thing or two.
 fn changed(random: &mut Random, p: &mut Picture) {
-    match random.below(13) {
+    match random.below(16) {
         0 => interrupt_any(random, p),
         1..=3 => misplace(random, p),
         4 | 5 => serve_waiter(random, p),
@@ -194,6 +217,11 @@ fn changed(random: &mut Random, p: &mut Picture) {
             misplace_block(random, p);
         }
         10 | 11 => unmake(random, p),
+        12 | 13 => wind(random, p),
+        14 => {
+            wind(random, p);
+            misplace(random, p);
+        }
         _ => {}
     }
 }

@@ -1,19 +1,17 @@
-//! Damage worked by hand from the documented layout: which words are overwritten, and what requests K6, K7 and K9 tell of them.
+//! Damage worked by hand from the documented layout: which words are overwritten, and what requests K6, K7, K9 and K11 tell of them.
 use super::{with_word, Tally};
 use crate::pair::Pair;
-use okrozumba::STATE_WORDS;
+use okrozumba::{State, STATE_WORDS};
 use second::layout;
 use second::picture::{H_FREE, H_NUMBER, H_QUEUE, H_SERVED, H_TWICE};
 use second::plain::Event;
 use second::setup;
 
-/// What is done to it, calls of the running task on a fresh state (number, a, b, c), the words overwritten, and code and id told.
-type Worked = (
-    &'static str,
-    &'static [[i32; 4]],
-    &'static [(usize, u32)],
-    (i32, u32),
-);
+/// Calls of the running task on a fresh state (number, a, b, c).
+type Calls = &'static [[i32; 4]];
+type Words = &'static [(usize, u32)];
+/// What is done to it, the calls before, the words overwritten, and code and id told.
+type Worked = (&'static str, Calls, Words, (i32, u32));
 
 // ---- places of words
 
@@ -56,6 +54,14 @@ const CLOCK_HIGH: usize = 1179;
 const HANDLERS: usize = 1180;
 const INTERRUPTED: usize = 1181;
 const NONEMPTY: usize = 1182;
+const COUNTER: usize = 1713;
+const PRESENT: usize = 1714;
+/// The words before alarm 1's.
+const ALARM_TASKS: usize = 1715;
+const ALARM_WAKES: usize = 1724;
+const ALARM_CODES: usize = 1733;
+const ALARM_DUES: usize = 1742;
+const ALARM_PERIODS: usize = 1751;
 
 /// Anchors: of the ready queues of priorities 1 and 2, of the semaphore's waiters, of the mailboxes' lists, of the pools' free blocks.
 const READY_1: u32 = 33;
@@ -493,8 +499,164 @@ const ON_TWO_POOLS: [Worked; 5] = [
     ),
 ];
 
-fn judge(tally: &mut Tally, words: &[u32], worked: &Worked) -> Result<(), String> {
-    let (what, calls, overwritten, told) = worked;
+/// The sheet's setup and a counter that goes to 3. Alarm 1 starts task 3, alarm 2 wakes task 1.
+const COUNTED: [u32; 34] = [
+    4, 3, 2, 1, 2, 1, 1, 0, 1, 0, 1, 0, 1, 2, 1, 2, 1, 4, 3, 0, 1, 1, 3, 0, 3, 1, 2, 1, 1, 0, 2, 1,
+    2, 1,
+];
+/// Alarm 1 in three ticks, and then again and again.
+const SET_1: [i32; 4] = [37, 1, 3, 2];
+
+const ON_COUNTED: [Worked; 16] = [
+    ("m beyond 65535", &[], &[(COUNTER, 65536)], (H_NUMBER, 0)),
+    ("the count is m", &[], &[(PRESENT, 4)], (H_NUMBER, 0)),
+    (
+        "m comes down to the count",
+        &[],
+        &[(PRESENT, 3), (COUNTER, 3)],
+        (H_NUMBER, 0),
+    ),
+    (
+        "alarm 8 has no task",
+        &[],
+        &[(ALARM_TASKS + 8, 0)],
+        (H_NUMBER, 0),
+    ),
+    (
+        "alarm 1 has a task beyond the last",
+        &[],
+        &[(ALARM_TASKS + 1, 4)],
+        (H_NUMBER, 0),
+    ),
+    (
+        "alarm 1 neither starts nor wakes",
+        &[],
+        &[(ALARM_WAKES + 1, 2)],
+        (H_NUMBER, 0),
+    ),
+    (
+        "a start kept E_DMT",
+        &[],
+        &[(ALARM_CODES + 1, 2101)],
+        (H_NUMBER, 0),
+    ),
+    (
+        "a start kept E_QOVR",
+        &[],
+        &[(ALARM_CODES + 1, 2889)],
+        (H_NUMBER, 0),
+    ),
+    (
+        "a wake kept H_NODMT",
+        &[],
+        &[(ALARM_CODES + 2, 3)],
+        (H_NUMBER, 0),
+    ),
+    (
+        "a kept code with its sign",
+        &[],
+        &[(ALARM_CODES + 2, 2100_u32.wrapping_neg())],
+        (H_NUMBER, 0),
+    ),
+    (
+        "alarm 1 is due at m",
+        &[SET_1],
+        &[(ALARM_DUES + 1, 5)],
+        (H_NUMBER, 0),
+    ),
+    (
+        "idle alarm 8 is due at m",
+        &[],
+        &[(ALARM_DUES + 8, 5), (ALARM_PERIODS + 8, 0)],
+        (H_NUMBER, 0),
+    ),
+    (
+        "a period beyond m",
+        &[SET_1],
+        &[(ALARM_PERIODS + 1, 5)],
+        (H_NUMBER, 0),
+    ),
+    (
+        "m comes down to the expiry",
+        &[SET_1],
+        &[(COUNTER, 3)],
+        (H_NUMBER, 0),
+    ),
+    (
+        "an alarm is told before a queue",
+        &[SET_1],
+        &[(next(2), 1), (ALARM_PERIODS + 1, 5)],
+        (H_NUMBER, 0),
+    ),
+    (
+        "a queue, and an alarm as it should be",
+        &[SET_1],
+        &[(next(2), 1), (ALARM_PERIODS + 1, 4)],
+        (H_QUEUE, 1),
+    ),
+];
+
+/// What is no part of the state, or still in its range.
+const STILL_SOUND: [(&str, Calls, Words); 7] = [
+    (
+        "an idle alarm's period",
+        &[],
+        &[(ALARM_PERIODS + 1, 70_000)],
+    ),
+    (
+        "the words before alarm 1",
+        &[],
+        &[
+            (ALARM_TASKS, 99),
+            (ALARM_WAKES, 99),
+            (ALARM_CODES, 99),
+            (ALARM_DUES, 99),
+            (ALARM_PERIODS, 99),
+        ],
+    ),
+    (
+        "without a counter nothing counts behind it",
+        &[SET_1],
+        &[
+            (COUNTER, 0),
+            (PRESENT, 9),
+            (ALARM_TASKS + 1, 99),
+            (ALARM_WAKES + 1, 7),
+            (ALARM_CODES + 1, 77),
+            (ALARM_DUES + 1, 70_000),
+            (ALARM_PERIODS + 1, 70_000),
+        ],
+    ),
+    (
+        "codes of starts and wakes",
+        &[],
+        &[
+            (ALARM_CODES + 1, 3),
+            (ALARM_CODES + 2, 2101),
+            (ALARM_CODES + 3, 2100),
+            (ALARM_CODES + 4, 2889),
+            (ALARM_CODES + 5, 2100),
+        ],
+    ),
+    (
+        "m and the count at their ends",
+        &[],
+        &[(COUNTER, 65535), (PRESENT, 65534)],
+    ),
+    (
+        "expiry and period at their ends",
+        &[SET_1],
+        &[(ALARM_DUES + 1, 4), (ALARM_PERIODS + 1, 4)],
+    ),
+    (
+        "due at 0, and now",
+        &[SET_1],
+        &[(ALARM_DUES + 1, 1), (ALARM_PERIODS + 1, 0)],
+    ),
+];
+
+/// The memory after the calls, with the words overwritten.
+fn overwritten(words: &[u32], calls: Calls, overwritten: Words) -> Result<State, String> {
     let setup = setup::read(&setup::bytes_of(words.iter().copied()));
     let mut pair = Pair::fresh(&setup.map_err(|fault| format!("{words:?}: {fault:?}"))?)?;
     for [number, a, b, c] in calls.iter().copied() {
@@ -507,9 +669,15 @@ fn judge(tally: &mut Tally, words: &[u32], worked: &Worked) -> Result<(), String
         })?;
     }
     let mut state = pair.kernel;
-    for (at, word) in overwritten.iter() {
+    for (at, word) in overwritten {
         state = with_word(&state, *at, *word);
     }
+    Ok(state)
+}
+
+fn judge(tally: &mut Tally, words: &[u32], worked: &Worked) -> Result<(), String> {
+    let (what, calls, changed, told) = worked;
+    let state = overwritten(words, calls, changed)?;
     let second = layout::shown(&state).map_err(|breach| (breach.code, breach.id));
     if second.as_ref().err() != Some(told) {
         return Err(format!("{what}: {second:?}, by hand {told:?}"));
@@ -517,15 +685,28 @@ fn judge(tally: &mut Tally, words: &[u32], worked: &Worked) -> Result<(), String
     tally.judge(&state).map_err(|d| format!("{what}: {d}"))
 }
 
-/// Gives how many there are.
+fn judge_sound(tally: &mut Tally) -> Result<(), String> {
+    for (what, calls, changed) in STILL_SOUND {
+        let state = overwritten(&COUNTED, calls, changed)?;
+        if let Err(breach) = layout::shown(&state) {
+            return Err(format!("{what}: {breach}, by hand sound"));
+        }
+        tally.judge(&state).map_err(|d| format!("{what}: {d}"))?;
+    }
+    Ok(())
+}
+
+/// Gives how many damaged ones there are.
 pub fn check(tally: &mut Tally) -> Result<usize, String> {
-    let memories: [(&[u32], &[Worked]); 5] = [
+    let memories: [(&[u32], &[Worked]); 6] = [
         (&SHEET, &ON_SHEET),
         (&SHEET, &ON_ITS_POOL),
         (&SHEET, &ON_TASK_3),
         (&TWO_MAILBOXES, &ON_TWO_MAILBOXES),
         (&TWO_POOLS, &ON_TWO_POOLS),
+        (&COUNTED, &ON_COUNTED),
     ];
+    judge_sound(tally)?;
     for (words, all) in memories {
         all.iter()
             .try_for_each(|worked| judge(tally, words, worked))?;

@@ -5,10 +5,10 @@ use Rattle.bench_sheet.proofs.memory.lay.Statement.{statement}
 use Rattle.bench_sheet.proofs.memory.lay.Tie as tie
 
 abbrev Inv-loop : tie.InvT-loop
-Inv-loop setup₀ line i₀ setup i = i ≤ 20
+Inv-loop setup₀ line i₀ setup i = i ≤ 40
 
 abbrev μ-loop : tie.MeasureT-loop
-μ-loop setup₀ line i₀ setup i = 20 - i
+μ-loop setup₀ line i₀ setup i = 40 - i
 
 loop-holds : tie.Need-loop-holds Inv-loop μ-loop
 loop-holds c = search needs
