@@ -16,7 +16,7 @@ use Rattle.setup.proofs.Reading.{WordAt, word-lies}
 use Rattle.run_reading.specs.Recorded.{mostEvents, headBytes, Head, readHead}
 
 -- the offset behind the last byte that decided
-abbrev reach : {A : Type 0} → Read A → ℕ
+abbrev pub reach : {A : Type 0} → Read A → ℕ
 reach (got a next) = next
 reach (refused d place) = place + 4
 
@@ -42,15 +42,15 @@ sizesOf (x ∷ l) = sizeOf x + sizesOf l
 -- s and t have the same first n bytes
 module _ (s t : List ℕ) (n : ℕ) (hs : n ≤ length s) (ht : n ≤ length t) (agree : (k : ℕ) → k < n → getD t k 0 ≡ getD s k 0) where
   -- r is read from i in s, and r′ in t; it reaches at most b bytes
-  record Steady {A : Type 0} (i b : ℕ) (r r′ : Read A) : Type 0 where
-    from : i ≤ reach r
-    most : reach r ≤ i + b
-    same : reach r ≤ n → r′ ≡ r
+  pub record Steady {A : Type 0} (i b : ℕ) (r r′ : Read A) : Type 0 where
+    pub from : i ≤ reach r
+    pub most : reach r ≤ i + b
+    pub same : reach r ≤ n → r′ ≡ r
 
-  steady-got : {A : Type 0} (a : A) (i : ℕ) → Steady i 0 (got a i) (got a i)
+  pub steady-got : {A : Type 0} (a : A) (i : ℕ) → Steady i 0 (got a i) (got a i)
   steady-got a i = record { from = omega arith; most = omega arith; same = λ h. refl }
 
-  steady-then : {A B : Type 0} {i b c : ℕ} (r r′ : Read A) {f f′ : A → ℕ → Read B} → Steady i b r r′
+  pub steady-then : {A B : Type 0} {i b c : ℕ} (r r′ : Read A) {f f′ : A → ℕ → Read B} → Steady i b r r′
       → ((a : A) (k : ℕ) → r ≡ got a k → Steady k c (f a k) (f′ a k)) → Steady i (b + c) (and-then r f) (and-then r′ f′)
   unfolding and-then
   steady-then (got a k) r′ {f} {f′} S g =
@@ -98,7 +98,7 @@ module _ (s t : List ℕ) (n : ℕ) (hs : n ≤ length s) (ht : n ≤ length t) 
   wider : {A : Type 0} {i b c : ℕ} {r r′ : Read A} → b ≤ c → Steady i b r r′ → Steady i c r r′
   wider h S = record { from = S .from; most = omega (arith, h, S .most); same = S .same }
 
-  section-steady : (x : Section) (i : ℕ) → Steady i (sizeOf x) (readSection s x i) (readSection t x i)
+  pub section-steady : (x : Section) (i : ℕ) → Steady i (sizeOf x) (readSection s x i) (readSection t x i)
   unfolding readSection
   section-steady x i =
       steady-then (readWord s (x .count) S2 i) (readWord t (x .count) S2 i) (word-steady (x .count) S2 i)
@@ -113,7 +113,7 @@ module _ (s t : List ℕ) (n : ℕ) (hs : n ≤ length s) (ht : n ≤ length t) 
       (steady-then (readSection s x i) (readSection t x i) (section-steady x i)
       (λ y j q. steady-then (readSections s l j) (readSections t l j) (sections-steady l j) (λ ys k p. steady-got (y ∷ ys) k)))
 
-  setup-steady : (i : ℕ) → Steady i 516 (readSetup s i) (readSetup t i)
+  pub setup-steady : (i : ℕ) → Steady i 516 (readSetup s i) (readSetup t i)
   unfolding readSetup readWith
   setup-steady i =
       steady-then (readSection s priorities i) (readSection t priorities i) (section-steady priorities i)
@@ -128,7 +128,7 @@ module _ (s t : List ℕ) (n : ℕ) (hs : n ≤ length s) (ht : n ≤ length t) 
 
 -- ---- a setup in front of other bytes
 
-getD-take : (s : List ℕ) (n k : ℕ) → k < n → getD (take n s) k 0 ≡ getD s k 0
+pub getD-take : (s : List ℕ) (n k : ℕ) → k < n → getD (take n s) k 0 ≡ getD s k 0
 getD-take [] zero k h = refl
 getD-take [] (suc n) k h = refl
 getD-take (x ∷ s) zero k h = absurd (omega (arith, h))

@@ -1,0 +1,37 @@
+-- `judge`: what was judged of the first setup, then of the rest. Assumes nothing.
+use Rattle.run_compare_reading.proofs.Verdict.{first-refused, first-good}
+use borrow.Author.Needs.{needs}
+use Rattle.run_compare_reading.proofs.judge.Statement.{statement}
+use Rattle.run_compare_reading.proofs.judge.Tie as tie
+
+-- src/lib.rt:108:11
+judge-requires : tie.Need-judge-requires
+judge-requires c κs = search needs
+
+-- src/lib.rt:109:21
+enum-known-d : tie.Need-enum-known-d
+enum-known-d c = search needs
+
+-- src/lib.rt:110:22
+enum-known-second : tie.Need-enum-known-second
+enum-known-second c = search needs
+
+-- src/lib.rt:110:33
+judge-rest-requires : tie.Need-judge-rest-requires
+judge-rest-requires c κs = search needs
+
+-- src/lib.rt:105:1
+returns : tie.Need-returns
+returns c = first-refused _ (c .before .before .before .judge .ensures) _ _ (c .before .d .given .1)
+
+-- src/lib.rt:105:1
+returns-2 : tie.Need-returns-2
+returns-2 c =
+    let second = c .before .before in
+    let g = first-good _ (second .before .before .judge .ensures) _ (second .second .given .1) in
+    c .judge-rest .ensures (g .0) (g .1)
+
+pub judge-spec : {M : Type 1} → statement M
+judge-spec =
+    tie.close
+    (tie.spec judge-requires enum-known-d enum-known-second judge-rest-requires returns returns-2)

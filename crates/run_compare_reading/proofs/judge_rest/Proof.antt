@@ -1,0 +1,62 @@
+-- `judge_rest`: what was judged of each part. Assumes nothing.
+use Rattle.run_compare_reading.proofs.Verdict.{second-refused, events-refused, all-good}
+use borrow.Author.Needs.{needs}
+use Rattle.run_compare_reading.proofs.judge_rest.Statement.{statement}
+use Rattle.run_compare_reading.proofs.judge_rest.Tie as tie
+
+-- src/lib.rt:95:11
+judge-requires : tie.Need-judge-requires
+judge-requires c κs = search needs
+
+-- src/lib.rt:96:21
+enum-known-d : tie.Need-enum-known-d
+enum-known-d c = search needs
+
+-- src/lib.rt:97:22
+enum-known-events : tie.Need-enum-known-events
+enum-known-events c = search needs
+
+-- src/lib.rt:97:39
+judge-events-requires : tie.Need-judge-events-requires
+judge-events-requires c κs = search needs
+
+-- src/lib.rt:98:25
+enum-known-d-2 : tie.Need-enum-known-d-2
+enum-known-d-2 c = search needs
+
+-- src/lib.rt:99:32
+enum-told : tie.Need-enum-told
+enum-told c = search needs
+
+-- src/lib.rt:92:1
+returns : tie.Need-returns
+returns c = λ u e. second-refused _ u _ e (c .before .before .before .judge .ensures) _ _ (c .before .d .given .1)
+
+-- src/lib.rt:92:1
+returns-2 : tie.Need-returns-2
+returns-2 c =
+    let d = c .before in
+    let E = d .before .before in
+    let j = E .before .before in
+    λ u e. events-refused _ u _ e (j .before .before .judge .ensures) _ (j .events .given .1) (E .judge-events .ensures) _ _ (d .d2 .given .1)
+
+-- src/lib.rt:92:1
+returns-3 : tie.Need-returns-3
+returns-3 c =
+    let E = c .before .before in
+    let j = E .before .before in
+    λ u e. all-good _ u _ e (j .before .before .judge .ensures) _ (j .events .given .1) (E .judge-events .ensures) _ (c .enum-told .given .1)
+
+pub judge-rest-spec : {M : Type 1} → statement M
+judge-rest-spec =
+    tie.close
+    (tie.spec
+    judge-requires
+    enum-known-d
+    enum-known-events
+    judge-events-requires
+    enum-known-d-2
+    enum-told
+    returns
+    returns-2
+    returns-3)

@@ -1,0 +1,2 @@
+-- Two setups and one run as bytes.
+pub mod Compared
