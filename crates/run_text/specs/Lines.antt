@@ -49,6 +49,10 @@ refusal fault place = ascii "refused" ++ fields (pos fault ∷ pos place ∷ [])
 unfoldable pub eventLine : ℕ → List ℤ → List ℕ
 eventLine number answer = decimal number ++ fields answer
 
+-- a number alone
+unfoldable pub countLine : ℕ → List ℕ
+countLine n = decimal n ++ fields []
+
 -- no line that a recorder writes is longer: it is that of an event whose six numbers have ten digits and whose code has a sign
 abbrev pub longestLine : ℕ
 longestLine = 67

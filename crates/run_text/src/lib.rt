@@ -6,7 +6,7 @@ ghost use mathlib.Core.List.{[], _∷_};
 ghost use Prim.Native.Nat.{_+_, _≤_, min};
 ghost use lib.IntN.{pos};
 ghost use lib.ListN.{set};
-ghost use Rattle.run_text.specs.Lines.{decimal, signed, startLine, eventLine, refusal, longestLine};
+ghost use Rattle.run_text.specs.Lines.{decimal, signed, startLine, eventLine, refusal, countLine, longestLine};
 ghost use Rattle.run_text.specs.Output.{laid, Wrote};
 
 // No line is longer.
@@ -135,5 +135,13 @@ pub fn refusal_line(text: &mut [u8], fault: u32, place: usize) -> usize
     let mut at = letters(text, b"refused");
     at = field(text, at, fault as usize);
     at = field(text, at, place);
+    end_line(text, at)
+}
+
+// The line of a number alone.
+pub fn count_line(text: &mut [u8], n: u32) -> usize
+    ensures { λ r. ⌜ (Wrote (countLine n) 0 (now (text .entry)) (now (text .exit)) r) × (r ≤ longestLine) ⌝ }
+{
+    let at = number(text, 0, n as usize);
     end_line(text, at)
 }
