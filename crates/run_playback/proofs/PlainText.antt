@@ -27,14 +27,14 @@ use Rattle.run_text.specs.Text.{Stage, unstarted, at, lineOf, onward, linesFrom
 
 -- ---- the words of an event
 
-word-fits : (w : ℕ) → Word (signedWord w)
+pub word-fits : (w : ℕ) → Word (signedWord w)
 word-fits w = go (ltb w (2 ^ 31)) refl
   where
     go : (t : Bool) → ltb w (2 ^ 31) ≡ t → Word (cond t (pos w) (negsuc (2 ^ 32 - 1 - w)))
     go true e = ltb-true w (2 ^ 31) e
     go false e = omega (arith, ltb-false w (2 ^ 31) e)
 
-event-fits : (k n a b c : ℤ) → Word k → Word n → Word a → Word b → Word c → Words (eventOf k n a b c)
+pub event-fits : (k n a b c : ℤ) → Word k → Word n → Word a → Word b → Word c → Words (eventOf k n a b c)
 event-fits (pos zero) n a b c x y z v w = (x, y, z, v, w)
 event-fits (pos (suc zero)) n a b c x y z v w = (x, y, z, v, w)
 event-fits (pos (suc (suc zero))) n a b c x y z v w = tt

@@ -1,0 +1,37 @@
+-- `run`: a batch from a setup by itself. Assumes nothing.
+use Rattle.kernel_batches.specs.Batches.{lent}
+use Rattle.run_compare.proofs.Answers.{ran-law}
+use borrow.Author.Needs.{needs}
+use Rattle.run_compare.proofs.run.Statement.{statement}
+use Rattle.run_compare.proofs.run.Tie as tie
+
+sub-run : tie.Need-sub-run
+sub-run c = search needs
+
+part-run-start : tie.Need-part-run-start
+part-run-start c = search needs
+
+part-run-end : tie.Need-part-run-end
+part-run-end c = search needs
+
+run-requires : tie.Need-run-requires
+run-requires c κs = search needs
+
+same-length : tie.Need-same-length
+same-length c = search needs
+
+same-length-2 : tie.Need-same-length-2
+same-length-2 c = search needs
+
+returns : tie.Need-returns
+returns c =
+    let r = c .before .before .before in
+    let S = r .before .before .before .before .before .before .before .before in
+    let a = S .args in
+    let p = S .pre in
+    λ u e. ran-law (a .input .now) (a .from) (a .to) (p .1) (a .events .now) (a .n) (p .2) u e (lent (a .words .now) (a .messages .now) (a .codes .now) (a .answers .now)) (p .3) (p .4) _ _ (r .run .ensures)
+
+pub run-spec : {M : Type 1} → statement M
+run-spec =
+    tie.close
+    (tie.spec sub-run part-run-start part-run-end run-requires same-length same-length-2 returns)
