@@ -334,6 +334,22 @@ enum {
 /* The totals of the records, number by number, in the output: OKROZUMBA_DONE. Or OKROZUMBA_T1 to _T3, the first that applies, and the output as it was. */
 uint32_t okrozumba_month(const okrozumba_record *records, size_t record_count, uint32_t *out, size_t out_words);
 
+/* ---- a changed setup */
+
+/* No text is longer: in an output of so many bytes there is room for any. */
+#define OKROZUMBA_COMPARE_TEXT 366005
+
+/* 0: the text stands at the front of the output, `length` bytes; what lies behind is left. 1: it takes `length` bytes, and the output is as it was. */
+typedef struct okrozumba_comparison {
+    uint32_t number;
+    size_t length;
+} okrozumba_comparison;
+
+/* What does a changed setup change? The input is two setups, then a count of events, 0 to 3,000, and five words for each. All of it is judged before anything
+   runs; a fault is the one line "refused", digit, place from the input's start. Else the text has, for each event at which code, w1, w2, running task or
+   released differ, the line from the first setup and that from the second, then a line with the number of such events. It takes 190 kB of the stack. */
+okrozumba_comparison okrozumba_compare(const uint8_t *input, size_t input_bytes, uint8_t *text, size_t text_bytes);
+
 /* ---- brightness */
 
 #define OKROZUMBA_CURVE_POINTS 16

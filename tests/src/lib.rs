@@ -2,6 +2,7 @@
 //! of its memory only `layout` knows, and that from the documents.
 pub mod alarms;
 pub mod cases;
+pub mod compare;
 pub mod curve;
 pub mod figures;
 pub mod layout;

@@ -22,6 +22,12 @@ pub struct Parted {
 }
 
 #[repr(C)]
+pub struct Comparison {
+    pub number: u32,
+    pub length: usize,
+}
+
+#[repr(C)]
 pub struct Counted {
     pub number: u32,
     pub place: usize,
@@ -174,4 +180,11 @@ extern "C" {
         slot_count: usize,
         light: Light,
     ) -> Display;
+
+    pub fn okrozumba_compare(
+        input: *const u8,
+        input_bytes: usize,
+        text: *mut u8,
+        text_bytes: usize,
+    ) -> Comparison;
 }

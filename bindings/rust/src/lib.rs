@@ -49,6 +49,7 @@ mod archive;
 pub mod brightness;
 pub mod call;
 pub mod code;
+pub mod compare;
 pub mod figures;
 #[cfg(feature = "std")]
 pub mod playback;

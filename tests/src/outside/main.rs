@@ -3,6 +3,7 @@
 //! a word, only the parts that have it in their name.
 mod batch;
 mod brightness;
+mod compare;
 mod damage;
 mod drawn;
 mod handlers;
@@ -26,7 +27,7 @@ pub type Verdict = Result<String, String>;
 
 type Part = (&'static str, fn() -> Verdict);
 
-const PARTS: [Part; 12] = [
+const PARTS: [Part; 13] = [
     ("bench sheet", sheet::check),
     ("random runs", runs::check),
     ("handlers", handlers::check),
@@ -37,6 +38,7 @@ const PARTS: [Part; 12] = [
     ("recorded runs", playback::check),
     ("months", month::check),
     ("records", records::check),
+    ("changed setups", compare::check),
     ("brightness", brightness::check),
     ("runs in parts", parts::check),
 ];
