@@ -17,7 +17,7 @@ use Rattle.rules.specs.Codes.{Code, OK, E-TMOUT, E-RLWAI, H-POLL, number
 use Rattle.rules.specs.State.{Kind, semaphore, flag, mailbox, pool, Wait, asleep, timed, on, Setting, State, dormant, ready, suspended, absent, waiting, waiting-suspended, Task, Body, task, nobody, objects, waitOf, wish, isDormant, isWaiting, isFreed, sleeps}
 use Rattle.rules.specs.Places.{waiters, freeIn, blocks, sameSort, aTask, belongs, sameKind, waitsOn, awaits}
 use Rattle.rules.specs.Events.{Event, tick, enter, exit, call, nat, outside}
-use Rattle.rules.specs.Acts.{Act, start, retire, create, delete, rotate, regrade, wait, release, suspend, resume, wakeups, count, pattern, post, receive, mark, elapse, nest, alarm, change, started, retired, created, freed, releasedTask, halted, resumed, older, with-state, with-priority, with-wakeups, with-cell, after, afters, Move, stay, leave, last, move, releasedMove, haltedMove, resumedMove, regradedMove}
+use Rattle.rules.specs.Acts.{Act, start, retire, create, delete, rotate, regrade, wait, release, suspend, resume, wakeups, count, pattern, post, receive, mark, elapse, nest, alarm, change, started, retired, created, freed, releasedTask, halted, resumed, older, with-state, with-priority, with-wakeups, with-cell, after, afters, Move, stay, leave, last, move}
 use Rattle.rules.specs.View.{View, line, moved, act, acts}
 use Rattle.rules.specs.Verdicts.{Verdict, refuse, gives, done}
 use Rattle.rules.specs.Tasks.{stateOf, starting, sta-tsk, ext-tsk, ter-tsk, chg-pri, rot-rdq, rel-wai, sus-tsk, rsm-tsk, take-wakeup, slp-tsk, wai-tsk, waking, wup-tsk, can-wup, get-tid, tsk-sts, cre-tsk, del-tsk, exd-tsk}
@@ -32,7 +32,7 @@ use Rattle.rules.specs.Answers.{answer}
 use Rattle.rules.specs.Kernel.{next, served}
 use Rattle.rules.specs.Blocks.{isFree, is, ok, taken, handed, handedCount, returned}
 use Rattle.rules.proofs.Ids.{of-put-same, of-put-other, tested, kept-passes, times-head, times-tail, keep-all}
-use Rattle.rules.proofs.States.{waits-by, waiting-tells, dormant-tells, halted-same, resumed-same, older-same}
+use Rattle.rules.proofs.States.{waits-by, waiting-tells, dormant-tells, halted-same, resumed-same, older-same, released-move, halted-move, resumed-move, regraded-move}
 use Rattle.rules.proofs.Firings.{Along, along-append, FiringAct, starts, wakes, stores, keeps, rings-along}
 use Rattle.rules.proofs.Cells.{change-each, map-each, body-acts}
 use Rattle.rules.proofs.Judge.{_⊗_, bad, bad-not-ok, AllRows, by-check, by-first, by-call, OnActs, on-acts, acts-check, acts-choose, acts-first, acts-count, acts-wait}
@@ -194,38 +194,6 @@ elsewhere-moved c stay p l h = refl
 elsewhere-moved c (leave x) p l h = rw (h p) (keep-all l)
 elsewhere-moved c (last x) p l h = rw (h p) (append-nil _ ∙ keep-all l)
 
-released-elsewhere : (s : State) (i : ℕ) → Elsewhere (releasedMove s (aTask i))
-released-elsewhere dormant i = tt
-released-elsewhere absent i = tt
-released-elsewhere ready i = tt
-released-elsewhere suspended i = tt
-released-elsewhere (waiting w) i = λ p. refl
-released-elsewhere (waiting-suspended w) i = λ p. refl
-
-halted-elsewhere : (s : State) (i : ℕ) → Elsewhere (haltedMove s (aTask i))
-halted-elsewhere dormant i = tt
-halted-elsewhere absent i = tt
-halted-elsewhere ready i = λ p. refl
-halted-elsewhere suspended i = tt
-halted-elsewhere (waiting w) i = tt
-halted-elsewhere (waiting-suspended w) i = tt
-
-resumed-elsewhere : (s : State) (i : ℕ) → Elsewhere (resumedMove s (aTask i))
-resumed-elsewhere dormant i = tt
-resumed-elsewhere absent i = tt
-resumed-elsewhere ready i = tt
-resumed-elsewhere suspended i = λ p. refl
-resumed-elsewhere (waiting w) i = tt
-resumed-elsewhere (waiting-suspended w) i = tt
-
-regraded-elsewhere : (s : State) (i : ℕ) → Elsewhere (regradedMove s (aTask i))
-regraded-elsewhere dormant i = tt
-regraded-elsewhere absent i = tt
-regraded-elsewhere ready i = λ p. refl
-regraded-elsewhere suspended i = tt
-regraded-elsewhere (waiting w) i = tt
-regraded-elsewhere (waiting-suspended w) i = tt
-
 act-elsewhere : (a : Act) (b : Body) → Still-act b a → (c : Body) → Elsewhere (move c a)
 unfolding move
 act-elsewhere (start j) b d c = λ p. refl
@@ -233,11 +201,11 @@ act-elsewhere (retire j) b d c = λ p. refl
 act-elsewhere (create j n) b d c = λ p. refl
 act-elsewhere (delete j) b d c = λ p. refl
 act-elsewhere (rotate j) b d c = λ p. refl
-act-elsewhere (regrade j n) b d c = regraded-elsewhere (task c j .state) j
+act-elsewhere (regrade j n) b d c = regraded-move Elsewhere (aTask j) tt (λ p. refl) (task c j .state)
 act-elsewhere (wait j x) b d c = λ p. refl
-act-elsewhere (release j x w) b d c = released-elsewhere (task c j .state) j
-act-elsewhere (suspend j) b d c = halted-elsewhere (task c j .state) j
-act-elsewhere (resume j) b d c = resumed-elsewhere (task c j .state) j
+act-elsewhere (release j x w) b d c = released-move Elsewhere (aTask j) tt (λ p. refl) (λ p. refl) (task c j .state)
+act-elsewhere (suspend j) b d c = halted-move Elsewhere (aTask j) tt (λ p. refl) (task c j .state)
+act-elsewhere (resume j) b d c = resumed-move Elsewhere (aTask j) tt (λ p. refl) (task c j .state)
 act-elsewhere (wakeups j n) b d c = tt
 act-elsewhere (count s n) b d c = tt
 act-elsewhere (pattern f n) b d c = tt
@@ -261,7 +229,7 @@ start-unmoved i v p r = act-unmoved (start i) (λ b q. refl) v p r
 
 pub release-unmoved : (i : ℕ) (c : Code) (w : ℕ) → Unmoved (release i c w ∷ [])
 unfolding acts move
-release-unmoved i c w v p r = act-unmoved (release i c w) (λ b. released-elsewhere (task b i .state) i) v p r
+release-unmoved i c w v p r = act-unmoved (release i c w) (λ b. released-move Elsewhere (aTask i) tt (λ p. refl) (λ p. refl) (task b i .state)) v p r
 
 -- ---- a list of acts: releases of tasks that wait on no pool, starts of dormant ones, a pattern set, a tick gone by, an alarm set
 

@@ -17,11 +17,11 @@ use borrow.Author.Tests.{eqb-true, eqb-false, eq-eqb, ne-eqb, leb-false, not-fal
 use Rattle.rules.specs.Ids.{of, from, ids, In, once, times}
 use Rattle.rules.specs.Codes.{Code, OK, E-TMOUT}
 use Rattle.rules.specs.State.{Kind, semaphore, flag, mailbox, pool, Wait, on, State, dormant, ready, suspended, absent, waiting, waiting-suspended, Task, no-handler, depth, Setting, unset, due, noAlarm, Counter, alarmOf, alarmCount, Body, task, nobody, objects, waitOf, isDormant, isAbsent, isReady, isWaiting, sleeps, wish}
-use Rattle.rules.specs.Places.{waiters, mail, freeIn, belongs, awaits, lies}
+use Rattle.rules.specs.Places.{readyAt, waiters, mail, freeIn, belongs, awaits, lies}
 use Rattle.rules.specs.Setup.{Entry, Setup}
 use Rattle.rules.specs.Events.{Event, tick, enter, exit, call, Word, Words, nat, bits, outside, above}
 use Rattle.rules.specs.Acts.{Act, start, wait, release, wakeups, mark, elapse, alarm, after, afters, started, freed, releasedTask, with-state, with-cell}
-use Rattle.rules.specs.View.{View, line, act, acts}
+use Rattle.rules.specs.View.{View, line, best, act, acts}
 use Rattle.rules.specs.Verdicts.{Verdict, waits}
 use Rattle.rules.specs.Tasks.{stateOf, starting, sta-tsk, ext-tsk, ter-tsk, chg-pri, rot-rdq, rel-wai, sus-tsk, rsm-tsk, take-wakeup, slp-tsk, wai-for, wai-tsk, waking, wup-tsk, can-wup, get-tid, tsk-sts, cre-tsk, del-tsk, exd-tsk}
 use Rattle.rules.specs.Objects.{to-first, obj-sts, countOf, sig-sem, take-sem, patternOf, met, left, serve-flag, set-flg, clr-flg, take-flg, snd-msg, take-msg, blocksOf, free, take-blk, rel-blk}
@@ -34,7 +34,7 @@ use Rattle.rules.specs.Sound.{WishNumbers, WaitNumbers, anyLies, would-s
 use Rattle.rules.specs.Kernel.{frees, starts, begins, next}
 use Rattle.rules.proofs.Ids.{of-put-other, put-all, put-either, inside, tested, times-keep, times-ids}
 use Rattle.rules.proofs.Keeps.{NoneAt, Asks, Pre, asks-waits, sound-after}
-use Rattle.rules.proofs.Queues.{sound-act, body-act, empty-belongs, none-waits, belongs-stands}
+use Rattle.rules.proofs.Queues.{sound-act, body-act, empty-belongs, none-waits, belongs-stands, first-ready, best-ready}
 use Rattle.rules.proofs.Handling.{calls-alone, caller-ready, inner-fits, outer-fits}
 use Rattle.rules.proofs.Firings.{Along, along-append, along-keeps, FiringAct, starts as begun, wakes, stores, keeps, rings-acts}
 use Rattle.rules.proofs.States.{there-by}
@@ -223,7 +223,7 @@ freed-waits suspended = refl
 freed-waits (waiting w) = refl
 freed-waits (waiting-suspended w) = refl
 
-released-waits : (c : Code) (w : ℕ) (t : Task) → waitOf (releasedTask c w t .state) ≡ none
+pub released-waits : (c : Code) (w : ℕ) (t : Task) → waitOf (releasedTask c w t .state) ≡ none
 released-waits c w t = ap (λ (s : State). waitOf s) (go (isWaiting (t .state))) ∙ freed-waits (t .state)
   where
     go : (x : Bool) → cond x (with-cell (record { code = c; word = w }) (with-state (freed (t .state)) t)) t .state ≡ cond x (freed (t .state)) (t .state)
@@ -410,7 +410,11 @@ module _ (v : View) (h : Sound v) where
 
   rot-fine : (a : ℤ) → Fine b (rot-rdq v a)
   unfolding rot-rdq
-  rot-fine a = acts-first (λ e. on-acts tt) (λ x m e. on-acts (tt, tt))
+  rot-fine a = acts-first (λ e. on-acts tt) (λ x m e. on-acts (turned (eqb (nat a) 0) (nat a) x m e, tt))
+    where
+      turned : (t : Bool) (p x : ℕ) (m : List ℕ) → cond t (best v) (line v (readyAt p)) ≡ x ∷ m → isReady (task (v .body) x .state) ≡ true
+      turned true p x m e = best-ready v h x m e
+      turned false p x m e = first-ready v h p x m e
 
   rel-fine : (a : ℤ) → Fine b (rel-wai v a)
   unfolding rel-wai
@@ -429,17 +433,17 @@ module _ (v : View) (h : Sound v) where
   unfolding take-wakeup
   wakeup-fine me r f = acts-count f (λ k e. on-acts ((omega (arith, wakeups-few b s me), λ t. absurd (stored-awake b s me k e .0 t), λ t. absurd (stored-awake b s me k e .1 t), λ t. absurd (stored-awake b s me k e .2 t)), tt))
 
-  slp-fine : (me : ℕ) → b .handlers ≡ no-handler → isAbsent (task b me .state) ≡ false → Fine b (slp-tsk v me)
+  slp-fine : (me : ℕ) → b .handlers ≡ no-handler → isReady (task b me .state) ≡ true → Fine b (slp-tsk v me)
   unfolding slp-tsk
-  slp-fine me z x = wakeup-fine me _ (λ e. on-acts ((z, λ r. (tt, tt, λ t. e, x)), tt))
+  slp-fine me z x = wakeup-fine me _ (λ e. on-acts ((z, λ r. (tt, tt, λ t. e), x), tt))
 
-  for-fine : (me : ℕ) (a : ℤ) → b .handlers ≡ no-handler → isAbsent (task b me .state) ≡ false → Word a → task b me .wakeups ≡ 0 → Fine b (wai-for me a)
+  for-fine : (me : ℕ) (a : ℤ) → b .handlers ≡ no-handler → isReady (task b me .state) ≡ true → Word a → task b me .wakeups ≡ 0 → Fine b (wai-for me a)
   unfolding wai-for
   for-fine me (pos zero) z x w e = on-acts tt
-  for-fine me (pos (suc t)) z x w e = on-acts ((z, λ r. ((omega arith, omega arith), tt, λ t. e, x)), tt)
-  for-fine me (negsuc t) z x w e = on-acts ((z, λ r. (tt, tt, λ t. e, x)), tt)
+  for-fine me (pos (suc t)) z x w e = on-acts ((z, λ r. ((omega arith, omega arith), tt, λ t. e), x), tt)
+  for-fine me (negsuc t) z x w e = on-acts ((z, λ r. (tt, tt, λ t. e), x), tt)
 
-  wai-fine : (me : ℕ) (a : ℤ) → b .handlers ≡ no-handler → isAbsent (task b me .state) ≡ false → Word a → Fine b (wai-tsk v me a)
+  wai-fine : (me : ℕ) (a : ℤ) → b .handlers ≡ no-handler → isReady (task b me .state) ≡ true → Word a → Fine b (wai-tsk v me a)
   unfolding wai-tsk
   wai-fine me a z x w = wakeup-fine me _ (for-fine me a z x w)
 
@@ -482,9 +486,9 @@ module _ (v : View) (h : Sound v) (a : ℤ) where
   first-fine k w r i z f = acts-first (λ e. f (none-waits v h k (nat a) i e)) (λ x m e. on-acts (inl (refl, z), tt))
 
   -- a caller whom the object would not serve may wait on it
-  waits-fine : (me : ℕ) (k : Kind) (p m : ℕ) → v .body .handlers ≡ no-handler → isAbsent (task (v .body) me .state) ≡ false → There k → WishNumbers k p m → would-serve (v .body .store) k (nat a) p m ≡ false
+  waits-fine : (me : ℕ) (k : Kind) (p m : ℕ) → v .body .handlers ≡ no-handler → isReady (task (v .body) me .state) ≡ true → There k → WishNumbers k p m → would-serve (v .body .store) k (nat a) p m ≡ false
       → Fine (v .body) (waits me (on k (nat a) p m))
-  waits-fine me k p m z x i w n = on-acts ((z, λ r. ((i, w), n, λ t. absurd (false≢true t), x)), tt)
+  waits-fine me k p m z x i w n = on-acts ((z, λ r. ((i, w), n, λ t. absurd (false≢true t)), x), tt)
 
   sig-fine : There semaphore → Fine (v .body) (sig-sem v a)
   unfolding sig-sem
@@ -555,9 +559,8 @@ module _ (v : View) (h : Sound v) (x : Bool) (a p c : ℤ) (wa : Word a) (wp : W
   alone : eqb me 0 ≡ false → v .body .handlers ≡ no-handler
   alone = calls-alone v x
 
-  -- the caller is there
-  there : eqb me 0 ≡ false → isAbsent (task (v .body) me .state) ≡ false
-  there e = there-by isReady refl (task (v .body) me .state) (caller-ready v x e h)
+  calling : eqb me 0 ≡ false → isReady (task (v .body) me .state) ≡ true
+  calling e = caller-ready v x e h
 
   here : (k : Kind) → outside a (objects (v .body .store) k) ≡ false → In (nat a) (objects (v .body .store) k)
   here k e = in-by a (objects (v .body .store) k) e
@@ -569,28 +572,28 @@ module _ (v : View) (h : Sound v) (x : Bool) (a p c : ℤ) (wa : Word a) (wp : W
   unfolding table staTsk extTsk terTsk chgPri rotRdq relWai susTsk rsmTsk slpTsk waiTsk wupTsk canWup sigSem waiSem preqSem setFlg clrFlg waiFlg polFlg sndMsg rcvMsg prcvMsg getBlk pgetBlk relBlk getTid tskSts semSts flgSts mbxSts mplSts getTim creTsk delTsk exdTsk setAbs setRel canAlm almSts alm-sts get-tid tsk-sts cre-tsk del-tsk exd-tsk obj-sts get-tim
   all-rows =
       (λ t. sta-fine v h a)
-      ⊗ (λ t. ext-fine v h me (alone (t .context)) (there (t .context)))
+      ⊗ (λ t. ext-fine v h me (alone (t .context)) (there-by isReady refl (task (v .body) me .state) (calling (t .context))))
       ⊗ (λ t. ter-fine v h a (alone (t .context)) (t .there))
       ⊗ (λ t. chg-fine v h a p (in-by p _ (t .words .1 .0)) (t .dormant) (t .there))
       ⊗ (λ t. rot-fine v h a)
       ⊗ (λ t. rel-fine v h a)
       ⊗ (λ t. sus-fine v h a)
       ⊗ (λ t. rsm-fine v h a)
-      ⊗ (λ t. slp-fine v h me (alone (t .context)) (there (t .context)))
-      ⊗ (λ t. wai-fine v h me a (alone (t .context)) (there (t .context)) wa)
+      ⊗ (λ t. slp-fine v h me (alone (t .context)) (calling (t .context)))
+      ⊗ (λ t. wai-fine v h me a (alone (t .context)) (calling (t .context)) wa)
       ⊗ (λ t. wup-fine v h a (t .dormant) (t .there))
       ⊗ (λ t. can-fine v h a)
       ⊗ (λ t. sig-fine v h a (here semaphore (t .words .0)))
-      ⊗ (λ t. sem-fine v h a _ (here semaphore (t .words .0)) (λ z. waits-fine v h a me semaphore 0 0 (alone (t .context)) (there (t .context)) (here semaphore (t .words .0)) (refl, refl) (ap not (eq-eqb _ 0 z))))
+      ⊗ (λ t. sem-fine v h a _ (here semaphore (t .words .0)) (λ z. waits-fine v h a me semaphore 0 0 (alone (t .context)) (calling (t .context)) (here semaphore (t .words .0)) (refl, refl) (ap not (eq-eqb _ 0 z))))
       ⊗ (λ t. sem-fine v h a _ (here semaphore (t .words .0)) (λ z. on-acts tt))
       ⊗ (λ t. set-fine v h a p wp (here flag (t .words .0)))
       ⊗ (λ t. clr-fine v h a p (here flag (t .words .0)))
-      ⊗ (λ t. flg-fine v h a p c _ (here flag (t .words .0)) (λ u. waits-fine v h a me flag (bits p) (nat c) (alone (t .context)) (there (t .context)) (here flag (t .words .0)) (wish-well (t .words .1 .0) (t .words .1 .1 .0)) u))
+      ⊗ (λ t. flg-fine v h a p c _ (here flag (t .words .0)) (λ u. waits-fine v h a me flag (bits p) (nat c) (alone (t .context)) (calling (t .context)) (here flag (t .words .0)) (wish-well (t .words .1 .0) (t .words .1 .1 .0)) u))
       ⊗ (λ t. flg-fine v h a p c _ (here flag (t .words .0)) (λ u. on-acts tt))
       ⊗ (λ t. snd-fine v h a p wp (here mailbox (t .words .0)))
-      ⊗ (λ t. msg-fine v h a _ (here mailbox (t .words .0)) (λ n. waits-fine v h a me mailbox 0 0 (alone (t .context)) (there (t .context)) (here mailbox (t .words .0)) (refl, refl) n))
+      ⊗ (λ t. msg-fine v h a _ (here mailbox (t .words .0)) (λ n. waits-fine v h a me mailbox 0 0 (alone (t .context)) (calling (t .context)) (here mailbox (t .words .0)) (refl, refl) n))
       ⊗ (λ t. msg-fine v h a _ (here mailbox (t .words .0)) (λ n. on-acts tt))
-      ⊗ (λ t. blk-fine v h a _ (here pool (t .words .0)) (λ z. waits-fine v h a me pool 0 0 (alone (t .context)) (there (t .context)) (here pool (t .words .0)) (refl, refl) (ap not (eq-eqb _ 0 z))))
+      ⊗ (λ t. blk-fine v h a _ (here pool (t .words .0)) (λ z. waits-fine v h a me pool 0 0 (alone (t .context)) (calling (t .context)) (here pool (t .words .0)) (refl, refl) (ap not (eq-eqb _ 0 z))))
       ⊗ (λ t. blk-fine v h a _ (here pool (t .words .0)) (λ z. on-acts tt))
       ⊗ (λ t. ret-fine v h a p wp (here pool (t .words .0)))
       ⊗ (λ t. on-acts tt)

@@ -74,13 +74,24 @@ regraded-place p t e (waiters k o) = refl
 regraded-place p t e (mail m) = refl
 regraded-place p t e (freeIn n) = refl
 
+-- whoever belongs where it belonged may stay there, or go last
+abbrev NoneLeaves : Move → Type 0
+NoneLeaves stay = Unit {0}
+NoneLeaves (leave x) = ⊥
+NoneLeaves (last x) = Unit {0}
+
+unready-fits : (i p : ℕ) (b : Body) → isReady (task b i .state) ≡ false → (m : Move) → NoneLeaves m → Fits b (change (with-priority p) i b) m
+unready-fits i p b e stay n = change-stay (with-priority p) i b (regraded-place p (task b i) e)
+unready-fits i p b e (leave x) n = absurd n
+unready-fits i p b e (last x) n = λ q j d. change-stay (with-priority p) i b (regraded-place p (task b i) e) q j
+
 regrade-fits : (i p : ℕ) (b : Body) (s : State) → task b i .state ≡ s → Fits b (change (with-priority p) i b) (regradedMove s (aTask i))
-regrade-fits i p b dormant e = change-stay (with-priority p) i b (regraded-place p (task b i) (rw e))
-regrade-fits i p b absent e = change-stay (with-priority p) i b (regraded-place p (task b i) (rw e))
+regrade-fits i p b dormant e = unready-fits i p b (rw e) (regradedMove dormant (aTask i)) tt
+regrade-fits i p b absent e = unready-fits i p b (rw e) (regradedMove absent (aTask i)) tt
 regrade-fits i p b ready e = change-last (with-priority p) i b
-regrade-fits i p b suspended e = change-stay (with-priority p) i b (regraded-place p (task b i) (rw e))
-regrade-fits i p b (waiting w) e = change-stay (with-priority p) i b (regraded-place p (task b i) (rw e))
-regrade-fits i p b (waiting-suspended w) e = change-stay (with-priority p) i b (regraded-place p (task b i) (rw e))
+regrade-fits i p b suspended e = unready-fits i p b (rw e) (regradedMove suspended (aTask i)) tt
+regrade-fits i p b (waiting w) e = unready-fits i p b (rw e) (regradedMove (waiting w) (aTask i)) tt
+regrade-fits i p b (waiting-suspended w) e = unready-fits i p b (rw e) (regradedMove (waiting-suspended w) (aTask i)) tt
 
 -- a task that does not wait is not released; one in WAIT-SUSPEND comes into no queue
 unreleased : (c : Code) (w : ℕ) (t : Task) → isWaiting (t .state) ≡ false → (q : Place) → stands (releasedTask c w t) q ≡ stands t q

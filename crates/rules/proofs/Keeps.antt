@@ -13,14 +13,14 @@ use lib.ListN.{length, length-map, set}
 use borrow.Author.Tests.{eqb-true, eqb-false, eq-eqb, leb-false, not-false}
 use Rattle.rules.specs.Ids.{of, put, In}
 use Rattle.rules.specs.Codes.{Code}
-use Rattle.rules.specs.State.{Kind, semaphore, flag, mailbox, pool, Wait, asleep, timed, on, State, dormant, ready, suspended, absent, waiting, waiting-suspended, Cell, Task, Store, Handlers, no-handler, in-handler, Setting, Alarm, Counter, alarmOf, noAlarm, Body, task, nobody, objects, waitOf, isDormant, isAbsent, isWaiting, isFreed, sleeps}
+use Rattle.rules.specs.State.{Kind, semaphore, flag, mailbox, pool, Wait, asleep, timed, on, State, dormant, ready, suspended, absent, waiting, waiting-suspended, Cell, Task, Store, Handlers, no-handler, in-handler, Setting, Alarm, Counter, alarmOf, noAlarm, Body, task, nobody, objects, waitOf, isDormant, isAbsent, isReady, isWaiting, isFreed, sleeps}
 use Rattle.rules.specs.Places.{sameKind, waitsOn, awaits, lies}
 use Rattle.rules.specs.Acts.{Act, start, retire, create, delete, rotate, regrade, wait, release, suspend, resume, wakeups, count, pattern, post, receive, mark, elapse, nest, alarm, with-state, with-priority, with-wakeups, with-cell, with-semaphores, with-flags, with-messages, with-pools, with-clock, with-tasks, with-store, with-counter, with-setting, stepped, changeAlarm, change, started, retired, created, freed, releasedTask, halted, resumed, older, after}
 use Rattle.rules.specs.Objects.{met, free}
 use Rattle.rules.specs.Time.{ending}
 use Rattle.rules.specs.Sound.{Sizes, LiesWell, StoreNumbers, CellNumbers, WaitNumbers, anyLies, would-serve, Unserved, AllUnserved, SoundTask, HandlersFit, KeptFits, SettingFits, AlarmFits, CounterFits, SoundBody}
 use Rattle.rules.proofs.Sizes.{SameSizes, sizes-tasks, sizes-clock, sizes-after}
-use Rattle.rules.proofs.States.{waiting-tells, freed-tells, halted-same, resumed-same, older-same}
+use Rattle.rules.proofs.States.{there-by, waiting-tells, freed-tells, halted-same, resumed-same, older-same}
 use Rattle.rules.proofs.Waits.{neither}
 use Rattle.rules.proofs.Cells.{change-each, map-each}
 use Rattle.rules.proofs.Ids.{length-put, of-put-other, of-put-same, put-all, of-map}
@@ -40,11 +40,12 @@ Pre b (start i) = In i (length (b .tasks)) → isAbsent (task b i .state) ≡ fa
 Pre b (retire i) = (b .handlers ≡ no-handler) × (isAbsent (task b i .state) ≡ false)
 Pre b (create i p) = (b .handlers ≡ no-handler) × In p (b .store .priorities)
 Pre b (delete i) = b .handlers ≡ no-handler
-Pre b (rotate i) = Unit {0}
+Pre b (rotate i) = isReady (task b i .state) ≡ true
 Pre b (regrade i p) = In p (b .store .priorities) × (isDormant (task b i .state) ≡ false) × (isAbsent (task b i .state) ≡ false)
 Pre b (wait i w) =
     (b .handlers ≡ no-handler)
-    × (In i (length (b .tasks)) → WaitNumbers (b .store) (some w) × Unserved (b .store) (some w) × (sleeps (some w) ≡ true → task b i .wakeups ≡ 0) × (isAbsent (task b i .state) ≡ false))
+    × (In i (length (b .tasks)) → WaitNumbers (b .store) (some w) × Unserved (b .store) (some w) × (sleeps (some w) ≡ true → task b i .wakeups ≡ 0))
+    × (isReady (task b i .state) ≡ true)
 Pre b (release i c w) = CellNumbers (record { code = c; word = w })
 Pre b (suspend i) = Unit {0}
 Pre b (resume i) = Unit {0}
@@ -510,7 +511,7 @@ sound-after (create i n) b h p = sound-change (created n) i b h (inr (p .0)) (λ
 sound-after (delete i) b h p = sound-change (λ t. nobody) i b h (inr p) (λ r g. gone-well)
 sound-after (rotate i) b h p = h
 sound-after (regrade i n) b h p = sound-change (with-priority n) i b h (inl (λ e. e)) (λ r g. priority-well g n (p .0) (p .1) (p .2))
-sound-after (wait i w) b h p = sound-change (with-state (waiting w)) i b h (inr (p .0)) (λ r g. state-well g (waiting w) (p .1 r .0) (p .1 r .2) (λ e. absurd (false≢true e)) (sym (p .1 r .3)))
+sound-after (wait i w) b h p = sound-change (with-state (waiting w)) i b h (inr (p .0)) (λ r g. state-well g (waiting w) (p .1 r .0) (p .1 r .2) (λ e. absurd (false≢true e)) (sym (there-by isReady refl (task b i .state) (p .2))))
 sound-after (release i c w) b h p = sound-change (releasedTask c w) i b h (inl (released-held c w (task b i))) (λ r g. released-well c w (task b i) p g)
 sound-after (suspend i) b h p =
     sound-change (λ t. with-state (halted (t .state)) t) i b h (inl (rw (halted-same (task b i .state) .2) (λ e. e)))

@@ -39,4 +39,6 @@ pub mod Released
 pub mod Fresh
 pub mod Demand3
 pub mod Wear
+pub mod Ahead
+pub mod Turns
 pub mod Runs

@@ -3,7 +3,7 @@ use mathlib.Core.Bool.{Bool, true, false, cond, not, _&&_}
 use mathlib.Core.List.{List, [], _∷_, _++_}
 use mathlib.Core.Path.{_≡_, refl, sym, ap, _∙_, subst}
 use mathlib.Core.Logic.{_⊎_, inl, inr, _≢_}
-use Prim.Native.Nat.{ℕ, zero, suc, _+_, _≤_, _<_}
+use Prim.Native.Nat.{ℕ, zero, suc, _+_, _<_}
 use native.Mathlib.Nat.{add-zero}
 use native.Mathlib.Omega.{arith}
 use lib.Dec.{eqb}
@@ -15,7 +15,7 @@ use Rattle.rules.specs.Acts.{Act, after, Move, stay, leave, last, move}
 use Rattle.rules.specs.View.{View, line, nonempty, best, head, alone, without, moved, act}
 use Rattle.rules.specs.Sound.{Shape, Known, Queue, Sound}
 use Rattle.rules.specs.Blocks.{isFree}
-use Rattle.rules.proofs.Ids.{Each, times-append, times-keep, times-head}
+use Rattle.rules.proofs.Ids.{Each, inside, times-append, times-keep, times-head}
 use Rattle.rules.proofs.Waits.{both-true}
 use Rattle.rules.proofs.Fits.{Fits, fits, population-after, in-range}
 use Rattle.rules.proofs.Sorting.{all-has}
@@ -151,26 +151,34 @@ module _ (v : View) (h : Sound v) (q : Place) (r : Exists (v .body .store) q) wh
   pub empty-belongs : line v q ≡ [] → (i : ℕ) → belongs (v .body) q i ≡ false
   empty-belongs e i = empty-line-belongs (v .body) q i (subst (Queue (v .body) q) e (h .queues q r))
 
+no-first : {x : ℕ} {m : List ℕ} → [] ≡ x ∷ m → ⊥
+no-first e = let z : _≡_ {A = ℕ} 0 1 = cc in omega arith
+
 -- the first nonempty list is one of them
 pub nonempty-at : (l : List (List ℕ)) (x : ℕ) (m : List ℕ) → nonempty l ≡ x ∷ m → (i : ℕ) × (i < length l) × (getD l i [] ≡ x ∷ m)
 nonempty-at [] x m e = absurd (no-first e)
-  where
-    no-first : {x : ℕ} {m : List ℕ} → [] ≡ x ∷ m → ⊥
-    no-first e = let z : _≡_ {A = ℕ} 0 1 = cc in omega arith
 nonempty-at ([] ∷ l) x m e = let r = nonempty-at l x m e in (suc (r .0), omega (arith, r .1), r .2)
 nonempty-at ((y ∷ q) ∷ l) x m e = (0, omega arith, e)
 
--- the head of the best queue is READY or RUN, if there is one
-pub head-ready : (v : View) → Sound v → (head v ≡ 0) ⊎ (isReady (task (v .body) (head v) .state) ≡ true)
-unfolding lineAt belongs
-head-ready v h = go (best v) refl
-  where
-    go : (l : List ℕ) → best v ≡ l → (first l ≡ 0) ⊎ (isReady (task (v .body) (first l) .state) ≡ true)
-    go [] e = inl refl
-    go (x ∷ m) e =
-        let r = nonempty-at (v .lines .ready) x m e in
-        let k : In (suc (r .0)) (v .body .store .priorities) = (omega arith, subst (λ (n : ℕ). suc (r .0) ≤ n) (h .shape .ready) (r .1)) in
-        inr (both-true _ _ (first-belongs v h (readyAt (suc (r .0))) k x m (r .2)) .0)
+-- ---- the first of a ready queue is READY or RUN
+
+module _ (v : View) (h : Sound v) where
+  pub first-ready : (p x : ℕ) (m : List ℕ) → line v (readyAt p) ≡ x ∷ m → isReady (task (v .body) x .state) ≡ true
+  unfolding lineAt belongs
+  first-ready p x m e = elim (inside (v .lines .ready) p [])
+      [ inl r ↦ both-true _ _ (first-belongs v h (readyAt p) (subst (In p) (h .shape .ready) r) x m e) .0 | inr z ↦ absurd (no-first (sym z ∙ e)) ]
+
+  pub best-ready : (x : ℕ) (m : List ℕ) → best v ≡ x ∷ m → isReady (task (v .body) x .state) ≡ true
+  unfolding lineAt
+  best-ready x m e = let r = nonempty-at (v .lines .ready) x m e in first-ready (suc (r .0)) x m (r .2)
+
+  -- the head of the best queue, if there is one
+  pub head-ready : (head v ≡ 0) ⊎ (isReady (task (v .body) (head v) .state) ≡ true)
+  head-ready = go (best v) refl
+    where
+      go : (l : List ℕ) → best v ≡ l → (first l ≡ 0) ⊎ (isReady (task (v .body) (first l) .state) ≡ true)
+      go [] e = inl refl
+      go (x ∷ m) e = inr (best-ready x m e)
 
 -- where nobody stands, nobody waits
 pub none-waits : (v : View) → Sound v → (k : Kind) (o : ℕ) → Exists (v .body .store) (waiters k o) → line v (waiters k o) ≡ [] → NoneAt (v .body) k o

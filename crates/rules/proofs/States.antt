@@ -4,8 +4,8 @@ use mathlib.Core.Option.{Option, none}
 use mathlib.Core.Path.{_≡_, refl, sym, _∙_}
 use Prim.Native.Nat.{ℕ}
 use Rattle.rules.specs.State.{Kind, Wait, asleep, timed, on, State, dormant, ready, suspended, absent, waiting, waiting-suspended, waitOf, isDormant, isAbsent, isReady, isWaiting, isFreed, sleeps}
-use Rattle.rules.specs.Places.{awaits}
-use Rattle.rules.specs.Acts.{freed, halted, resumed, older}
+use Rattle.rules.specs.Places.{Item, awaits}
+use Rattle.rules.specs.Acts.{freed, halted, resumed, older, Move, stay, leave, last, releasedMove, haltedMove, resumedMove, regradedMove}
 
 -- a test that no absent task passes
 pub there-by : (f : State → Bool) → f absent ≡ false → (s : State) → f s ≡ true → isAbsent s ≡ false
@@ -89,3 +89,51 @@ older-same (waiting (on k o p m)) = search alike
 older-same (waiting-suspended asleep) = search alike
 older-same (waiting-suspended (timed t)) = search alike
 older-same (waiting-suspended (on k o p m)) = search alike
+
+-- ---- the moves that follow from the state: nobody moves, or the task leaves or goes last
+
+data StaysOrLast (x : Item) : Move → Type 0 where
+  stays : StaysOrLast x stay
+  goes-last : StaysOrLast x (last x)
+
+ruleset either-way = (stays, goes-last)
+
+regraded-either : (x : Item) (s : State) → StaysOrLast x (regradedMove s x)
+regraded-either x dormant = search either-way
+regraded-either x absent = search either-way
+regraded-either x ready = search either-way
+regraded-either x suspended = search either-way
+regraded-either x (waiting w) = search either-way
+regraded-either x (waiting-suspended w) = search either-way
+
+module _ (P : Move → Type 0) (x : Item) (unmoved : P stay) where
+  pub released-move : P (leave x) → P (last x) → (s : State) → P (releasedMove s x)
+  released-move leaves goes dormant = unmoved
+  released-move leaves goes absent = unmoved
+  released-move leaves goes ready = unmoved
+  released-move leaves goes suspended = unmoved
+  released-move leaves goes (waiting w) = goes
+  released-move leaves goes (waiting-suspended w) = leaves
+
+  pub halted-move : P (leave x) → (s : State) → P (haltedMove s x)
+  halted-move leaves dormant = unmoved
+  halted-move leaves absent = unmoved
+  halted-move leaves ready = leaves
+  halted-move leaves suspended = unmoved
+  halted-move leaves (waiting w) = unmoved
+  halted-move leaves (waiting-suspended w) = unmoved
+
+  pub resumed-move : P (last x) → (s : State) → P (resumedMove s x)
+  resumed-move goes dormant = unmoved
+  resumed-move goes absent = unmoved
+  resumed-move goes ready = unmoved
+  resumed-move goes suspended = goes
+  resumed-move goes (waiting w) = unmoved
+  resumed-move goes (waiting-suspended w) = unmoved
+
+  either-move : (m : Move) → P (last x) → StaysOrLast x m → P m
+  either-move m goes stays = unmoved
+  either-move m goes goes-last = goes
+
+  pub regraded-move : P (last x) → (s : State) → P (regradedMove s x)
+  regraded-move goes s = either-move (regradedMove s x) goes (regraded-either x s)

@@ -31,4 +31,5 @@ pub mod Blocks
 pub mod Releases
 pub mod Demand3
 pub mod Wear
+pub mod Turns
 pub mod Broken

@@ -2,3 +2,4 @@
 pub mod BenchSheet
 pub mod Examples
 pub mod Alarms
+pub mod Turns
