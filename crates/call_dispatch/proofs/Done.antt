@@ -1,22 +1,19 @@
 -- The acts of any event, performed, take the view that the memory shows to the rules' next view: what they name is there, and each finds what it
 -- needs. So a call that does its verdict leaves an accepted memory that shows the next view.
 use mathlib.Core.Bool.{Bool, true, false, cond, false≢true}
-use mathlib.Core.List.{List, [], _∷_, _++_, map}
-use mathlib.Core.Logic.{_≢_}
+use mathlib.Core.List.{List, [], _∷_}
 use mathlib.Core.Path.{_≡_, refl, sym, ap, _∙_, subst}
-use Prim.Native.Nat.{ℕ, zero, suc, _+_, _≤_, _<_}
-use native.Mathlib.Omega.{arith}
+use Prim.Native.Nat.{ℕ}
 use lib.Dec.{eqb}
 use lib.IntN.{ℤ}
-use lib.ListN.{length, getD}
-use borrow.Author.Tests.{eqb-false}
+use lib.ListN.{length}
 use Rattle.rules.specs.Ids.{In}
 use Rattle.rules.specs.Codes.{OK, negative, refuses}
 use Rattle.rules.specs.State.{Kind, semaphore, flag, mailbox, pool, Body, task, nobody, objects, waitOf, isReady, wish}
-use Rattle.rules.specs.Places.{readyAt, waiters, mail, freeIn, many, population, belongs, lineAt}
-use Rattle.rules.specs.Events.{Event, tick, enter, exit, call, Words, nat, outside, above}
-use Rattle.rules.specs.Acts.{Act, rotate, release, after}
-use Rattle.rules.specs.View.{View, line, best}
+use Rattle.rules.specs.Places.{waiters, mail, freeIn, many, population}
+use Rattle.rules.specs.Events.{Event, tick, enter, exit, call, Words, nat, outside}
+use Rattle.rules.specs.Acts.{Act, release, after}
+use Rattle.rules.specs.View.{View, line}
 use Rattle.rules.specs.Verdicts.{Verdict}
 use Rattle.rules.specs.Tasks.{starting, sta-tsk, ext-tsk, ter-tsk, chg-pri, rot-rdq, rel-wai, sus-tsk, rsm-tsk, take-wakeup, slp-tsk, wai-tsk, waking, wup-tsk, can-wup, get-tid, tsk-sts, cre-tsk, del-tsk, exd-tsk}
 use Rattle.rules.specs.Objects.{to-first, obj-sts, sig-sem, take-sem, met, left, serve-flag, set-flg, clr-flg, take-flg, snd-msg, take-msg, take-blk, rel-blk}
@@ -29,26 +26,21 @@ use Rattle.rules.specs.Sound.{Known, Sound}
 use Rattle.rules.specs.Kernel.{next}
 use Rattle.rules.proofs.Ids.{length-put, tested}
 use Rattle.rules.proofs.Fits.{in-range}
-use Rattle.rules.proofs.Queues.{first-belongs, nonempty-at}
+use Rattle.rules.proofs.Queues.{first-belongs}
 use Rattle.rules.proofs.Calls.{Steps, steps-of-judge}
-use Rattle.rules.proofs.Waits.{in-by, both-true, neither}
+use Rattle.rules.proofs.Waits.{in-by, neither}
 use Rattle.rules.proofs.Handling.{caller-ready}
 use Rattle.rules.proofs.Judge.{_⊗_, AllRows, OnActs, on-acts, acts-check, acts-choose, acts-first, acts-count, acts-wait, acts-call}
 use Rattle.rules.proofs.Clean.{refused, given, waited, CleanEvent, clean-verdict, nests, judge-clean}
 use Rattle.memory_picture.specs.Picture.{viewShown, Accepted}
 use Rattle.call_words.specs.declared.Outcome.{Outcome}
 use Rattle.call_words.specs.Doing.{performs, performsMarks, Does}
-use Rattle.call_words.proofs.Performing.{Names, AllNames, shown-body, performs-law}
+use Rattle.call_words.proofs.Performing.{AllNames, shown-body, performs-law}
 use Rattle.call_words.proofs.TickActs.{tick-names}
-use Rattle.call_dispatch.proofs.Arms.{upto}
 
 -- ---- who stands first in a queue is there
 
 module _ (v : View) (h : Sound v) where
-  first-ready : (p x : ℕ) (m : List ℕ) → In p (v .body .store .priorities) → line v (readyAt p) ≡ x ∷ m → Names (v .body) (rotate x)
-  unfolding belongs population
-  first-ready p x m r e = let k = first-belongs v h (readyAt p) r x m e in (in-range (v .body) (readyAt p) x k, both-true _ _ k .0)
-
   first-waits : (k : Kind) (o x : ℕ) (m : List ℕ) → In o (objects (v .body .store) k) → line v (waiters k o) ≡ x ∷ m → In x (length (v .body .tasks))
   unfolding population
   first-waits k o x m r e = in-range (v .body) (waiters k o) x (first-belongs v h (waiters k o) r x m e)
@@ -57,27 +49,13 @@ module _ (v : View) (h : Sound v) where
   unfolding population
   first-lies o x m r e = in-range (v .body) (mail o) x (first-belongs v h (mail o) r x m e)
 
-  best-ready : (x : ℕ) (m : List ℕ) → best v ≡ x ∷ m → Names (v .body) (rotate x)
-  unfolding lineAt
-  best-ready x m e =
-      let r = nonempty-at (v .lines .ready) x m e in
-      let k : In (suc (r .0)) (v .body .store .priorities) = (omega arith, subst (λ (n : ℕ). suc (r .0) ≤ n) (h .shape .ready) (r .1)) in
-      first-ready (suc (r .0)) x m k (r .2)
-
   -- the caller of a call that only a task may make
   caller-there : (t : Bool) → eqb (caller v t) 0 ≡ false → In (caller v t) (length (v .body .tasks))
   caller-there t z = tested (λ x. isReady (x .state)) (v .body .tasks) (caller v t) nobody refl (caller-ready v t z h)
 
-  rot-named : (a : ℤ) → above a (v .body .store .priorities) ≡ false → OnActs (AllNames (v .body)) (rot-rdq v a)
+  rot-named : (a : ℤ) → OnActs (AllNames (v .body)) (rot-rdq v a)
   unfolding rot-rdq
-  rot-named a e = acts-first (λ e. on-acts tt) (λ x m d. on-acts (go (eqb (nat a) 0) refl x m d, tt))
-    where
-      go : (t : Bool) → eqb (nat a) 0 ≡ t → (x : ℕ) (m : List ℕ) → cond t (best v) (line v (readyAt (nat a))) ≡ x ∷ m → Names (v .body) (rotate x)
-      go true z x m d = best-ready x m d
-      go false z x m d = first-ready (nat a) x m (above-zero (eqb-false (nat a) 0 z), upto a _ e) d
-        where
-          above-zero : nat a ≢ 0 → 1 ≤ nat a
-          above-zero k = omega arith
+  rot-named a = acts-first (λ e. on-acts tt) (λ x m e. on-acts (tt, tt))
 
 -- ---- the walk of set_flg
 
@@ -180,7 +158,7 @@ module _ (v : View) (h : Sound v) (x : Bool) (a p c : ℤ) where
       ⊗ (λ t. on-acts (mine (t .context), tt))
       ⊗ (λ t. on-acts (whom (t .words .0), tt))
       ⊗ (λ t. on-acts (whom (t .words .0), tt))
-      ⊗ (λ t. rot-named v h a (t .words .0))
+      ⊗ (λ t. rot-named v h a)
       ⊗ (λ t. acts-check _ tt (λ k. on-acts (whom (t .words .0), tt)))
       ⊗ (λ t. acts-check _ tt (λ k. on-acts (whom (t .words .0), tt)))
       ⊗ (λ t. acts-check _ tt (λ k. on-acts (whom (t .words .0), tt)))

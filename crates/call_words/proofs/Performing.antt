@@ -1,6 +1,6 @@
 -- Acts performed one after the other on an accepted memory: it stays accepted, and shows what the acts make of the view. `Pre` says what keeps
 -- a state sound, and is silent on whether what an act names is there: `Names` adds that.
-use mathlib.Core.Bool.{true, false}
+use mathlib.Core.Bool.{false}
 use mathlib.Core.List.{List, [], _∷_, _++_}
 use mathlib.Core.Logic.{inl, inr}
 use mathlib.Core.Option.{none}
@@ -10,12 +10,13 @@ use native.Mathlib.Omega.{arith}
 use lib.ListN.{length}
 use Rattle.rules.specs.Ids.{of, In}
 use Rattle.rules.specs.Codes.{Code}
-use Rattle.rules.specs.State.{alarmOf, Body, task, isReady}
+use Rattle.rules.specs.State.{alarmOf, Body, nobody, isReady}
 use Rattle.rules.specs.Acts.{Act, start, retire, create, delete, rotate, regrade, wait, release, suspend, resume, wakeups, count, pattern, post, receive, mark, elapse, nest, alarm, after, afters}
 use Rattle.rules.specs.Releases.{releases}
 use Rattle.rules.specs.View.{View, act, acts}
 use Rattle.rules.specs.Objects.{laid}
 use Rattle.rules.specs.Sound.{CellNumbers, Sound}
+use Rattle.rules.proofs.Ids.{tested}
 use Rattle.rules.proofs.Keeps.{Pre}
 use Rattle.rules.proofs.Queues.{sound-act, body-act}
 use Rattle.rules.proofs.Cells.{body-acts}
@@ -34,7 +35,7 @@ Names b (start i) = In i (length (b .tasks))
 Names b (retire i) = In i (length (b .tasks))
 Names b (create i p) = In i (length (b .tasks))
 Names b (delete i) = In i (length (b .tasks))
-Names b (rotate i) = In i (length (b .tasks)) × (isReady (task b i .state) ≡ true)
+Names b (rotate i) = Unit {0}
 Names b (regrade i p) = In i (length (b .tasks))
 Names b (wait i w) = In i (length (b .tasks))
 Names b (release i c w) = In i (length (b .tasks))
@@ -65,7 +66,7 @@ pre-fits b (start i) p n = (n, p n)
 pre-fits b (retire i) p n = n
 pre-fits b (create i k) p n = n
 pre-fits b (delete i) p n = n
-pre-fits b (rotate i) p n = n
+pre-fits b (rotate i) p n = (tested (λ t. isReady (t .state)) (b .tasks) i nobody refl p, p)
 pre-fits b (regrade i k) p n = (n, p .0)
 pre-fits b (wait i w) p n = (n, p .1 n .0)
 pre-fits b (release i c w) p n = (n, cell-kept c w p)

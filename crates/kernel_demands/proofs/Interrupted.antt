@@ -10,11 +10,12 @@ use Rattle.rules.specs.Events.{enter}
 use Rattle.rules.specs.View.{View, head, running}
 use Rattle.rules.specs.Sound.{Sound}
 use Rattle.rules.specs.Kernel.{Outcome, event}
+use Rattle.rules.specs.Turns.{Whether}
 use Rattle.rules.proofs.Interrupted.{Interrupts, interrupts-on, head-reported, under, quietly, head-runs, enters}
 use Rattle.memory_picture.specs.Picture.{viewShown, Accepted}
 use Rattle.kernel_start.proofs.Fresh.{Holds}
 use Rattle.kernel_events.specs.Steps.{Reply, reply, told, Link, Chain}
-use Rattle.kernel_demands.specs.Demands.{openIn, Whether, UntilReturn, InterruptedOnCode}
+use Rattle.kernel_demands.specs.Demands.{openIn, UntilReturn, InterruptedOnCode}
 use Rattle.kernel_demands.proofs.Chains.{step-holds, step-says}
 
 open-is : {b m : List ℕ} {v : View} → Holds b m v → openIn b m ≡ isOpen (v .body .handlers)

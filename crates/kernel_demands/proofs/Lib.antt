@@ -2,6 +2,7 @@
 pub mod Chains
 pub mod Demands
 pub mod Interrupted
+pub mod Turns
 pub mod Clocks
 pub mod Sheets
 pub mod Uses

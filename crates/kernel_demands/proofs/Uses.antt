@@ -20,11 +20,12 @@ use Rattle.kernel_demands.specs.Uses.{Kept, Demanded, RunDemanded, Turn,
 use Rattle.kernel_demands.proofs.Chains.{start-holds}
 use Rattle.kernel_demands.proofs.Demands.{demand3-on-code, chain-broken, chain-only-rel-wai, chain-block-once, chain-worn-evenly}
 use Rattle.kernel_demands.proofs.Interrupted.{chain-interrupted}
+use Rattle.kernel_demands.proofs.Turns.{chain-in-turn}
 
 -- ---- a chain
 
 chain-kept : (b m : List ℕ) → Accepted b m → (l : List Link) → Chain b m l → Kept b m l
-chain-kept b m A l C = record { broken = chain-broken b m A l C; only = chain-only-rel-wai b m A l C; blocks = chain-block-once b m A l C; wear = chain-worn-evenly b m A l C; interrupted = chain-interrupted b m A l C }
+chain-kept b m A l C = record { broken = chain-broken b m A l C; only = chain-only-rel-wai b m A l C; blocks = chain-block-once b m A l C; wear = chain-worn-evenly b m A l C; interrupted = chain-interrupted b m A l C; turns = chain-in-turn b m A l C }
 
 chain-demanded : (s : List ℕ) (u : Setup) (i : ℕ) → setup s ≡ got u i → (words marks b m : List ℕ) → Starts s Fresh words marks b m → (l : List Link) → Chain b m l → Demanded u b m l
 chain-demanded s u i e words marks b m S l C = record {

@@ -1,5 +1,5 @@
 -- What the customer demands of runs, said of the code: of every chain of steps.
-use mathlib.Core.Bool.{Bool, true, false, not}
+use mathlib.Core.Bool.{Bool, false, not}
 use mathlib.Core.List.{List, [], _∷_, map}
 use mathlib.Core.Logic.{_≢_}
 use mathlib.Core.Path.{_≡_}
@@ -17,6 +17,7 @@ use Rattle.rules.specs.Blocks.{isFree, Happened, granted, gaveBack, AllAccounte
 use Rattle.rules.specs.Wear.{WornEvenly}
 use Rattle.rules.specs.Demand3.{Agree}
 use Rattle.rules.specs.Broken.{broken, isFresh, Unless, OnlyRelWai}
+use Rattle.rules.specs.Turns.{Whether}
 use Rattle.rules_examples.specs.BenchSheet.{Case, Sheet}
 use Rattle.memory_columns.specs.Layout as Layout
 use Rattle.memory_columns.specs.Layout.{put}
@@ -113,11 +114,6 @@ OnlyRelWaiOnCode b m (k ∷ l) =
 -- a handler is open
 abbrev pub openIn : List ℕ → List ℕ → Bool
 openIn b m = isOpen (viewShown b m .body .handlers)
-
--- one or the other, by a test
-abbrev pub Whether : Bool → Type 0 → Type 0 → Type 0
-Whether true A B = A
-Whether false A B = B
 
 -- As long as a handler is open each reply names task r as running, whatever the events are; the first that leaves none open names the head of the
 -- best queue.

@@ -14,17 +14,19 @@ use Rattle.kernel_batches.specs.declared.Batch.{Batch}
 use Rattle.kernel_batches.specs.declared.Batch.the-variants as Batch
 use Rattle.kernel_batches.specs.Batches.{Lent, lent, RanThrough, fitted, BatchedAs, Batched}
 use Rattle.kernel_demands.specs.Demands.{Demand3OnCode, BrokenOnCode, OnlyRelWaiOnCode, BlocksOnce, WornEvenlyOnCode, InterruptedOnCode}
+use Rattle.kernel_demands.specs.Turns.{InTurnOnCode}
 
 -- ---- what is demanded of a chain
 
 -- from any accepted memory: a broken wait stays broken, only rel_wai breaks one off, a block is given to one at a time, blocks wear
--- evenly, handlers do not switch tasks halfway
+-- evenly, handlers do not switch tasks halfway, waiters are served in turn
 pub record Kept (b m : List ℕ) (l : List Link) : Type 0 where
   pub broken : BrokenOnCode l
   pub only : OnlyRelWaiOnCode b m l
   pub blocks : BlocksOnce b m l
   pub wear : WornEvenlyOnCode b m l
   pub interrupted : InterruptedOnCode b m l
+  pub turns : InTurnOnCode b m l
 
 -- from the memory that a start on setup u left: it is the plain kernel's too, link by link
 pub record Demanded (u : Setup) (b m : List ℕ) (l : List Link) : Type 0 where
