@@ -24,7 +24,7 @@
 
 #define WORD(n) (uint8_t)(n), 0, 0, 0
 
-enum { PART = 7, TASKS = 3, STATES_AND_CODES = OKROZUMBA_TASKS * OKROZUMBA_STATES };
+enum { PART = 7, TASKS = 3, FIRST_CODE = OKROZUMBA_TASKS * OKROZUMBA_STATES };
 
 /* The setup of the bench sheet, then two events of the running task: sta_tsk(3) and slp_tsk. */
 static const uint8_t run[] = {
@@ -57,8 +57,12 @@ static okrozumba_record count(const char *what, size_t many) {
     uint8_t line[OKROZUMBA_LINE];
     okrozumba_begin(recorder.numbers);
     for (size_t given = 0; given < many; given += PART) {
-        okrozumba_count(recorder.numbers, recorder.held, state.words, state.messages, figures.table, figures.codes, run + given,
-                        smaller(PART, many - given));
+        okrozumba_counted said = okrozumba_count(recorder.numbers, recorder.held, state.words, state.messages, figures.table, figures.codes,
+                                                 run + given, smaller(PART, many - given));
+        if (said.number != OKROZUMBA_TAKEN) {
+            printf("%s: refused %" PRIu32 " at %zu\n", what, said.number, said.place);
+            return okrozumba_record_of(figures.table, figures.codes);
+        }
     }
     okrozumba_parted end = okrozumba_end(recorder.numbers, recorder.held, line, sizeof line);
     printf("%s: the end: %" PRIu32, what, end.number);
@@ -81,8 +85,8 @@ int main(void) {
         printf("\n");
     }
     for (int k = 0; k < OKROZUMBA_CODES; k++) {
-        if (out[STATES_AND_CODES + k] != 0) {
-            printf("code %" PRId32 ": %" PRIu32 "\n", codes[k], out[STATES_AND_CODES + k]);
+        if (out[FIRST_CODE + k] != 0) {
+            printf("code %" PRId32 ": %" PRIu32 "\n", codes[k], out[FIRST_CODE + k]);
         }
     }
     printf("65 records: T%" PRIu32 "\n", okrozumba_month(records, OKROZUMBA_RECORDS + 1, out, OKROZUMBA_COUNTS));
@@ -90,6 +94,6 @@ int main(void) {
     records[2].counts[0] = UINT32_MAX;
     records[3].counts[0] = 1;
     printf("a total of 2^32: T%" PRIu32, okrozumba_month(records, 4, out, OKROZUMBA_COUNTS));
-    printf(", and the output has its code 0: %" PRIu32 "\n", out[STATES_AND_CODES]);
+    printf(", and the output has its code 0: %" PRIu32 "\n", out[FIRST_CODE]);
     return 0;
 }

@@ -1,7 +1,7 @@
 //! Figures of recorded runs: after how many events each task was in each state, and how often each code came back; and the totals of a month.
 //!
 //! A run may come in parts of any size, and its figures are the same. Of one that is refused on its way the whole events before count. Tasks
-//! beyond the setup's count nowhere.
+//! beyond the setup's number are not counted.
 //!
 //! ```
 //! use okrozumba::figures::{month, Counter, NoReport, COUNTS};

@@ -1,4 +1,5 @@
-// Counts the recorded run on standard input, and writes one line: its 253 numbers, then its number of events and of tasks, with single spaces.
+// Counts the recorded run on standard input, and writes one line: its 253 numbers, then its number of events and of tasks, with single spaces. An input
+// that cannot be read is named on standard error, and nothing is written.
 use libc::STDIN_FILENO;
 use libc::STDOUT_FILENO;
 use run_files::count_file;
@@ -17,6 +18,10 @@ fn write_record(r: Record) {
 
 fn main() {
     let run = count_file(STDIN_FILENO);
+    if !run.is_read {
+        os::fail(b"standard input");
+        return;
+    }
     let record = run.record;
     write_record(record);
     io::print_decimal(STDOUT_FILENO, run.events);
