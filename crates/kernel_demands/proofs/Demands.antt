@@ -9,7 +9,7 @@ use lib.Dec.{eqb, lit≤}
 use lib.IntN.{ℤ, pos, negsuc}
 use lib.ListN.{length}
 use Rattle.rules.specs.Ids.{of, In, once}
-use Rattle.rules.specs.Codes.{E-RLWAI, number, inDamage, tellsDamage}
+use Rattle.rules.specs.Codes.{E-RLWAI, number, own-number, inDamage, tellsDamage}
 use Rattle.rules.specs.Breach.{breach}
 use Rattle.rules.specs.State.{Body, task}
 use Rattle.rules.specs.Setup.{got, setup, Setup}
@@ -28,7 +28,6 @@ use Rattle.rules.proofs.Blocks.{event-balance}
 use Rattle.rules.proofs.Wear.{worn-evenly}
 use Rattle.rules.proofs.Demand3.{demand3}
 use Rattle.rules.proofs.Broken.{stays-broken}
-use Rattle.rules.proofs.Codes.{own-number}
 use Rattle.rules.proofs.OnlyBroken.{only-rel-wai, never-answered}
 use Rattle.memory_picture.specs.Picture.{viewShown, Accepted}
 use Rattle.kernel_start.specs.Starting.{Starts}

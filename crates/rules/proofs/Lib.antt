@@ -1,5 +1,4 @@
 -- The theorems about the rules, in the order in which to read them.
-pub mod Codes
 pub mod Ids
 pub mod Sizes
 pub mod States

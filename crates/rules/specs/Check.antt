@@ -106,7 +106,7 @@ store? u =
     (both? (every? (length (u .pools)) (λ p. in? (length (of (u .pools) p [])) 32)) (decLt (u .clock) (2 ^ 48)))))
 
 unfoldable pub cell? : (c : Cell) → Dec (CellNumbers c)
-unfolding both? either? decLt ℕ-discrete
+unfolding Code-discrete both? either? decLt ℕ-discrete
 cell? c = either? (both? (Code-discrete (c .code) OK) (decLt (c .word) (2 ^ 32))) (both? (either? (Code-discrete (c .code) E-TMOUT) (Code-discrete (c .code) E-RLWAI)) (ℕ-discrete (c .word) 0))
 
 unfoldable pub wish? : (k : Kind) (p m : ℕ) → Dec (WishNumbers k p m)
@@ -124,7 +124,7 @@ wait? u (some (timed t)) = in? t 2147483647
 wait? u (some (on k o p m)) = both? (in? o (objects u k)) (wish? k p m)
 
 unfoldable pub vacant? : (t : Task) → Dec (Vacant t)
-unfolding convert both? ℕ-discrete
+unfolding Code-discrete convert both? ℕ-discrete
 vacant? t =
     convert (λ x. (x .0 .0, x .0 .1, x .1 .0, x .1 .1 .0, x .1 .1 .1)) (λ x. ((x .0, x .1), (x .2, (x .3, x .4))))
     (both? (both? (ℕ-discrete (t .priority) 0) (ℕ-discrete (t .start) 0)) (both? (ℕ-discrete (t .wakeups) 0) (both? (Code-discrete (t .cell .code) OK) (ℕ-discrete (t .cell .word) 0))))
@@ -147,7 +147,7 @@ handlers? l no-handler = yes tt
 handlers? l (in-handler n i) = both? (decLe (suc n) 15) (either? (ℕ-discrete i 0) (Bool-discrete _ true))
 
 unfoldable pub kept? : (t : Bool) (c : Code) → Dec (KeptFits t c)
-unfolding either?
+unfolding Code-discrete either?
 kept? false c = either? (Code-discrete c OK) (either? (Code-discrete c E-NOEXS) (Code-discrete c H-NODMT))
 kept? true c = either? (Code-discrete c OK) (either? (Code-discrete c E-NOEXS) (either? (Code-discrete c E-DMT) (Code-discrete c E-QOVR)))
 

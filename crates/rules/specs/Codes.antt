@@ -1,12 +1,14 @@
 -- The codes: their names, and the number of each.
-use mathlib.Core.Bool.{Bool, true, false, _&&_}
-use Prim.Native.Nat.{ℕ}
-use lib.Dec.{leb}
+use mathlib.Core.Bool.{Bool, true, false, cond, _&&_}
+use mathlib.Core.List.{List, [], _∷_}
+use mathlib.Core.Path.{_≡_, refl, sym, ap, _∙_}
+use Prim.Native.Nat.{ℕ, zero, suc}
+use native.Mathlib.Decide.{ℕ-discrete}
+use lib.Dec.{eqb, leb}
 use lib.IntN.{ℤ, pos, negsuc, negℤ}
 
 pub data Code : Type 0 where
   OK WAITS H-NUMBER H-QUEUE H-SERVED H-TWICE H-FREE H-CALL H-PAR E-NOEXS E-TPRI E-ILTIME E-CTX E-SELF E-DMT H-NODMT H-SUS E-NOSUS E-NOWAI E-QOVR H-POLL H-MSG H-NEST H-EXIST H-ILBLK H-USED H-IDLE E-TMOUT E-RLWAI : Code
-  deriving Discrete as Code-discrete
 
 abbrev pub minus : ℕ → ℤ
 minus n = negℤ (pos n)
@@ -60,3 +62,70 @@ inDamage (negsuc n) = leb 19 n && leb n 23
 unfoldable pub tellsDamage : Code → Bool
 unfolding number
 tellsDamage c = inDamage (number c)
+
+-- ---- each code has a number of its own: a code is read back from its number, and so equality of codes is decided
+
+-- the refusals, each beside one less than its number without the sign
+abbrev refusals : List (ℕ × Code)
+refusals =
+    (19, H-NUMBER) ∷ (20, H-QUEUE) ∷ (21, H-SERVED) ∷ (22, H-TWICE) ∷ (23, H-FREE) ∷ (0, H-CALL) ∷ (1, H-PAR) ∷ (2099, E-NOEXS) ∷ (1829, E-TPRI) ∷ (1830, E-ILTIME) ∷ (2628, E-CTX) ∷ (2096, E-SELF) ∷ (2100, E-DMT) ∷ (2, H-NODMT) ∷ (3, H-SUS) ∷ (2103, E-NOSUS) ∷ (2109, E-NOWAI) ∷ (2888, E-QOVR) ∷ (4, H-POLL) ∷ (5, H-MSG) ∷ (6, H-NEST) ∷ (7, H-EXIST) ∷ (9, H-ILBLK) ∷ (10, H-USED) ∷ (11, H-IDLE) ∷ (3412, E-TMOUT) ∷ (3413, E-RLWAI) ∷ []
+
+abbrev found : ℕ → List (ℕ × Code) → Code
+found n [] = WAITS
+found n ((k, c) ∷ l) = cond (eqb n k) c (found n l)
+
+-- 0 and 1 are themselves, and -(n + 1) is n + 2
+abbrev counted : ℤ → ℕ
+counted (pos n) = n
+counted (negsuc n) = suc (suc n)
+
+abbrev named : ℕ → Code
+named zero = OK
+named (suc zero) = WAITS
+named (suc (suc n)) = found n refusals
+
+read-back : (c : Code) → named (counted (number c)) ≡ c
+unfolding number
+read-back OK = refl
+read-back WAITS = refl
+read-back H-NUMBER = refl
+read-back H-QUEUE = refl
+read-back H-SERVED = refl
+read-back H-TWICE = refl
+read-back H-FREE = refl
+read-back H-CALL = refl
+read-back H-PAR = refl
+read-back E-NOEXS = refl
+read-back E-TPRI = refl
+read-back E-ILTIME = refl
+read-back E-CTX = refl
+read-back E-SELF = refl
+read-back E-DMT = refl
+read-back H-NODMT = refl
+read-back H-SUS = refl
+read-back E-NOSUS = refl
+read-back E-NOWAI = refl
+read-back E-QOVR = refl
+read-back H-POLL = refl
+read-back H-MSG = refl
+read-back H-NEST = refl
+read-back H-EXIST = refl
+read-back H-ILBLK = refl
+read-back H-USED = refl
+read-back H-IDLE = refl
+read-back E-TMOUT = refl
+read-back E-RLWAI = refl
+
+pub own-count : (c d : Code) → counted (number c) ≡ counted (number d) → c ≡ d
+own-count c d e = sym (read-back c) ∙ ap named e ∙ read-back d
+
+pub own-number : (c d : Code) → number c ≡ number d → c ≡ d
+own-number c d e = own-count c d (ap counted e)
+
+unfoldable pub by-count : (c d : Code) → Dec (counted (number c) ≡ counted (number d)) → Dec (c ≡ d)
+by-count c d (yes e) = yes (own-count c d e)
+by-count c d (no h) = no (λ e. h (ap (λ b. counted (number b)) e))
+
+unfoldable pub Code-discrete : (c d : Code) → Dec (c ≡ d)
+unfolding number by-count ℕ-discrete
+Code-discrete c d = by-count c d (ℕ-discrete (counted (number c)) (counted (number d)))

@@ -1,5 +1,2 @@
--- The worked cases hold.
+-- The bench sheet holds.
 pub mod BenchSheet
-pub mod Examples
-pub mod Alarms
-pub mod Turns

@@ -2,7 +2,7 @@
 use mathlib.Core.List.{List, [], _∷_, _++_}
 use Prim.Native.Nat.{ℕ}
 use Rattle.rules_examples.specs.BenchSheet.{benchBytes}
-use Rattle.rules_examples.specs.Examples.{bytes}
+use Rattle.rules_examples.specs.Bytes.{bytes}
 use Rattle.run_text.specs.Ascii.{ascii}
 
 pub record Example : Type 0 where

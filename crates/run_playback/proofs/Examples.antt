@@ -4,7 +4,7 @@ use mathlib.Core.Path.{_≡_, refl}
 use Prim.Native.Nat.{ℕ}
 use Rattle.rules.specs.Setup.{and-then, readWord, readEntry, readEntries, readSection, readSections, readWith, readSetup}
 use Rattle.rules_examples.specs.BenchSheet.{benchBytes}
-use Rattle.rules_examples.specs.Examples.{bytes}
+use Rattle.rules_examples.specs.Bytes.{bytes}
 use Rattle.run_reading.specs.Recorded.{mostEvents, readHead}
 use Rattle.run_reading.specs.Recorder.{begun, stopped, ended, onEnd, eat, items, after, atEnd, itemsIn, afterAll}
 use Rattle.run_text.specs.Ascii.{ascii}

@@ -4,7 +4,7 @@ use Prim.Native.Nat.{ℕ, _-_, _^_}
 use lib.ListN.{replicate}
 use Rattle.rules.specs.Writing.{joined}
 use Rattle.rules_examples.specs.BenchSheet.{benchBytes}
-use Rattle.rules_examples.specs.Examples.{bytes}
+use Rattle.rules_examples.specs.Bytes.{bytes}
 use Rattle.run_text.specs.Ascii.{ascii}
 
 pub record Example : Type 0 where

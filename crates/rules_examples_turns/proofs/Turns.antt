@@ -3,8 +3,8 @@ use mathlib.Core.List.{[], _∷_}
 use mathlib.Core.Path.{_≡_, refl}
 use lib.IntN.{pos}
 use Rattle.rules.specs.Setup.{got}
-use Rattle.rules_examples.specs.BenchSheet.{handlerCall, sig-sem, ran, plainRan, expected, Holds}
-use Rattle.rules_examples.specs.Turns.{turnExamples, signal, waits, turns, counted}
+use Rattle.rules_examples.specs.BenchSheet.{handlerCall, expected, ran, plainRan, Holds, sig-sem}
+use Rattle.rules_examples_turns.specs.Turns.{turnExamples, signal, waits, turns, counted}
 
 pub turn-examples-hold : Holds turnExamples
 unfolding ran plainRan expected

@@ -11,8 +11,8 @@ use Rattle.rules.specs.View.{View}
 use Rattle.rules.specs.Kernel.{fresh}
 use Rattle.rules.specs.Runs.{answers, states}
 use Rattle.rules.specs.Turns.{waitsAt, ahead, gifts}
-use Rattle.rules_examples.specs.BenchSheet.{taskCall, step, chg-pri, rot-rdq, rel-wai, sus-tsk, sig-sem, wai-sem, snd-msg, rcv-msg, get-blk, rel-blk, tsk-sts, sem-sts, X, I, case, Line, Sheet}
-use Rattle.rules_examples.specs.Examples.{exampleBytes}
+use Rattle.rules_examples.specs.Bytes.{exampleBytes}
+use Rattle.rules_examples.specs.BenchSheet.{taskCall, X, I, Line, step, case, Sheet, chg-pri, rot-rdq, rel-wai, sus-tsk, sig-sem, wai-sem, snd-msg, rcv-msg, get-blk, rel-blk, tsk-sts, sem-sts}
 
 -- tasks 1 and 2 come to wait on semaphore 1, one behind the other; task 5 runs
 abbrev inLine : List Line → List Line

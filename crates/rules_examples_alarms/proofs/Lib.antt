@@ -1,0 +1,2 @@
+-- The worked examples hold.
+pub mod Alarms

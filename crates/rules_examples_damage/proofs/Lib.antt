@@ -1,0 +1,3 @@
+-- The worked examples hold.
+pub mod Damages
+pub mod Counters

@@ -1,0 +1,3 @@
+-- Worked examples, in the order in which to read them.
+pub mod Damages
+pub mod Counters

@@ -1,0 +1,2 @@
+-- Worked examples, in the order in which to read them.
+pub mod Handlers
