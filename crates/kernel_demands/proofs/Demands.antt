@@ -19,16 +19,16 @@ use Rattle.rules.specs.Answers.{Answer}
 use Rattle.rules.specs.Kernel.{Outcome, next, served, event}
 use Rattle.rules.specs.Plain.{Plain, viewOf, plainFresh, plainNext, plainAnswer}
 use Rattle.rules.specs.Blocks.{isFree, Happened, granted, gaveBack, AllAccounted}
-use Rattle.rules.specs.Wear.{happening, history, WornEvenly}
-use Rattle.rules.specs.Demand3.{Agree, Alike, happened, Demand3}
+use Rattle.rules_runs.specs.Wear.{happening, history, WornEvenly}
+use Rattle.rules_runs.specs.Demand3.{Agree, Alike, happened, Demand3}
 use Rattle.rules.specs.Broken.{isFresh, Unless, StaysBroken}
 use Rattle.rules.proofs.Breach.{breach-tells}
 use Rattle.rules.proofs.Events.{event-served, event-next}
 use Rattle.rules.proofs.Blocks.{event-balance}
-use Rattle.rules.proofs.Wear.{worn-evenly}
-use Rattle.rules.proofs.Demand3.{demand3}
+use Rattle.rules_runs.proofs.Wear.{worn-evenly}
+use Rattle.rules_runs.proofs.Demand3.{demand3}
 use Rattle.rules.proofs.Broken.{stays-broken}
-use Rattle.rules.proofs.OnlyBroken.{only-rel-wai, never-answered}
+use Rattle.rules_runs.proofs.OnlyBroken.{only-rel-wai, never-answered}
 use Rattle.memory_picture.specs.Picture.{viewShown, Accepted}
 use Rattle.kernel_start.specs.Starting.{Starts}
 use Rattle.kernel_start.specs.declared.Started.{Started}

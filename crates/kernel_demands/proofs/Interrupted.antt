@@ -10,7 +10,7 @@ use Rattle.rules.specs.Events.{enter}
 use Rattle.rules.specs.View.{View, head, running}
 use Rattle.rules.specs.Sound.{Sound}
 use Rattle.rules.specs.Kernel.{Outcome, event}
-use Rattle.rules.specs.Turns.{Whether}
+use Rattle.rules_turns.specs.Turns.{Whether}
 use Rattle.rules.proofs.Interrupted.{Interrupts, interrupts-on, head-reported, under, quietly, head-runs, enters}
 use Rattle.memory_picture.specs.Picture.{viewShown, Accepted}
 use Rattle.kernel_start.proofs.Fresh.{Holds}

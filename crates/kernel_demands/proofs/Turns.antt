@@ -9,8 +9,9 @@ use Rattle.rules.specs.Codes.{number}
 use Rattle.rules.specs.State.{Kind}
 use Rattle.rules.specs.View.{View}
 use Rattle.rules.specs.Kernel.{event}
-use Rattle.rules.specs.Turns.{waitsAt, ahead, gave, gifts, Whether, Leaves}
-use Rattle.rules.proofs.Turns.{in-turn}
+use Rattle.rules.specs.Ahead.{waitsAt, ahead}
+use Rattle.rules_turns.specs.Turns.{gave, gifts, Whether, Leaves}
+use Rattle.rules_turns.proofs.Turns.{in-turn}
 use Rattle.memory_picture.specs.Picture.{viewShown, Accepted}
 use Rattle.kernel_start.proofs.Fresh.{Holds}
 use Rattle.kernel_events.specs.Steps.{Reply, Link, Chain}

@@ -14,10 +14,10 @@ use Rattle.rules.specs.Answers.{readCell}
 use Rattle.rules.specs.View.{head, running}
 use Rattle.rules.specs.Plain.{Plain, viewOf, plainNext, plainAnswer}
 use Rattle.rules.specs.Blocks.{isFree, Happened, granted, gaveBack, AllAccounted}
-use Rattle.rules.specs.Wear.{WornEvenly}
-use Rattle.rules.specs.Demand3.{Agree}
+use Rattle.rules_runs.specs.Wear.{WornEvenly}
+use Rattle.rules_runs.specs.Demand3.{Agree}
 use Rattle.rules.specs.Broken.{broken, isFresh, Unless, OnlyRelWai}
-use Rattle.rules.specs.Turns.{Whether}
+use Rattle.rules_turns.specs.Turns.{Whether}
 use Rattle.rules_examples.specs.BenchSheet.{Case, Sheet}
 use Rattle.memory_columns.specs.Layout as Layout
 use Rattle.memory_columns.specs.Layout.{put}

@@ -7,7 +7,8 @@ use Prim.Native.Nat.{ℕ, suc, _+_, _≤_}
 use lib.IntN.{pos}
 use Rattle.rules.specs.Ids.{once}
 use Rattle.rules.specs.State.{Kind}
-use Rattle.rules.specs.Turns.{waitsAt, ahead, gave, servedCell, Whether}
+use Rattle.rules.specs.Ahead.{waitsAt, ahead}
+use Rattle.rules_turns.specs.Turns.{gave, servedCell, Whether}
 use Rattle.memory_picture.specs.Picture.{viewShown}
 use Rattle.kernel_events.specs.Steps.{Link}
 use Rattle.kernel_demands.specs.Demands.{CellIs}

@@ -17,7 +17,7 @@ use Rattle.rules.specs.View.{View}
 use Rattle.rules.specs.Sound.{Sizes, LiesWell, WaitNumbers, Known, Sound}
 use Rattle.rules.proofs.Ids.{inside}
 use Rattle.rules.proofs.Queues.{belongs-stands, stands-belongs}
-use Rattle.rules.proofs.Rising.{one-line}
+use Rattle.rules_runs.proofs.Rising.{one-line}
 use Rattle.rules.proofs.Waits.{both-true, sameKind-true}
 use Rattle.memory_rings.specs.Rings.{IsId, All, Out, Stands, Distinct, lineOf, Linked}
 use Rattle.memory_rings.proofs.Lists.{all-map, all-reverse, all-at}

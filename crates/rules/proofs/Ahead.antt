@@ -21,7 +21,7 @@ use Rattle.rules.specs.Verdicts.{Verdict}
 use Rattle.rules.specs.Table.{judge}
 use Rattle.rules.specs.Sound.{Queue, Sound}
 use Rattle.rules.specs.Kernel.{next}
-use Rattle.rules.specs.Turns.{waitsAt, before, ahead}
+use Rattle.rules.specs.Ahead.{waitsAt, before, ahead}
 use Rattle.rules.proofs.Ids.{put-either, times-keep}
 use Rattle.rules.proofs.States.{waits-by, older-same, released-move, halted-move}
 use Rattle.rules.proofs.Fits.{Fits, fits, population-after}

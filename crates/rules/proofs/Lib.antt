@@ -17,8 +17,6 @@ pub mod FlagWalk
 pub mod Accepted
 pub mod Spelled
 pub mod Setups
-pub mod Faults
-pub mod Recorded
 pub mod Events
 pub mod Looks
 pub mod Cells
@@ -29,15 +27,7 @@ pub mod Interrupted
 pub mod Absent
 pub mod Deleted
 pub mod Broken
-pub mod OnlyBroken
 pub mod Alarms
 pub mod Agree
-pub mod Rising
 pub mod Blocks
-pub mod Released
-pub mod Fresh
-pub mod Demand3
-pub mod Wear
 pub mod Ahead
-pub mod Turns
-pub mod Runs

@@ -3,7 +3,6 @@ pub mod Ids
 pub mod Codes
 pub mod Setup
 pub mod Writing
-pub mod Faults
 pub mod Events
 pub mod State
 pub mod Places
@@ -26,10 +25,7 @@ pub mod Kernel
 pub mod Interrupted
 pub mod Plain
 pub mod Runs
-pub mod Order
 pub mod Blocks
 pub mod Releases
-pub mod Demand3
-pub mod Wear
-pub mod Turns
+pub mod Ahead
 pub mod Broken

@@ -10,7 +10,8 @@ use Rattle.rules.specs.State.{semaphore}
 use Rattle.rules.specs.View.{View}
 use Rattle.rules.specs.Kernel.{fresh}
 use Rattle.rules.specs.Runs.{answers, states}
-use Rattle.rules.specs.Turns.{waitsAt, ahead, gifts}
+use Rattle.rules.specs.Ahead.{waitsAt, ahead}
+use Rattle.rules_turns.specs.Turns.{gifts}
 use Rattle.rules_examples.specs.Bytes.{exampleBytes}
 use Rattle.rules_examples.specs.BenchSheet.{taskCall, X, I, Line, step, case, Sheet, chg-pri, rot-rdq, rel-wai, sus-tsk, sig-sem, wai-sem, snd-msg, rcv-msg, get-blk, rel-blk, tsk-sts, sem-sts}
 

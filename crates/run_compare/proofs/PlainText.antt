@@ -14,8 +14,8 @@ use Rattle.rules.specs.Kernel.{event, fresh}
 use Rattle.rules.specs.Plain.{Plain, plainFresh, plainNext}
 use Rattle.rules.specs.Runs.{answers, plainAnswers}
 use Rattle.rules.specs.Blocks.{Happened}
-use Rattle.rules.specs.Demand3.{happened, Demand3}
-use Rattle.rules.proofs.Demand3.{demand3}
+use Rattle.rules_runs.specs.Demand3.{happened, Demand3}
+use Rattle.rules_runs.proofs.Demand3.{demand3}
 use Rattle.run_reading.specs.Recorded.{signedWord}
 use Rattle.run_playback.proofs.PlainText.{word-fits, event-fits}
 use Rattle.rules.specs.Setup.{wordAt}

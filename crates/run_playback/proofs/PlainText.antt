@@ -16,10 +16,10 @@ use Rattle.rules.specs.View.{View, running}
 use Rattle.rules.specs.Kernel.{event, fresh}
 use Rattle.rules.specs.Plain.{Plain, viewOf, plainFresh, plainNext, plainAnswer}
 use Rattle.rules.specs.Blocks.{Happened}
-use Rattle.rules.specs.Demand3.{happened, Demand3}
+use Rattle.rules_runs.specs.Demand3.{happened, Demand3}
 use Rattle.rules.proofs.Accepted.{from-read}
 use Rattle.rules.proofs.Agree.{fresh-shows}
-use Rattle.rules.proofs.Demand3.{demand3}
+use Rattle.rules_runs.proofs.Demand3.{demand3}
 use Rattle.run_reading.specs.Recorded.{Head, readHead, signedWord, eventBytes, eventIn, Item, begins, occurs, refuses, eventItems, itemsBehind, itemsOf}
 use Rattle.run_reading.proofs.Reach.{setup-prefix, Parts, head-parts}
 use Rattle.run_text.specs.Lines.{startLine, eventLine}

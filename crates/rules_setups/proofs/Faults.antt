@@ -11,15 +11,15 @@ use lib.Dec.{leb}
 use lib.ListN.{length, getD, take, length-append, length-map, length-replicate, replicate, List·getD-append}
 use lib.Seq.{getD-append-add, getD-take}
 use borrow.Author.Tests.{le-leb, lt-leb, leb-true, leb-false}
 use Rattle.rules.specs.Ids.{In, Each}
 use Rattle.rules.specs.Setup.{Fault, S1, S2, S3, S4, Read, got, refused, and-then, wordAt, Range, to, within, readWord, Section, priorities, sections, alarmRanges, counters, readEntry, readEntries, readSection, readSections, Setup, GoodSetup, entriesOf, setupOf, readWith, readSetup, perhaps, at-end, setup}
 use Rattle.rules.specs.Writing.{joined, taskWords, sevenSections, setupSections, setupWords, wordBytes, setupBytes, sevenBytes, Alone, Bytes}
-use Rattle.rules.specs.Faults.{sectionFaults, wordFaults, Begins, Needs, Outside, EndsAfterSeven, HasFault}
+use Rattle.rules_setups.specs.Faults.{sectionFaults, wordFaults, Begins, Needs, Outside, EndsAfterSeven, HasFault}
 use Rattle.rules.proofs.Waits.{both-true}
 use Rattle.rules.proofs.Judge.{_⊗_}
 use Rattle.rules.proofs.Accepted.{Reads, InRange, Fits, SectionFits, SectionsFit, good-sections}
 use Rattle.rules.proofs.Spelled.{Spells, word-got, entry-got, sectionWords, sectionsWords, section-got, Stands, wordAt-behind, word-bytes, length-written, written-spells, spells-written}
 use Rattle.rules.proofs.Setups.{sectionsOf, countersOf, sevenWords, seven-of, joined-append, eight-words, seven-words, sections-setup, counters-back, good-fits, counters-fit, seven-got, setup-got, priorities-known, six-known, seven-stand, narrow, narrow-seven, seven-back, accepted-written, accepted-exactly, each-replicate}
 
 module _ (s : List ℕ) where
   -- ---- the first k words stand in the bytes from an offset on

@@ -1,35 +1,22 @@
 -- Does the last in line ever get served? A task that waits on a semaphore, a mailbox or a pool with n tasks ahead of it has left that wait
 -- once n + 1 calls that give to the object were accepted, whatever else happened between them; if such a call let it go, its cell says so.
 -- That anybody gives is not said.
-use mathlib.Core.Bool.{Bool, true, false, cond, _&&_}
+use mathlib.Core.Bool.{Bool, true, false, _&&_}
 use mathlib.Core.List.{List, [], _∷_}
 use mathlib.Core.Path.{_≡_}
 use Prim.Native.Nat.{ℕ, suc, _+_, _≤_}
 use lib.Dec.{eqb}
 use lib.IntN.{ℤ, pos}
 use Rattle.rules.specs.Ids.{once}
 use Rattle.rules.specs.Codes.{OK, number}
 use Rattle.rules.specs.Setup.{got, setup, Setup}
 use Rattle.rules.specs.Events.{Event, tick, enter, exit, call, AllWords, nat}
-use Rattle.rules.specs.State.{Kind, semaphore, flag, mailbox, pool, Cell, task}
-use Rattle.rules.specs.Places.{waiters, awaits}
-use Rattle.rules.specs.View.{View, line}
+use Rattle.rules.specs.State.{Kind, semaphore, flag, mailbox, pool, Cell}
+use Rattle.rules.specs.View.{View}
 use Rattle.rules.specs.Kernel.{fresh, event, cell}
 use Rattle.rules.specs.Runs.{states}
 use Rattle.rules.specs.Blocks.{is}
-
--- task i waits on object o of kind k, suspended or not
-abbrev pub waitsAt : View → Kind → ℕ → ℕ → Bool
-waitsAt v k o i = awaits (task (v .body) i .state) k o
-
--- how many stand before i in a line
-abbrev pub before : ℕ → List ℕ → ℕ
-before i [] = 0
-before i (x ∷ l) = cond (eqb x i) 0 (suc (before i l))
-
--- in the object's queue
-abbrev pub ahead : View → Kind → ℕ → ℕ → ℕ
-ahead v k o i = before i (line v (waiters k o))
+use Rattle.rules.specs.Ahead.{waitsAt, ahead}
 
 -- The call that gives to an object: sig_sem, snd_msg, rel_blk. A flag has none: set_flg serves those whose condition the pattern meets, so a
 -- waiter for a bit that nobody sets is passed over, whatever its place.

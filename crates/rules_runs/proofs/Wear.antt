@@ -10,35 +10,35 @@ use native.Mathlib.Omega.{arith}
 use lib.Dec.{eqb}
 use lib.ListN.{length}
 use borrow.Author.Tests.{eqb-true, eq-eqb}
 use Rattle.rules.specs.Ids.{of, In, keep, once, times}
 use Rattle.rules.specs.Codes.{number}
 use Rattle.rules.specs.State.{pool}
 use Rattle.rules.specs.Setup.{got, setup, Setup}
 use Rattle.rules.specs.Places.{freeIn, aBlock, population, belongs}
 use Rattle.rules.specs.Events.{Event, Words, AllWords}
 use Rattle.rules.specs.Acts.{mark, move, after}
 use Rattle.rules.specs.View.{View, line, moved, acts}
 use Rattle.rules.specs.Verdicts.{Verdict}
 use Rattle.rules.specs.Table.{judge}
 use Rattle.rules.specs.Answers.{answer}
 use Rattle.rules.specs.Sound.{Sound}
 use Rattle.rules.specs.Kernel.{Outcome, fresh, next, served, event}
 use Rattle.rules.specs.Plain.{Plain, numberOf, viewOf, plainAnswer}
-use Rattle.rules.specs.Order.{Ordered}
-use Rattle.rules.specs.Demand3.{happened}
+use Rattle.rules_runs.specs.Order.{Ordered}
+use Rattle.rules_runs.specs.Demand3.{happened}
 use Rattle.rules.specs.Blocks.{isFree, Happened, taken, returned, granted, gaveBack, grants}
-use Rattle.rules.specs.Wear.{happening, history, NoneGranted, Turn, stays, returns-last, grants-first, ReturnedFree, FreeBlock, GrantedBefore, WornEvenly, LongestFree}
+use Rattle.rules_runs.specs.Wear.{happening, history, NoneGranted, Turn, stays, returns-last, grants-first, ReturnedFree, FreeBlock, GrantedBefore, WornEvenly, LongestFree}
 use Rattle.rules.proofs.Ids.{times-append, times-head, times-tail, keep-all, absent-leaves}
 use Rattle.rules.proofs.Sizes.{SameSizes, sizes-afters}
 use Rattle.rules.proofs.Waits.{both-true}
 use Rattle.rules.proofs.Lines.{line-act}
 use Rattle.rules.proofs.Queues.{stands-known, mark-there, stands-free}
 use Rattle.rules.proofs.Cells.{body-acts}
-use Rattle.rules.proofs.Fresh.{mark-line}
+use Rattle.rules_runs.proofs.Fresh.{mark-line}
 use Rattle.rules.proofs.Events.{event-served, event-next, sound-event, fresh-sound}
-use Rattle.rules.proofs.Rising.{one-line, first-least}
+use Rattle.rules_runs.proofs.Rising.{one-line, first-least}
 use Rattle.rules.proofs.Agree.{Numbers, line-viewOf, next-shows, same-answer}
 use Rattle.rules.proofs.Blocks.{OutBlock, Deal, nothing, grant, free, hand, event-deal, Balance, event-balance, release-unmoved}
 
 -- ---- a line that one leaves or joins
 

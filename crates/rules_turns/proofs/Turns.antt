@@ -10,30 +10,31 @@ use lib.Dec.{eqb}
 use lib.IntN.{ℤ, pos, negsuc}
 use lib.ListN.{length}
 use borrow.Author.Tests.{eqb-true, le-leb}
 use Rattle.rules.specs.Ids.{In, once, times}
 use Rattle.rules.specs.Codes.{Code, OK, H-CALL, H-MSG, H-ILBLK, number}
 use Rattle.rules.specs.State.{Kind, semaphore, flag, mailbox, pool, task, nobody, objects, waitOf, isWaiting}
 use Rattle.rules.specs.Places.{waiters, belongs, awaits}
 use Rattle.rules.specs.Events.{Event, tick, enter, exit, call, Words, AllWords, nat, outside}
 use Rattle.rules.specs.Acts.{Act, release, releasedTask, after}
 use Rattle.rules.specs.View.{View, line, act, acts}
 use Rattle.rules.specs.Verdicts.{Verdict, refuse, onFirst}
 use Rattle.rules.specs.Objects.{to-first, sig-sem, snd-msg, rel-blk}
 use Rattle.rules.specs.Rows.{sigSem, sndMsg, relBlk}
 use Rattle.rules.specs.Table.{table, handler, caller, handles, looked-up, entry, numbered, called, judge}
 use Rattle.rules.specs.Answers.{answer, readCell}
 use Rattle.rules.specs.Sound.{WaitNumbers, Sound}
 use Rattle.rules.specs.Kernel.{fresh, next, served, event, cell}
 use Rattle.rules.specs.Runs.{states}
 use Rattle.rules.specs.Blocks.{is, ok}
-use Rattle.rules.specs.Turns.{waitsAt, ahead, isGiver, gave, gift, servedCell, gifts, Whether, Leaves, InTurn, EveryTurn}
+use Rattle.rules.specs.Ahead.{waitsAt, ahead}
+use Rattle.rules_turns.specs.Turns.{isGiver, gave, gift, servedCell, gifts, Whether, Leaves, InTurn, EveryTurn}
 use Rattle.rules.proofs.Ids.{of-put-same, of-put-other, length-put, tested}
 use Rattle.rules.proofs.Waits.{both-true, waits-asks}
 use Rattle.rules.proofs.States.{freed-tells}
 use Rattle.rules.proofs.Judge.{bad, bad-not-ok, by-check, by-row}
 use Rattle.rules.proofs.Queues.{first-belongs, body-act}
 use Rattle.rules.proofs.Events.{event-served, event-next, cell-reads, sound-event, sound-states, fresh-sound}
 use Rattle.rules.proofs.Ahead.{awaits-waits, Lined, stands, first-released, next-ahead}
 
 -- ---- what an accepted call that gives does
 

@@ -10,25 +10,25 @@ use native.Mathlib.Omega.{arith}
 use lib.Dec.{eqb}
 use lib.ListN.{length}
 use borrow.Author.Tests.{eqb-true, eq-eqb, ne-eqb, not-true}
 use Rattle.rules.specs.Ids.{of, from, ids, In, keep, once, times, first}
 use Rattle.rules.specs.State.{no-handler, Kind, Wait, asleep, timed, on, Body, task, waitOf, isReady}
 use Rattle.rules.specs.Places.{Place, readyAt, waiters, mail, freeIn, Sort, tasks, messages, blocks, sameSort, sortAt, Item, aTask, item, same, population, many, belongs, waitsOn, lies, Exists, tabulate}
 use Rattle.rules.specs.Setup.{Setup}
 use Rattle.rules.specs.Events.{Event}
 use Rattle.rules.specs.Acts.{Act, after, Move, stay, leave, last, move}
 use Rattle.rules.specs.View.{View, line, nonempty, running, alone, without, moved}
 use Rattle.rules.specs.Table.{judge}
 use Rattle.rules.specs.Sound.{Sound}
 use Rattle.rules.specs.Kernel.{begins}
 use Rattle.rules.specs.Plain.{Plain, numberOf, queueOf, viewOf, renumbered, plainAct, plainActs, unstarted, plainFresh, plainNext}
-use Rattle.rules.specs.Order.{Rising, Ordered, OneLine, Ready, Before, HeadRuns, WhoRuns}
+use Rattle.rules_runs.specs.Order.{Rising, Ordered, OneLine, Ready, Before, HeadRuns, WhoRuns}
 use Rattle.rules.proofs.Ids.{Each, times-append, times-keep, has-keep, kept-passes, times-ids, times-head, times-tail}
 use Rattle.rules.proofs.Fits.{population-after, in-range}
 use Rattle.rules.proofs.Sorting.{all-has, times-byNumber}
 use Rattle.rules.proofs.States.{there-by, waits-by, waiting-tells}
 use Rattle.rules.proofs.Waits.{both-true, waits-asks}
 use Rattle.rules.proofs.Queues.{stands-known, stands-belongs}
 use Rattle.rules.proofs.Agree.{Numbers, numbers-act, numbers-unstarted, number-body, number-other, number-new, queue-act, queue-unstarted}
 
 -- ---- lists whose numbers rise
 

@@ -6,27 +6,27 @@ use Prim.Native.Nat.{ℕ, _+_}
 use native.Mathlib.Nat.{add-comm}
 use native.Mathlib.Omega.{arith}
 use lib.ListN.{length}
 use Rattle.rules.specs.Ids.{of, In, once}
 use Rattle.rules.specs.Codes.{tellsDamage}
 use Rattle.rules.specs.State.{pool, Body}
 use Rattle.rules.specs.Setup.{got, setup, Setup}
 use Rattle.rules.specs.Events.{Event, AllWords}
 use Rattle.rules.specs.Acts.{afters}
 use Rattle.rules.specs.View.{View}
 use Rattle.rules.specs.Table.{judge}
 use Rattle.rules.specs.Answers.{answer, readCell}
 use Rattle.rules.specs.Sound.{Sound}
 use Rattle.rules.specs.Kernel.{fresh, next, served, event}
 use Rattle.rules.specs.Plain.{Plain, viewOf, plainFresh, plainNext, plainAnswer}
 use Rattle.rules.specs.Blocks.{isFree, Happened, granted, gaveBack, grants, returns, Accounted}
-use Rattle.rules.specs.Demand3.{Agree, Alike, happened, Demand3}
+use Rattle.rules_runs.specs.Demand3.{Agree, Alike, happened, Demand3}
 use Rattle.rules.proofs.Sizes.{SameSizes, sizes-afters}
 use Rattle.rules.proofs.Agree.{Numbers, fresh-shows, numbers-fresh, next-shows, numbers-next, same-answer}
 use Rattle.rules.proofs.Blocks.{event-balance}
 use Rattle.rules.proofs.Cells.{body-acts}
 use Rattle.rules.proofs.Clean.{judge-not-damage}
-use Rattle.rules.proofs.Fresh.{fresh-free}
+use Rattle.rules_runs.proofs.Fresh.{fresh-free}
 use Rattle.rules.proofs.Events.{event-served, event-next, cell-reads, sound-event, fresh-sound}
 
 -- ---- the ledger of one block: its grants are its returns, and one more if it is out
 

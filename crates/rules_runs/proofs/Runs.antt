@@ -5,23 +5,23 @@ use mathlib.Core.Path.{_≡_}
 use Prim.Native.Nat.{ℕ, _+_}
 use native.Mathlib.Omega.{arith}
 use lib.ListN.{length}
 use Rattle.rules.specs.Ids.{of, In, once}
 use Rattle.rules.specs.Setup.{got, setup, Setup}
 use Rattle.rules.specs.Events.{Event, Words, AllWords}
 use Rattle.rules.specs.Sound.{Sound}
 use Rattle.rules.specs.Kernel.{fresh}
 use Rattle.rules.specs.Plain.{Plain, viewOf, plainFresh, plainNext}
 use Rattle.rules.specs.Runs.{states, plainStates}
-use Rattle.rules.specs.Order.{Ordered, OneLine, WhoRuns}
+use Rattle.rules_runs.specs.Order.{Ordered, OneLine, WhoRuns}
 use Rattle.rules.specs.Blocks.{isFree, granted, gaveBack}
-use Rattle.rules.specs.Demand3.{happened}
-use Rattle.rules.specs.Wear.{LongestFree}
+use Rattle.rules_runs.specs.Demand3.{happened}
+use Rattle.rules_runs.specs.Wear.{LongestFree}
 use Rattle.rules.proofs.Agree.{Numbers, fresh-shows, numbers-fresh, next-shows, numbers-next}
 use Rattle.rules.proofs.Calls.{sound-next}
-use Rattle.rules.proofs.Demand3.{plain-balance}
+use Rattle.rules_runs.proofs.Demand3.{plain-balance}
 use Rattle.rules.proofs.Events.{fresh-sound, sound-states}
-use Rattle.rules.proofs.Rising.{ordered-fresh, ordered-next, one-line, who-runs}
-use Rattle.rules.proofs.Wear.{longest-free}
+use Rattle.rules_runs.proofs.Rising.{ordered-fresh, ordered-next, one-line, who-runs}
+use Rattle.rules_runs.proofs.Wear.{longest-free}
 
 -- a state of the plain kernel that some run reaches
 record Reached (s : Plain) : Type 0 where

@@ -6,16 +6,16 @@ use mathlib.Core.Logic.{_≢_}
 use mathlib.Core.Path.{_≡_}
 use Prim.Native.Nat.{ℕ, _<_}
 use lib.ListN.{length}
 use Rattle.rules.specs.Ids.{of, In, times}
 use Rattle.rules.specs.Codes.{number}
 use Rattle.rules.specs.State.{Body}
 use Rattle.rules.specs.Places.{aBlock}
 use Rattle.rules.specs.Events.{Event}
 use Rattle.rules.specs.View.{View}
 use Rattle.rules.specs.Kernel.{event}
 use Rattle.rules.specs.Plain.{Plain, numberOf}
 use Rattle.rules.specs.Blocks.{isFree, Happened, granted, gaveBack, grants}
-use Rattle.rules.specs.Demand3.{happened}
+use Rattle.rules_runs.specs.Demand3.{happened}
 
 -- ---- a run as the blocks' accounts read it
 

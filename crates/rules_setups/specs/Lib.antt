@@ -1,0 +1,2 @@
+-- The faults of a setup.
+pub mod Faults

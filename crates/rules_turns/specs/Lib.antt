@@ -1,0 +1,2 @@
+-- The claim about turns.
+pub mod Turns
