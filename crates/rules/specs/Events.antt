@@ -48,7 +48,7 @@ abbrev pub AllWords : List Event → Type 0
 AllWords [] = Unit {0}
 AllWords (e ∷ l) = Words e × AllWords l
 
--- The number that a word names; 0 for a negative one, which names nothing: no id, priority, message or block is 0.
+-- The number that a word names; 0 for a negative one, which names nothing: no id, priority, message, block or alarm is 0.
 abbrev pub nat : ℤ → ℕ
 nat (pos n) = n
 nat (negsuc n) = 0

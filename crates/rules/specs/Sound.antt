@@ -82,7 +82,7 @@ abbrev pub HandlersFit : List Task → Handlers → Type 0
 HandlersFit l no-handler = Unit {0}
 HandlersFit l (in-handler n i) = (depth (in-handler n i) ≤ 15) × ((i ≡ 0) ⊎ (isFreed (of l i nobody .state) ≡ true))
 
--- ---- The counter: eight alarms if there is one, each of a task of the setup; expiry 0..m - 1, period 0..m.
+-- ---- The counter: m at most 65535, 0 for none; eight alarms if there is one, each of a task of the setup; expiry 0..m - 1, period 0..m.
 
 -- kept code 0, E_NOEXS, or H_NODMT for a start, E_DMT or E_QOVR for a wake
 abbrev pub KeptFits : Bool → Code → Type 0
