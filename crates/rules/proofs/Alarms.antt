@@ -1,6 +1,6 @@
 -- Alarms: what a firing does, which tick it comes at, and what calls 36 to 39 do. Of every state where nothing else is said.
 use mathlib.Core.Bool.{Bool, true, false, not, cond, _&&_, false≢true}
-use mathlib.Core.List.{List, [], _∷_, _++_, map, append-assoc}
+use mathlib.Core.List.{List, [], _∷_, _++_, map, append-nil, append-assoc}
 use mathlib.Core.Logic.{_⊎_, inl, inr, _≢_}
 use mathlib.Core.Option.{Option, none, some}
 use mathlib.Core.Path.{_≡_, refl, sym, ap, _∙_, subst}
@@ -12,7 +12,7 @@ use lib.Dec.{eqb, leb}
 use lib.IntN.{ℤ, pos, natAbs}
 use lib.ListN.{length}
 use borrow.Author.Tests.{le-leb, leb-true, leb-false, eqb-true, eqb-false, eq-eqb, ne-eqb}
-use Rattle.rules.specs.Ids.{In, once, times}
+use Rattle.rules.specs.Ids.{from, ids, In, once, times}
 use Rattle.rules.specs.Codes.{Code, OK, E-TMOUT, H-PAR, H-USED, H-IDLE, number}
 use Rattle.rules.specs.State.{Wait, asleep, timed, on, State, dormant, ready, suspended, absent, waiting, waiting-suspended, Task, Handlers, isOpen, Setting, unset, due, inUse, Alarm, noAlarm, Counter, alarmOf, alarmCount, Body, task, nobody, waitOf, wish, isDormant, isAbsent, isWaiting, isFreed, sleeps}
 use Rattle.rules.specs.Events.{Event, tick, enter, exit, call, Words, AllWords, nat, outside}
@@ -272,6 +272,53 @@ module _ (v : View) where
         fire-anew =
             ap (λ (y : Alarm). firing (when-due k) k y) due-alarm
             ∙ ap (λ (s : Setting). fired (when-due k) seen .acts ++ alarm k (fired (when-due k) seen .code) s ∷ []) (again-by (stepped old) (when-due k .counter) (seen .setting) due-count)
+
+  -- ---- What each alarm does at a tick: nothing unless it is due; else its firing, on what the timeouts and the alarms before it left.
+
+  -- the tick brings the counter to the expiry of alarm k
+  abbrev pub is-due : ℕ → Bool
+  is-due k = fires (stepped old) (alarmOf old k .setting)
+
+  abbrev pub share : ℕ → List Act
+  share k = cond (is-due k) (firing (when-due k) k (alarmOf old k)) []
+
+  abbrev pub shares : List ℕ → List Act
+  shares [] = []
+  shares (k ∷ l) = share k ++ shares l
+
+  pub share-none : (k : ℕ) → is-due k ≡ false → share k ≡ []
+  share-none k e = rw e
+
+  pub share-firing : (k : ℕ) → is-due k ≡ true → share k ≡ firing (when-due k) k (alarmOf old k)
+  share-firing k e = rw e
+
+  module _ (k : ℕ) (r : In k (length (old .alarms))) where
+    share-alone : rings (when-due k) 1 k ≡ share k
+    unfolding rings
+    share-alone = rw (due-fires k r) (go (is-due k))
+      where
+        go : (t : Bool) → cond t (fire (when-due k) k ++ []) [] ≡ cond t (firing (when-due k) k (alarmOf old k)) []
+        go true = append-nil (fire (when-due k) k) ∙ ap (firing (when-due k) k) (due-alarm k r)
+        go false = refl
+
+    due-next : when-due (suc k) ≡ afters (share k) (when-due k)
+    due-next =
+        ap (λ (l : List Act). afters l lapsed) (rings-split (pred k) 1 k 1 k lapsed (omega (arith, r .0)) (omega (arith, r .0)))
+        ∙ afters-append (rings lapsed (pred k) 1) (rings (when-due k) 1 k) lapsed ∙ ap (λ (l : List Act). afters l (when-due k)) share-alone
+
+    share-first : (n : ℕ) → rings (when-due k) (suc n) k ≡ share k ++ rings (when-due (suc k)) n (suc k)
+    share-first n =
+        rings-split 1 n (suc n) k (suc k) (when-due k) (omega arith) (omega arith)
+        ∙ ap (λ (l : List Act). l ++ rings (afters l (when-due k)) n (suc k)) share-alone ∙ ap (λ (b : Body). share k ++ rings b n (suc k)) (sym due-next)
+
+  shares-from : (n k : ℕ) → k + n ≡ suc (length (old .alarms)) → 1 ≤ k → rings (when-due k) n k ≡ shares (from k n)
+  shares-from zero k e l = unfold rings in refl
+  shares-from (suc n) k e l = share-first k (l, omega (arith, e)) n ∙ ap (λ (m : List Act). share k ++ m) (shares-from n (suc k) (omega (arith, e)) (omega arith))
+
+  -- the acts of a tick: the timeouts, then the alarms by number
+  pub tick-by-number : judge v tick .acts ≡ lapse (v .body) ++ shares (ids (length (old .alarms)))
+  unfolding judge ticked rings afters ids
+  tick-by-number = ap (λ (l : List Act). lapse (v .body) ++ l) (shares-from (length (old .alarms)) 1 (omega arith) (omega arith))
 
 -- ---- So a task timed out in the tick of the alarm that is to wake it is awake by then, and the wake-up is stored.
 
@@ -672,31 +719,36 @@ module _ (k e p : ℕ) (x : Alarm) (q : x .setting ≡ due e p) (v : View) where
   abbrev c : Counter
   c = v .body .counter
 
-  -- a tick before that
-  pending-tick : (g : ℕ) → Pending k e x (suc (suc g)) v → Pending k e x (suc g) (event v tick .next)
-  pending-tick g h = subst (Pending k e x (suc g)) (sym (event-next v tick (h .sound))) (record {
-    sound = sound-next v tick (h .sound) tt;
-    there = there-next v tick k (h .there);
-    same = tick-silent v k (h .there) silent ∙ h .same;
-    reaches = rw (tick-counts v .0, tick-counts v .1) (on .1);
-  })
-    where
-      on : (e ≢ countAfter (c .size) (c .now)) × Reaches (c .size) (countAfter (c .size) (c .now)) (suc g) e
-      on = not-reached (c .size) (c .now) g e (below (suc (suc g)) h .0) (below (suc (suc g)) h .1) (h .reaches)
+  module _ (g : ℕ) (h : Pending k e x (suc (suc g)) v) where
+    onward-reaches : (e ≢ countAfter (c .size) (c .now)) × Reaches (c .size) (countAfter (c .size) (c .now)) (suc g) e
+    onward-reaches = not-reached (c .size) (c .now) g e (below (suc (suc g)) h .0) (below (suc (suc g)) h .1) (h .reaches)
 
-      silent : fires (stepped c) (alarmOf c k .setting) ≡ false
-      silent = ap (λ (y : Alarm). fires (stepped c) (y .setting)) (h .same) ∙ ap (fires (stepped c)) q ∙ ne-eqb e _ (on .0)
+    pending-silent : is-due v k ≡ false
+    pending-silent = ap (λ (y : Alarm). fires (stepped c) (y .setting)) (h .same) ∙ ap (fires (stepped c)) q ∙ ne-eqb e _ (onward-reaches .0)
 
-  -- and the tick that reaches it
-  pending-fires : Pending k e x 1 v → alarmOf (event v tick .next .body .counter) k ≡ with-setting (fired (when-due v k) x .code) (anewAt (c .size) e p) x
-  pending-fires h =
-      ap (λ (w : View). alarmOf (w .body .counter) k) (event-next v tick (h .sound))
-      ∙ tick-fires v k (h .there) (ap (λ (y : Alarm). fires (stepped c) (y .setting)) (h .same) ∙ ap (fires (stepped c)) q ∙ eq-eqb e _ now)
-      ∙ ap (λ (y : Alarm). with-setting (fired (when-due v k) y .code) (again (stepped c) (y .setting)) y) (h .same)
-      ∙ ap (λ (s : Setting). with-setting (fired (when-due v k) x .code) s x) (ap (again (stepped c)) q ∙ again-at (stepped c) e p (sym now))
-    where
-      now : e ≡ countAfter (c .size) (c .now)
-      now = reached (c .size) (c .now) e (below 1 h .0) (below 1 h .1) (h .reaches)
+    -- a tick before that
+    pending-tick : Pending k e x (suc g) (event v tick .next)
+    pending-tick = subst (Pending k e x (suc g)) (sym (event-next v tick (h .sound))) (record {
+      sound = sound-next v tick (h .sound) tt;
+      there = there-next v tick k (h .there);
+      same = tick-silent v k (h .there) pending-silent ∙ h .same;
+      reaches = rw (tick-counts v .0, tick-counts v .1) (onward-reaches .1);
+    })
+
+  module _ (h : Pending k e x 1 v) where
+    reached-now : e ≡ countAfter (c .size) (c .now)
+    reached-now = reached (c .size) (c .now) e (below 1 h .0) (below 1 h .1) (h .reaches)
+
+    pending-due : is-due v k ≡ true
+    pending-due = ap (λ (y : Alarm). fires (stepped c) (y .setting)) (h .same) ∙ ap (fires (stepped c)) q ∙ eq-eqb e _ reached-now
+
+    -- and the tick that reaches it
+    pending-fires : alarmOf (event v tick .next .body .counter) k ≡ with-setting (fired (when-due v k) x .code) (anewAt (c .size) e p) x
+    pending-fires =
+        ap (λ (w : View). alarmOf (w .body .counter) k) (event-next v tick (h .sound))
+        ∙ tick-fires v k (h .there) pending-due
+        ∙ ap (λ (y : Alarm). with-setting (fired (when-due v k) y .code) (again (stepped c) (y .setting)) y) (h .same)
+        ∙ ap (λ (s : Setting). with-setting (fired (when-due v k) x .code) s x) (ap (again (stepped c)) q ∙ again-at (stepped c) e p (sym reached-now))
 
 -- a run that has fewer ticks
 pending-run : (k e p : ℕ) (x : Alarm) → x .setting ≡ due e p → (l : List Event) (v : View) (d g : ℕ) → AllWords l → NotCancelled k l → d ≡ ticksOf l + suc g → Pending k e x d v → Pending k e x (suc g) (states v l)
@@ -732,6 +784,38 @@ module _ (v : View) (l : List Event) (k e p d : ℕ) (s : Sound v) (w : AllWords
   pub fires-first-later : d ≡ suc (ticksOf l)
       → alarmOf (event (states v l) tick .next .body .counter) k ≡ with-setting (fired (when-due (states v l) k) own .code) (anewAt (states v l .body .counter .size) e p) own
   fires-first-later t = pending-fires k e p own q (states v l) (pending-run k e p own q l v d 0 w o (omega arith) begins)
+
+  -- no earlier tick has an act of it
+  pub nothing-before : suc (ticksOf l) < d → share (states v l) k ≡ []
+  nothing-before t =
+      share-none (states v l) k (pending-silent k e p own q (states v l) (d - suc (suc (ticksOf l))) (pending-run k e p own q l v d (suc (d - suc (suc (ticksOf l)))) w o (omega arith) begins))
+
+  -- the d-th has those of its firing
+  pub firing-then : d ≡ suc (ticksOf l) → share (states v l) k ≡ firing (when-due (states v l) k) k own
+  firing-then t = share-firing (states v l) k (pending-due k e p own q (states v l) h) ∙ ap (firing (when-due (states v l) k) k) (h .same)
+    where
+      h : Pending k e own 1 (states v l)
+      h = pending-run k e p own q l v d 0 w o (omega arith) begins
+
+-- Every alarm in use has such a d: its expiry is reached within a round.
+pub comes-due : (v : View) (k e p : ℕ) → Sound v → In k (length (v .body .counter .alarms)) → alarmOf (v .body .counter) k .setting ≡ due e p
+    → (d : ℕ) × In d (v .body .counter .size) × (countFrom (v .body .counter) d ≡ e)
+comes-due v k e p s r q = elim (decLt n e) [
+  | yes l ↦ (e - n, (omega (arith, l), omega (arith, l, below)), ap (λ (x : ℕ). x % m) (omega (arith, l)) ∙ mod-eq-of-lt below)
+  | no l ↦ (e + m - n, (omega (arith, l, now), omega (arith, l, now)), ap (λ (x : ℕ). x % m) (omega (arith, l, now)) ∙ add-mod-right e m ∙ mod-eq-of-lt below)
+]
+  where
+    m : ℕ
+    m = v .body .counter .size
+
+    n : ℕ
+    n = v .body .counter .now
+
+    below : e < m
+    below = subst (λ (x : Setting). SettingFits m x) q (s .body .counter .alarms k r .setting) .0
+
+    now : n < m
+    now = counter-below v s (counted _ _ k (s .body .counter .count) r)
 
 -- after a full round the counter is where it was: so an expiry at the present count is reached in m ticks
 pub full-round : (v : View) → Sound v → 0 < v .body .counter .size → countFrom (v .body .counter) (v .body .counter .size) ≡ v .body .counter .now
