@@ -1,5 +1,5 @@
 -- Does the last in line ever get served? Said of the code: of every chain of steps, read from the replies and from what the memories show
--- (rules, specs/Turns.antt).
+-- (rules_turns, specs/Turns.antt).
 use mathlib.Core.Bool.{true}
 use mathlib.Core.List.{List, [], _∷_}
 use mathlib.Core.Path.{_≡_}

@@ -109,7 +109,7 @@ turnExamples = record {
       ∷ [];
 }
 
--- ---- the numbers of the theorem (rules, specs/Turns.antt)
+-- ---- the numbers of the theorem (rules_turns, specs/Turns.antt)
 
 abbrev pub signal : Event
 signal = taskCall sig-sem (pos 1) (pos 0) (pos 0)
