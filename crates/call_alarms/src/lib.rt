@@ -1,7 +1,7 @@
 // The alarms: the calls on them, and their firing at a tick. `k` is an alarm that there is. The contracts speak of an accepted memory
 // (`DoesOnWords`, `PerformsOnWords`).
 use call_tasks::sta_tsk;
-use call_tasks::wup_tsk;
+use call_wakeups::wup_tsk;
 use call_words::Outcome;
 use call_words::codes::E_DMT;
 use call_words::codes::E_NOEXS;

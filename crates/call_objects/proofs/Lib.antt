@@ -1,6 +1,2 @@
--- Laws of the calls on objects.
+-- Laws of what the calls on objects share.
 pub mod Waiters
-pub mod Blocks
-pub mod SemaphoreCalls
-pub mod MailboxCalls
-pub mod PoolCalls

@@ -1,10 +1,4 @@
-// The calls on semaphores, mailboxes and pools: what is left of each once the common refusals are out of the way (crate `call_judging`).
-// `i` is the object that the call names, `me` the caller. The contracts speak of an accepted memory, where what is named is there
-// (`DoesOnWords`).
-pub mod mailboxes;
-pub mod pools;
-pub mod semaphores;
-
+// What the calls on objects share: the first waiter (crates `call_semaphores`, `call_flags`, `call_mailboxes`, `call_pools`).
 use memory_columns::Rings;
 use memory_columns::STATE_WORDS;
 use memory_queues::first;

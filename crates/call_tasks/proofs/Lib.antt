@@ -1,5 +1,2 @@
 -- Laws of the calls on tasks.
-pub mod Readings
-pub mod Heads
 pub mod TaskCalls
-pub mod WakeCalls

@@ -7,9 +7,9 @@ use native.Mathlib.Omega.{arith}
 use lib.IntN.{pos}
 use lib.ListN.{length}
 use Rattle.rules.specs.Ids.{In}
-use Rattle.rules.specs.Acts.{start, retire, create, delete, rotate, regrade, release, suspend, resume, wakeups}
+use Rattle.rules.specs.Acts.{start, retire, create, delete, rotate, regrade, release, suspend, resume}
 use Rattle.rules.specs.Codes.{number, H-NODMT, H-EXIST, E-NOWAI, E-RLWAI, H-SUS, E-NOSUS}
-use Rattle.rules.specs.Tasks.{starting, ext-tsk, chg-pri, rot-rdq, rel-wai, sus-tsk, rsm-tsk, can-wup, get-tid, tsk-sts, cre-tsk, del-tsk, exd-tsk}
+use Rattle.rules.specs.Tasks.{starting, ext-tsk, chg-pri, rot-rdq, rel-wai, sus-tsk, rsm-tsk, get-tid, tsk-sts, cre-tsk, del-tsk, exd-tsk}
 use Rattle.rules.specs.Time.{get-tim}
 use Rattle.memory_columns.specs.Layout as Layout
 use Rattle.memory_columns.specs.Layout.{entry}
@@ -23,9 +23,9 @@ use Rattle.call_words.specs.Outcomes.{outcome}
 use Rattle.call_words.specs.Doing.{Anything, DoesOnWords}
 use Rattle.call_words.proofs.Verdicts.{check-stops, check-passes, gives-none, gives-one, first-none, first-some}
 use Rattle.call_words.specs.Naming.{NamesTask, NamesQueue}
-use Rattle.call_tasks.specs.Reading.{waitsAt, haltedAt, numberAt, turnAt}
-use Rattle.call_tasks.proofs.Heads.{turn-head}
-use Rattle.call_tasks.proofs.Readings.{reads-dormant, reads-alive, reads-absent, reads-there, waiting-read, suspended-read, wakeups-read, number-read, priority-read}
+use Rattle.call_reading.specs.Reading.{waitsAt, haltedAt, numberAt, turnAt}
+use Rattle.call_reading.proofs.Heads.{turn-head}
+use Rattle.call_reading.proofs.Readings.{reads-dormant, reads-alive, reads-absent, reads-there, waiting-read, suspended-read, number-read, priority-read}
 
 module _ {b : List ℕ} {s : Outcome} where
   -- ---- the task that is named
@@ -91,10 +91,6 @@ module _ {b : List ℕ} {s : Outcome} where
     pub rsm-done : {t : Bool} → t ≡ haltedAt b i → not t ≡ false → {b′ : List ℕ} → b′ ≡ resumed i b → s ≡ outcome (pos 0) 0 0 0 → DoesOnWords (NamesTask i) (λ v. rsm-tsk v (pos i)) s b b′
     unfolding rsm-tsk performed performedMarks
     rsm-done f z g e m A k = check-passes E-NOSUS _ (rw (suspended-read b m i k A, ← f) z) (gives-one (resume i) refl e g)
-
-    pub can-done : {n : ℕ} → n ≡ entry Layout.wakeups b i → {b′ : List ℕ} → b′ ≡ Layout.put Layout.wakeups i 0 b → s ≡ outcome (pos 0) n 0 0 → DoesOnWords (NamesTask i) (λ v. can-wup v (pos i)) s b b′
-    unfolding can-wup performed performedMarks
-    can-done f g e m A k = gives-one (wakeups i 0) refl (e ∙ ap (λ (x : ℕ). outcome (pos 0) x 0 0) (f ∙ sym (wakeups-read b m i k))) g
 
     pub sts-done : {x y : ℕ} → x ≡ numberAt b i → y ≡ entry Layout.priority b i → s ≡ outcome (pos 0) x y 0 → DoesOnWords (NamesTask i) (λ v. tsk-sts v (pos i)) s b b
     unfolding tsk-sts

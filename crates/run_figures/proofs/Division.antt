@@ -17,8 +17,8 @@ use Rattle.memory_picture.specs.Picture.{viewShown, tasksShown}
 use Rattle.kernel_start.proofs.Fresh.{Holds}
 use Rattle.kernel_events.specs.Steps.{Reply, Step, Link}
 use Rattle.call_words.proofs.Tasks.{tasks-count}
-use Rattle.call_tasks.specs.Reading.{numberAt}
-use Rattle.call_tasks.proofs.Readings.{number-read}
+use Rattle.call_reading.specs.Reading.{numberAt}
+use Rattle.call_reading.proofs.Readings.{number-read}
 use Rattle.run_reading.specs.Recorded.{Head, Item, begins, occurs, refuses, eventBytes, eventIn, eventItems, itemsBehind, readHead, itemsOf}
 use Rattle.run_reading.specs.Recorder.{Recorder, heading, running, stopped, ended, begun, items, after, onEnd, atEnd, itemsIn, afterAll}
 use Rattle.run_reading.proofs.Division as Reading

@@ -20,7 +20,7 @@ use Rattle.kernel_start.proofs.Fresh.{Holds}
 use Rattle.kernel_events.specs.Steps.{Reply, Step, Link}
 use Rattle.kernel_events.specs.Serving.{Known}
 use Rattle.kernel_events.proofs.Served.{known-on, known-first}
-use Rattle.call_tasks.specs.Reading.{numberAt}
+use Rattle.call_reading.specs.Reading.{numberAt}
 use Rattle.run_reading.specs.Recorded.{Head, Item, begins, occurs, refuses, eventIn, eventBytes}
 use Rattle.run_reading.specs.Recorder.{Recorder, items, after, eat}
 use Rattle.run_reading.proofs.Division.{append-nil, append-assoc, items-append, after-append}

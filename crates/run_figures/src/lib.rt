@@ -1,6 +1,6 @@
 // The figures of a recorded run, counted as it is taken in parts of any size: after how many events each task was in each state, and how often each code
 // came back. All of it lies in memory that the caller lends, and any content of that memory is a value. The kernel's memory is checked once in a part.
-use call_tasks::reading::state_number;
+use call_reading::state_number;
 use check_damage::Breach;
 use check_damage::judged;
 use memory_columns::MAX_TASKS;
@@ -26,7 +26,7 @@ ghost use Prim.Native.Nat.{ℕ, suc, _≤_, _<_, min};
 ghost use lib.Dec.{leb};
 ghost use lib.ListN.{length, getD};
 ghost use Rattle.memory_picture.specs.Picture.{tasksShown};
-ghost use Rattle.call_tasks.specs.Reading.{numberAt};
+ghost use Rattle.call_reading.specs.Reading.{numberAt};
 ghost use Rattle.run_reading.specs.Recorder.{closed};
 ghost use Rattle.run_stream.specs.declared.Completed.the-variants.{Begins, Occurs};
 ghost use Rattle.run_stream.specs.Lent.{recorderOf, Sized};

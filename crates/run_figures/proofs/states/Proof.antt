@@ -8,7 +8,7 @@ use native.Mathlib.Omega.{arith}
 use lib.ListN.{length, getD, set, length-set}
 use lib.Seq.{getD-set-same, getD-set-other}
 use borrow.Author.Needs.{needs}
-use Rattle.call_tasks.specs.Reading.{numberAt}
+use Rattle.call_reading.specs.Reading.{numberAt}
 use Rattle.run_figures.proofs.states.Statement.{statement}
 use Rattle.run_figures.proofs.states.Tie as tie
 

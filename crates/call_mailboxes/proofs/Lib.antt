@@ -1,0 +1,2 @@
+-- Laws of the calls on mailboxes.
+pub mod MailboxCalls

@@ -1,0 +1,27 @@
+-- `call_mailboxes::mbx_sts` meets its contract. It is its rule. Assumes nothing.
+use Rattle.call_mailboxes.proofs.MailboxCalls.{sts-done}
+use borrow.Author.Needs.{needs}
+use Rattle.call_mailboxes.proofs.mbx_sts.Statement.{statement}
+use Rattle.call_mailboxes.proofs.mbx_sts.Tie as tie
+
+first-waiter-requires : tie.Need-first-waiter-requires
+first-waiter-requires c κs = search needs
+
+mail-anchor-requires : tie.Need-mail-anchor-requires
+mail-anchor-requires c κs = search needs
+
+first-requires : tie.Need-first-requires
+first-requires c κs = search needs
+
+gives-requires : tie.Need-gives-requires
+gives-requires c κs = search needs
+
+returns : tie.Need-returns
+returns c =
+    let at-first-message = c .before in
+    let at-mail-anchor = at-first-message .before in
+    let at-first-waiter = at-mail-anchor .before in
+    sts-done _ (at-mail-anchor .mail-anchor .ensures) (at-first-message .first .ensures) (at-first-waiter .first-waiter .ensures) (c .gives .ensures)
+
+pub mbx-sts-spec : {M : Type 1} → statement M
+mbx-sts-spec = tie.close (tie.spec first-waiter-requires mail-anchor-requires first-requires gives-requires returns)

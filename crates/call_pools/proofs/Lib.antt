@@ -1,0 +1,3 @@
+-- Laws of the calls on pools.
+pub mod Blocks
+pub mod PoolCalls

@@ -1,0 +1,2 @@
+-- What the calls on pools read.
+pub mod Blocks

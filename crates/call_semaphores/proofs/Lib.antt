@@ -1,0 +1,2 @@
+-- Laws of the calls on semaphores.
+pub mod SemaphoreCalls

@@ -1,0 +1,23 @@
+-- `call_semaphores::sem_sts` meets its contract. It is its rule. Assumes nothing.
+use Rattle.call_semaphores.proofs.SemaphoreCalls.{sts-done}
+use borrow.Author.Needs.{needs}
+use Rattle.call_semaphores.proofs.sem_sts.Statement.{statement}
+use Rattle.call_semaphores.proofs.sem_sts.Tie as tie
+
+first-waiter-requires : tie.Need-first-waiter-requires
+first-waiter-requires c κs = search needs
+
+semaphore-requires : tie.Need-semaphore-requires
+semaphore-requires c κs = search needs
+
+gives-requires : tie.Need-gives-requires
+gives-requires c κs = search needs
+
+returns : tie.Need-returns
+returns c =
+    let at-semaphore = c .before in
+    let at-first-waiter = at-semaphore .before in
+    sts-done _ (at-first-waiter .first-waiter .ensures) (at-semaphore .semaphore .ensures) (c .gives .ensures)
+
+pub sem-sts-spec : {M : Type 1} → statement M
+sem-sts-spec = tie.close (tie.spec first-waiter-requires semaphore-requires gives-requires returns)

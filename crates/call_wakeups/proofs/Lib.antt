@@ -1,0 +1,2 @@
+-- Laws of the calls that sleep and wake.
+pub mod WakeCalls
