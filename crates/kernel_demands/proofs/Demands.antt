@@ -1,21 +1,20 @@
 -- What the customer demands of runs holds of every chain of steps, by the theorems of the rules. Assumes nothing.
-use mathlib.Core.Bool.{Bool, true, false, not, _&&_, _||_, false≢true}
+use mathlib.Core.Bool.{Bool, true, false, not, false≢true}
 use mathlib.Core.List.{List, [], _∷_, map}
 use mathlib.Core.Logic.{_≢_}
 use mathlib.Core.Path.{_≡_, refl, sym, ap, _∙_, subst}
 use Prim.Native.Nat.{ℕ, _≤_}
 use native.Mathlib.Omega.{arith}
-use lib.Dec.{eqb, lit≤}
-use lib.IntN.{ℤ, pos, negsuc}
+use lib.Dec.{lit≤}
+use lib.IntN.{ℤ, pos}
 use lib.ListN.{length}
 use Rattle.rules.specs.Ids.{of, In, once}
 use Rattle.rules.specs.Codes.{E-RLWAI, number, own-number, inDamage, tellsDamage}
 use Rattle.rules.specs.Breach.{breach}
 use Rattle.rules.specs.State.{Body, task}
 use Rattle.rules.specs.Setup.{got, setup, Setup}
-use Rattle.rules.specs.Events.{Event, tick, call, nat, AllWords}
+use Rattle.rules.specs.Events.{Event, call, nat, AllWords}
 use Rattle.rules.specs.View.{View, running}
-use Rattle.rules.specs.Answers.{Answer}
 use Rattle.rules.specs.Kernel.{Outcome, next, served, event}
 use Rattle.rules.specs.Plain.{Plain, viewOf, plainFresh, plainNext, plainAnswer}
 use Rattle.rules.specs.Blocks.{isFree, Happened, granted, gaveBack, AllAccounted}

@@ -16,7 +16,7 @@ use Rattle.kernel_start.proofs.Fresh.{Holds}
 use Rattle.kernel_batches.specs.declared.Batch.the-variants.{Done}
 use Rattle.kernel_batches.specs.declared.Ran.{Ran}
 use Rattle.kernel_events.specs.Steps.{Link, told}
-use Rattle.kernel_batches.specs.Batches.{fitOf, fitted, Lent, lent, over, codesOf, wordsOf, RanThrough, RanFresh, RunsFrom}
+use Rattle.kernel_batches.specs.Batches.{fitOf, fitted, Lent, over, codesOf, wordsOf, RanFresh, RunsFrom}
 use Rattle.kernel_demands.specs.Demands.{figures}
 use Rattle.kernel_demands.proofs.Chains.{start-holds, chain-says}
 use Rattle.run_reading.specs.Recorded.{signedWord}

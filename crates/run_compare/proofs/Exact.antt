@@ -1,12 +1,12 @@
 -- An event is listed exactly if the two answers differ; so equal setups have none. Assumes nothing.
-use mathlib.Core.Bool.{Bool, true, false, cond, false≢true}
+use mathlib.Core.Bool.{Bool, true, false, cond}
 use mathlib.Core.List.{List, [], _∷_, map}
 use mathlib.Core.Logic.{_≢_, inl, inr}
 use mathlib.Core.Path.{_≡_, refl, sym, ap, _∙_, subst}
 use Prim.Native.Nat.{ℕ, zero, suc, _+_, _≤_, _<_}
 use native.Mathlib.Omega.{arith}
 use lib.IntN.{ℤ}
-use lib.ListN.{length, getD, length-map}
+use lib.ListN.{length}
 use Rattle.rules.specs.Setup.{got}
 use Rattle.rules.specs.Events.{Event, eventsOf}
 use Rattle.rules.specs.View.{View}
@@ -14,17 +14,13 @@ use Rattle.rules.specs.Answers.{Answer, numbers}
 use Rattle.rules.specs.Kernel.{event, fresh}
 use Rattle.rules.specs.Runs.{answers}
 use Rattle.run_text.specs.Ascii.{ascii}
-use Rattle.run_text.specs.Lines.{countLine}
 use Rattle.run_compare_reading.specs.Compared.{Compared, compared}
 use Rattle.run_compare_text.specs.Changes.{differ, Change, change, changes, changesText, comparedText}
 use Rattle.run_compare_text.proofs.Differ.{never-itself, differ-not, alike}
 use Rattle.run_compare.specs.Difference.{differenceBy, differenceOf, runs}
-use Rattle.run_compare.specs.Exactly.{Has, Rising, answerAt, Exactly}
+use Rattle.run_compare.specs.Exactly.{Has, Rising, answerAt, Exactly, listed, firstRun, secondRun, changesOf}
 
 -- ---- two runs
-
-abbrev listed : ℕ → List Answer → List Answer → List Change
-listed n a b = changes n (map numbers a) (map numbers b)
 
 all-listed : (n : ℕ) (a b : List Answer) → length a ≡ length b → (i : ℕ) → i < length a → answerAt a i ≢ answerAt b i → Has (change (n + i) (answerAt a i) (answerAt b i)) (listed n a b)
 unfolding changes
@@ -87,15 +83,12 @@ answers-length v [] = refl
 answers-length v (e ∷ l) = ap suc (answers-length (event v e .next) l)
 
 module _ (s : List ℕ) (c : Compared) (end : ℕ) (e : compared s ≡ got c end) where
-  abbrev pub changesOf : List Change
-  changesOf = listed 1 (runs (c .first) (eventsOf (c .words))) (runs (c .second) (eventsOf (c .words)))
-
   -- an input that is accepted has the text of these changes, and they are exactly those that there are
-  pub text-of-changes : differenceOf s ≡ changesText changesOf
+  pub text-of-changes : differenceOf s ≡ changesText (changesOf c)
   unfolding differenceOf differenceBy comparedText
   text-of-changes = rw e
 
-  pub changes-exactly : Exactly (runs (c .first) (eventsOf (c .words))) (runs (c .second) (eventsOf (c .words))) changesOf
+  pub changes-exactly : Exactly (firstRun c) (secondRun c) (changesOf c)
   changes-exactly = exactly _ _ (answers-length (fresh (c .first)) (eventsOf (c .words)) ∙ sym (answers-length (fresh (c .second)) (eventsOf (c .words))))
 
   -- equal setups
@@ -109,4 +102,4 @@ module _ (s : List ℕ) (c : Compared) (end : ℕ) (e : compared s ≡ got c end
   zero-line = refl
 
   pub equal-setups : c .second ≡ c .first → differenceOf s ≡ ascii "0\n"
-  equal-setups q = text-of-changes ∙ rw q (ap changesText (none-of-itself 1 (map numbers (runs (c .first) (eventsOf (c .words)))))) ∙ zero-line
+  equal-setups q = text-of-changes ∙ rw q (ap changesText (none-of-itself 1 (map numbers (firstRun c)))) ∙ zero-line

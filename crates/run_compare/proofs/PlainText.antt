@@ -1,14 +1,13 @@
 -- The text of an input is the one that the plain kernel gives: the rules' demand 3, for both runs. Any words make events of 32-bit words, so nothing is
 -- asked of the bytes. Assumes nothing.
 use mathlib.Core.List.{List, [], _∷_, map}
-use mathlib.Core.Path.{_≡_, refl, ap, _∙_}
+use mathlib.Core.Path.{_≡_, refl}
 use Prim.Native.Nat.{ℕ, _+_, _-_, _*_, _≤_}
 use native.Mathlib.Omega.{arith}
-use lib.IntN.{ℤ}
 use lib.ListN.{length, take, drop}
-use Rattle.rules.specs.Setup.{Fault, Read, got, refused, Setup, readSetup}
+use Rattle.rules.specs.Setup.{Read, got, refused, Setup, readSetup}
 use Rattle.rules.specs.Events.{Event, eventsOf, AllWords}
-use Rattle.rules.specs.Answers.{Answer, numbers}
+use Rattle.rules.specs.Answers.{numbers}
 use Rattle.rules.specs.View.{View}
 use Rattle.rules.specs.Kernel.{event, fresh}
 use Rattle.rules.specs.Plain.{Plain, plainFresh, plainNext}

@@ -1,17 +1,17 @@
 -- What was judged of an input decides its text. Assumes nothing.
-use mathlib.Core.List.{List, map}
-use mathlib.Core.Path.{_≡_, ap, _∙_, subst}
-use Prim.Native.Nat.{ℕ, _+_, _*_, _≤_}
+use mathlib.Core.List.{List}
+use mathlib.Core.Path.{_≡_, ap, subst}
+use Prim.Native.Nat.{ℕ, _≤_}
 use native.Mathlib.Omega.{arith}
 use lib.IntN.{ℤ}
 use lib.ListN.{length, take}
 use Rattle.rules.specs.Setup.{wordAt}
 use Rattle.run_text.specs.Lines.{refusal}
-use Rattle.run_compare_reading.specs.Compared.{mostCompared, Refuses, Lies, Judges}
+use Rattle.run_compare_reading.specs.Compared.{inputBytes, Refuses, Lies, Judges}
 use Rattle.run_compare_reading.specs.declared.Places.{Places}
 use Rattle.run_compare_reading.specs.declared.Places.the-variants.{Bad, Good}
 use Rattle.run_compare_reading.proofs.Offset.{rest-got}
-use Rattle.run_compare_reading.proofs.Later.{inputBytes, later-bytes}
+use Rattle.run_compare_reading.proofs.Later.{later-bytes}
 use Rattle.run_compare_text.specs.declared.Told.{Told}
 use Rattle.run_compare_text.specs.Output.{Shown}
 use Rattle.run_compare_text.specs.Rows.{textIn, Lent, lentIn}

@@ -1,5 +1,5 @@
 -- The first bytes decide: nothing that is read depends on a byte behind them, since no input that is accepted has so many. Assumes nothing.
-use mathlib.Core.Bool.{Bool, true, false, cond}
+use mathlib.Core.Bool.{Bool, true, false}
 use mathlib.Core.List.{List, [], _∷_, map}
 use mathlib.Core.Path.{_≡_, refl, ap, _∙_}
 use Prim.Native.Nat.{ℕ, zero, suc, _+_, _-_, _*_, _≤_, _<_}
@@ -7,11 +7,11 @@ use native.Mathlib.Omega.{arith}
 use lib.Dec.{leb}
 use lib.ListN.{length, take, getD, length-take}
 use borrow.Author.Tests.{lt-leb, leb-true, leb-false}
-use Rattle.rules.specs.Setup.{Read, got, refused, and-then, Setup, readSection, readSetup, at-end}
+use Rattle.rules.specs.Setup.{Read, got, refused, and-then, readSection, readSetup, at-end}
 use Rattle.rules.specs.Writing.{joined}
-use Rattle.run_reading.specs.Recorded.{headBytes, eventBytes, signedWord}
+use Rattle.run_reading.specs.Recorded.{headBytes, signedWord}
 use Rattle.run_reading.proofs.Reach.{reach, Steady, steady-got, steady-then, section-steady, setup-steady, getD-take}
-use Rattle.run_compare_reading.specs.Compared.{Compared, mostCompared, events, readEvents, compared}
+use Rattle.run_compare_reading.specs.Compared.{Compared, inputBytes, events, readEvents, compared}
 
 -- all but the end
 unfoldable readAll : List ℕ → Read Compared
@@ -42,10 +42,7 @@ take-all [] (suc n) h = refl
 take-all (x ∷ s) zero h = absurd (omega (arith, h))
 take-all (x ∷ s) (suc n) h = ap (λ (l : List ℕ). x ∷ l) (take-all s n (omega (arith, h)))
 
--- the bytes of the constant INPUT
-abbrev pub inputBytes : ℕ
-inputBytes = 2 * headBytes + eventBytes * mostCompared
-
+-- what comes after so many bytes changes nothing
 pub later-bytes : (s : List ℕ) → compared (take inputBytes s) ≡ compared s
 unfolding compared readAll
 later-bytes s = go (leb inputBytes (length s)) refl

@@ -7,7 +7,7 @@ use native.Mathlib.Omega.{arith}
 use lib.Dec.{leb}
 use lib.IntN.{ℤ}
 use lib.ListN.{length}
-use Rattle.rules.specs.Setup.{Fault, S4, digit, Read, got, refused, and-then, Setup, readSetup, at-end}
+use Rattle.rules.specs.Setup.{Fault, S4, Read, got, refused, and-then, Setup, readSetup, at-end}
 use Rattle.rules.proofs.Accepted.{Reads, reads-then, from-read}
 use Rattle.setup.specs.Judging.{judgedOf}
 use Rattle.setup.specs.declared.Judged.{Judged}

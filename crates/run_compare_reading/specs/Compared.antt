@@ -7,7 +7,7 @@ use lib.IntN.{ℤ}
 use lib.ListN.{length}
 use Rattle.rules.specs.Setup.{Fault, digit, Read, got, refused, and-then, wordAt, Range, to, Section, section, readSection, Setup, readSetup, at-end}
 use Rattle.rules.specs.Writing.{joined}
-use Rattle.run_reading.specs.Recorded.{signedWord}
+use Rattle.run_reading.specs.Recorded.{headBytes, eventBytes, signedWord}
 use Rattle.run_compare_reading.specs.declared.Places.{Places}
 use Rattle.run_compare_reading.specs.declared.Places.the-variants.{Bad, Good}
 
@@ -21,6 +21,10 @@ pub record Compared : Type 0 where
 
 abbrev pub mostCompared : ℕ
 mostCompared = 3000
+
+-- more bytes than any input has that is not refused, the constant INPUT
+abbrev pub inputBytes : ℕ
+inputBytes = 2 * headBytes + eventBytes * mostCompared
 
 abbrev pub anyWord : Range
 anyWord = to 0 (2 ^ 32 - 1)

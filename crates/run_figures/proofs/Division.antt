@@ -2,7 +2,7 @@
 use mathlib.Core.Bool.{Bool, true, false, cond}
 use mathlib.Core.List.{List, [], _∷_, _++_, map}
 use mathlib.Core.Path.{_≡_, refl, sym, ap, _∙_, subst}
-use Prim.Native.Nat.{ℕ, zero, suc, _+_, _*_, _/_, _≤_, _<_, min}
+use Prim.Native.Nat.{ℕ, zero, suc, _+_, _*_, _/_, _<_, min}
 use native.Mathlib.Omega.{arith}
 use lib.Dec.{leb}
 use lib.IntN.{ℤ}
@@ -24,9 +24,8 @@ use Rattle.run_reading.specs.Recorder.{Recorder, heading, running, stopped, end
 use Rattle.run_reading.proofs.Division as Reading
 use Rattle.run_tally.specs.Tables.{tableCounted, codesCounted}
 use Rattle.run_text.specs.Text.{Stage, unstarted, at, onward, queues}
-use Rattle.run_figures.specs.declared.Counted.{Counted}
 use Rattle.run_figures.specs.Figures.{Seen, Figures, figures, none, counted, countedAll, stateIn, seenBehind, seenOf, seenFrom, figuresOf}
-use Rattle.run_figures.specs.Counting.{Memory, memory, Lent, seenIn, seenLink, Went, Counts, Taken}
+use Rattle.run_figures.specs.Counting.{Memory, memory, Lent, seenIn, seenLink, Went, Taken}
 use Rattle.run_figures.proofs.Going.{counted-alike, counted-append, went-append}
 
 -- ---- parts in turn

@@ -8,7 +8,7 @@ use lib.Dec.{leb}
 use lib.IntN.{ℤ}
 use lib.ListN.{length, take, getD}
 use borrow.Author.Tests.{le-leb, lt-leb}
-use Rattle.rules.specs.Setup.{Fault, digit, got, setup, Setup}
+use Rattle.rules.specs.Setup.{digit, got, setup, Setup}
 use Rattle.rules.specs.Kernel.{fresh}
 use Rattle.memory_picture.specs.Picture.{tasksShown}
 use Rattle.memory_running.specs.Running.{runningOf}
@@ -21,15 +21,14 @@ use Rattle.kernel_events.specs.Steps.{Reply, Step, Link}
 use Rattle.kernel_events.specs.Serving.{Known}
 use Rattle.kernel_events.proofs.Served.{known-on, known-first}
 use Rattle.call_reading.specs.Reading.{numberAt}
-use Rattle.run_reading.specs.Recorded.{Head, Item, begins, occurs, refuses, eventIn, eventBytes}
+use Rattle.run_reading.specs.Recorded.{Item, begins, occurs, refuses, eventIn, eventBytes}
 use Rattle.run_reading.specs.Recorder.{Recorder, items, after, eat}
-use Rattle.run_reading.proofs.Division.{append-nil, append-assoc, items-append, after-append}
+use Rattle.run_reading.proofs.Division.{append-nil, items-append, after-append}
 use Rattle.run_stream.specs.declared.Completed.{Completed}
 use Rattle.run_stream.specs.declared.Completed.the-variants.{Nothing, Begins, Occurs, Refuses}
-use Rattle.run_stream.specs.Lent.{recorderOf, Tells, Takes}
+use Rattle.run_stream.specs.Lent.{recorderOf, Takes}
 use Rattle.run_tally.specs.Tables.{tableCounted, codesCounted}
 use Rattle.run_figures.specs.declared.Turn.{Turn}
-use Rattle.run_figures.specs.declared.Counted.{Counted}
 use Rattle.run_figures.specs.Figures.{Seen, Figures, figures, counted, countedAll}
 use Rattle.run_figures.specs.Counting.{Memory, memory, Lent, seenIn, seenLink, Went, said, Said, refusalFrom, firstSaid, Counts, Goes, CountsTold}
 

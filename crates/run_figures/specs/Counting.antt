@@ -1,5 +1,5 @@
 -- What counting promises of any lent memory.
-use mathlib.Core.Bool.{Bool, cond, _&&_}
+use mathlib.Core.Bool.{cond, _&&_}
 use mathlib.Core.List.{List, [], _∷_, map}
 use mathlib.Core.Path.{_≡_}
 use Prim.Native.Nat.{ℕ, suc}
@@ -19,7 +19,7 @@ use Rattle.run_stream.specs.declared.Completed.{Completed}
 use Rattle.run_stream.specs.Lent.{recorderOf, Tells}
 use Rattle.run_figures.specs.declared.Counted.{Counted}
 use Rattle.run_figures.specs.declared.Turn.{Turn}
-use Rattle.run_figures.specs.Figures.{Seen, Figures, counted, countedAll}
+use Rattle.run_figures.specs.Figures.{Seen, Figures, countedAll}
 
 -- ---- what is lent
 

@@ -6,13 +6,13 @@ use mathlib.Core.Path.{_≡_, refl, sym, ap, _∙_}
 use Prim.Native.Nat.{ℕ, zero, suc, _+_, _≤_, _<_, _^_, min}
 use native.Mathlib.Omega.{arith}
 use lib.Dec.{ltb, eqb}
-use lib.ListN.{length, getD, replicate, length-replicate, getD-replicate, length-map}
+use lib.ListN.{length, getD, length-replicate, getD-replicate, length-map}
 use lib.Seq.{ext-getD}
 use borrow.Author.Tests.{lt-ltb, le-ltb, ltb-true, ltb-false}
 use Rattle.run_month.specs.declared.Record.{Record}
 use Rattle.run_month.specs.declared.Sum.{Sum}
 use Rattle.run_month.specs.Monthly.{sumAt, sumsFrom, counts, totals, fits, refusal, reportOf, Reported}
-use Rattle.run_month.specs.Capped.{capped, cappedAll, none, plusOf, totalFrom, totalOf}
+use Rattle.run_month.specs.Capped.{cappedAll, none, plusOf, totalFrom, totalOf}
 
 -- ---- the exact sums by their number
 

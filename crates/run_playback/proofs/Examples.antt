@@ -1,5 +1,5 @@
 -- The examples hold, by computation. Assumes nothing.
-use mathlib.Core.List.{List, [], _∷_, _++_, map}
+use mathlib.Core.List.{[], _∷_, _++_, map}
 use mathlib.Core.Path.{_≡_, refl}
 use Prim.Native.Nat.{ℕ}
 use Rattle.rules.specs.Setup.{and-then, readWord, readEntry, readEntries, readSection, readSections, readWith, readSetup}

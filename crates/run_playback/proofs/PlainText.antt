@@ -2,19 +2,19 @@
 -- the bytes. Assumes nothing.
 use mathlib.Core.Bool.{Bool, true, false, cond}
 use mathlib.Core.List.{List, [], _∷_, _++_}
-use mathlib.Core.Path.{_≡_, refl, sym, ap, _∙_}
-use Prim.Native.Nat.{ℕ, zero, suc, _+_, _-_, _*_, _/_, _^_, _≤_}
+use mathlib.Core.Path.{_≡_, refl, sym}
+use Prim.Native.Nat.{ℕ, zero, suc, _+_, _-_, _*_, _/_, _^_}
 use native.Mathlib.Omega.{arith}
 use lib.Dec.{leb, ltb}
 use lib.IntN.{ℤ, pos, negsuc}
 use lib.ListN.{length, take, drop}
 use borrow.Author.Tests.{ltb-true, ltb-false}
-use Rattle.rules.specs.Setup.{Fault, S1, S4, Read, got, refused, wordAt}
+use Rattle.rules.specs.Setup.{S1, Read, got, refused, wordAt}
 use Rattle.rules.specs.Events.{Event, eventOf, Word, Words, AllWords}
 use Rattle.rules.specs.Answers.{numbers}
 use Rattle.rules.specs.View.{View, running}
 use Rattle.rules.specs.Kernel.{event, fresh}
-use Rattle.rules.specs.Plain.{Plain, viewOf, plainFresh, plainNext, plainAnswer}
+use Rattle.rules.specs.Plain.{Plain, plainFresh, plainNext}
 use Rattle.rules.specs.Blocks.{Happened}
 use Rattle.rules_runs.specs.Demand3.{happened, Demand3}
 use Rattle.rules.proofs.Accepted.{from-read}
@@ -23,7 +23,7 @@ use Rattle.rules_runs.proofs.Demand3.{demand3}
 use Rattle.run_reading.specs.Recorded.{Head, readHead, signedWord, eventBytes, eventIn, Item, begins, occurs, refuses, eventItems, itemsBehind, itemsOf}
 use Rattle.run_reading.proofs.Reach.{setup-prefix, Parts, head-parts}
 use Rattle.run_text.specs.Lines.{startLine, eventLine}
-use Rattle.run_text.specs.Text.{Stage, unstarted, at, lineOf, onward, linesFrom, queues, plain, textOf, plainTextOf}
+use Rattle.run_text.specs.Text.{unstarted, at, lineOf, onward, linesFrom, queues, plain, textOf, plainTextOf}
 
 -- ---- the words of an event
 

@@ -8,7 +8,7 @@ use native.Mathlib.Nat.{mul-le-mul-right}
 use native.Mathlib.Omega.{arith}
 use lib.Dec.{leb}
 use lib.ListN.{length, take, getD, length-take, length-append}
-use borrow.Author.Tests.{le-leb, lt-leb, leb-true, leb-false}
+use borrow.Author.Tests.{le-leb, leb-true, leb-false}
 use Rattle.rules.specs.Setup.{Fault, S1, S2, S3, S4, Read, got, refused, and-then, wordAt, Range, to, within, readWord, Section, priorities, sections, counters, readEntry, readEntries, readSection, readSections, Setup, entriesOf, setupOf, readWith, readSetup, perhaps, at-end, setup}
 use Rattle.rules.proofs.Accepted.{Reads, from-read, reads-then}
 use Rattle.rules_setups.proofs.Recorded.{from-more, more-alone}

@@ -2,7 +2,7 @@
 use mathlib.Core.Bool.{Bool, true, false, cond, true≢false}
 use mathlib.Core.List.{List, [], _∷_}
 use mathlib.Core.Path.{_≡_, refl, sym, ap, _∙_}
-use Prim.Native.Nat.{ℕ, zero, suc, _+_, _≤_, _<_}
+use Prim.Native.Nat.{ℕ, zero, suc, _≤_, _<_}
 use native.Mathlib.Omega.{arith}
 use lib.Dec.{leb}
 use lib.ListN.{length, take}
@@ -10,15 +10,14 @@ use borrow.Author.Tests.{le-leb, lt-leb, leb-true, leb-false}
 use Rattle.rules.specs.Setup.{Fault, S1, S2, S3, S4, digit, Read, got, refused}
 use Rattle.run_reading.specs.Recorded.{Head, readHead, eventBytes, eventIn, Item, begins, occurs, refuses}
 use Rattle.run_reading.specs.Recorder.{Recorder, heading, running, stopped, ended, isEnded, onEnd, atEnd}
-use Rattle.run_stream.specs.declared.Completed.{Completed}
 use Rattle.run_stream.specs.declared.Completed.the-variants.{Nothing, Begins, Occurs, Refuses}
 use Rattle.run_stream.specs.Lent.{recorderOf, Is, Tells}
 use Rattle.run_text.specs.Lines.{refusal, longestLine}
-use Rattle.run_text.specs.Output.{over, Wrote}
+use Rattle.run_text.specs.Output.{Wrote}
 use Rattle.run_text.proofs.Laid.{laid-over}
 use Rattle.run_recorder.specs.declared.Parted.{Parted}
 use Rattle.run_recorder.specs.Running.{Memory, Ran}
-use Rattle.run_recorder.specs.Recording.{said, taken, S5, full, refusalIn, Ends, EndsRefused, EndsQuiet}
+use Rattle.run_recorder.specs.Recording.{taken, Ends, EndsRefused, EndsQuiet}
 use Rattle.run_recorder.proofs.Items.{ran-one}
 
 -- ---- a refusal's line

@@ -9,7 +9,7 @@ use lib.Dec.{leb}
 use lib.ListN.{length, take, drop, getD, length-append, length-drop, drop-of-length-le}
 use borrow.Rule.Slice.PartMut.{midOf, putMid}
 use borrow.Author.Tests.{le-leb, lt-leb}
-use Rattle.rules.specs.Setup.{Fault, S1, S2, S3, S4, digit}
+use Rattle.rules.specs.Setup.{S1, S2, S3, S4, digit}
 use Rattle.memory_running.specs.Running.{runningOf}
 use Rattle.check_damage.specs.declared.Breach.{Breach}
 use Rattle.check_damage.specs.Judged.{Judged}
@@ -17,14 +17,13 @@ use Rattle.kernel_events.specs.Serving.{Known}
 use Rattle.kernel_events.proofs.Served.{known-first}
 use Rattle.run_reading.specs.Recorded.{Item, begins, occurs, refuses}
 use Rattle.run_reading.specs.Recorder.{Recorder, closed, eat, items, after}
-use Rattle.run_reading.proofs.Division.{items-append, after-append, closed-items}
+use Rattle.run_reading.proofs.Division.{items-append, after-append}
 use Rattle.run_text.specs.Lines.{longestLine}
 use Rattle.run_text.specs.Output.{over, laid, Wrote}
 use Rattle.run_text.proofs.Laid.{laid-over}
-use Rattle.run_recorder.specs.declared.Parted.{Parted}
 use Rattle.run_recorder.specs.declared.Turn.{Turn}
-use Rattle.run_recorder.specs.Running.{Memory, Does, Then, Ran}
-use Rattle.run_recorder.specs.Recording.{Lent, recorderIn, memoryIn, Said, said, taken, S5, full, refusalIn, partSays, Parts, Plays, Eats}
+use Rattle.run_recorder.specs.Running.{Memory, Ran}
+use Rattle.run_recorder.specs.Recording.{Lent, recorderIn, memoryIn, Said, said, taken, S5, full, refusalIn, Parts, Plays, Eats}
 
 -- ---- lists
 

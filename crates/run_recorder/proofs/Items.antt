@@ -1,12 +1,10 @@
 -- What each item does to the memory, and its line: from what the functions that do it promise. Assumes nothing.
-use mathlib.Core.List.{List, [], _∷_, _++_, append-nil}
-use mathlib.Core.Path.{_≡_, refl, sym, ap, _∙_, subst}
-use Prim.Native.Nat.{ℕ, _+_, _≤_}
+use mathlib.Core.List.{List, [], _∷_, append-nil}
+use mathlib.Core.Path.{_≡_, refl, sym, ap, _∙_}
+use Prim.Native.Nat.{ℕ, _≤_}
 use native.Mathlib.Omega.{arith}
 use lib.ListN.{length, take}
-use Rattle.rules.specs.Setup.{Fault, digit}
-use Rattle.rules.specs.Events.{Event}
-use Rattle.rules.specs.View.{View, running}
+use Rattle.rules.specs.View.{running}
 use Rattle.rules.specs.Kernel.{fresh}
 use Rattle.memory_running.specs.Running.{runningOf}
 use Rattle.memory_running.proofs.Running.{running-law}
@@ -16,18 +14,17 @@ use Rattle.kernel_start.specs.declared.Started.{Started}
 use Rattle.kernel_start.specs.Starting.{Starts}
 use Rattle.kernel_start.proofs.Fresh.{Holds}
 use Rattle.kernel_events.specs.Steps.{Reply, reply}
-use Rattle.kernel_events.specs.Serving.{Known, Serves}
+use Rattle.kernel_events.specs.Serving.{Serves}
 use Rattle.kernel_events.proofs.Served.{known-on, known-first}
 use Rattle.kernel_demands.specs.Demands.{figures}
 use Rattle.kernel_demands.proofs.Chains.{start-holds}
 use Rattle.run_reading.specs.Recorded.{eventIn, Item, begins, occurs, refuses}
 use Rattle.run_stream.specs.declared.Completed.the-variants.{Nothing, Begins, Occurs, Refuses}
-use Rattle.run_stream.specs.Lent.{Tells}
 use Rattle.run_text.specs.Lines.{startLine, eventLine, refusal, longestLine}
 use Rattle.run_text.specs.Output.{laid, Wrote}
 use Rattle.run_recorder.specs.declared.Turn.{Turn}
-use Rattle.run_recorder.specs.Running.{Memory, memory, Answered, Does, Ran}
-use Rattle.run_recorder.specs.Recording.{said, Plays, PlaysTold}
+use Rattle.run_recorder.specs.Running.{Memory, memory, Does, Ran}
+use Rattle.run_recorder.specs.Recording.{said, PlaysTold}
 
 -- a line that was written is as long as what was counted
 long : {line t t′ : List ℕ} {w : ℕ} → Wrote line 0 t t′ w → w ≤ longestLine → length line ≤ longestLine

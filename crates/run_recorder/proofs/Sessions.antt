@@ -6,23 +6,20 @@ use Prim.Native.Nat.{ℕ, zero, suc, _+_, _≤_, _<_}
 use native.Mathlib.Omega.{arith}
 use lib.Dec.{leb}
 use lib.ListN.{length, take, drop}
-use Rattle.rules.specs.Setup.{Fault, S1, S2, S3, S4, digit, Read, got, refused}
+use Rattle.rules.specs.Setup.{S1, S2, S3, S4, Read, got, refused}
 use Rattle.rules.specs.View.{View}
-use Rattle.rules.specs.Writing.{joined}
-use Rattle.rules.specs.Answers.{Answer, numbers}
-use Rattle.rules.specs.Kernel.{event}
-use Rattle.kernel_start.proofs.Fresh.{Holds}
-use Rattle.kernel_events.specs.Steps.{Reply, told}
+use Rattle.rules.specs.Answers.{numbers}
+use Rattle.kernel_events.specs.Steps.{Reply}
 use Rattle.kernel_demands.specs.Demands.{figures}
 use Rattle.kernel_demands.proofs.Chains.{step-holds, step-says}
-use Rattle.run_reading.specs.Recorded.{eventBytes, eventIn, Head, readHead, Item, begins, occurs, refuses, itemsOf}
+use Rattle.run_reading.specs.Recorded.{eventBytes, eventIn, Head, readHead, Item, begins, occurs, refuses}
 use Rattle.run_reading.specs.Recorder.{Recorder, heading, running, stopped, ended, begun, closed, isEnded, Fed, fed, onHead, eat, items, after, atEnd, onEnd}
 use Rattle.run_reading.proofs.Division.{items-append, after-append, closed-items, whole}
 use Rattle.run_text.specs.Lines.{eventLine}
 use Rattle.run_text.specs.Text.{Stage, unstarted, at, lineOf, onward, linesFrom, stageFrom, queues, textOf, stateOf}
 use Rattle.run_stream.specs.Lent.{recorderOf, Is}
 use Rattle.run_recorder.specs.declared.Parted.{Parted}
-use Rattle.run_recorder.specs.Running.{Memory, memory, Does, Ran}
+use Rattle.run_recorder.specs.Running.{Memory, Does, Ran}
 use Rattle.run_recorder.specs.Recording.{Lent, lent, recorderIn, memoryIn, Said, said, taken, S5, full, refusalIn, Says, Parts, Ends}
 use Rattle.run_recorder.specs.Sessions.{Shows, Recorded, isRefusal, Handed, Division, lastLeft, bytesTaken, textWritten, firstSaid, Whole}
 use Rattle.run_recorder.proofs.Going.{take-front}

@@ -12,7 +12,7 @@ use Rattle.run_reading.specs.Recorded.{itemsOf}
 use Rattle.run_reading.specs.Recorder.{begun, items, after}
 use Rattle.run_text.specs.Text.{Stage, unstarted, at, stageFrom, queues, textOf, stateOf}
 use Rattle.run_recorder.specs.declared.Parted.{Parted}
-use Rattle.run_recorder.specs.Running.{Memory, memory}
+use Rattle.run_recorder.specs.Running.{Memory}
 use Rattle.run_recorder.specs.Recording.{Lent, recorderIn, memoryIn, Said, said, taken, refusalIn, Parts, Ends}
 
 -- the memory shows where the run stands; before the start line it may hold anything

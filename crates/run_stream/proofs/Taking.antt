@@ -1,13 +1,13 @@
 -- What a byte makes of the lent numbers and bytes is what it makes of the recorder that they are. Assumes nothing.
-use mathlib.Core.Bool.{Bool, true, false, cond}
+use mathlib.Core.Bool.{Bool, cond}
 use mathlib.Core.List.{List, [], _∷_, _++_}
 use mathlib.Core.Logic.{_≢_}
-use mathlib.Core.Path.{_≡_, refl, sym, ap, _∙_, subst}
+use mathlib.Core.Path.{_≡_, refl, sym, ap, _∙_}
 use Prim.Native.Nat.{ℕ, zero, suc, _+_, _-_, _*_, _/_, _≤_, _<_, min}
 use native.Mathlib.Omega.{arith}
 use native.Mathlib.Numerals.{add-one}
-use lib.Dec.{leb, eqb}
-use lib.ListN.{length, take, set, getD, length-take, length-append}
+use lib.Dec.{leb}
+use lib.ListN.{length, take, set, length-take}
 use borrow.Author.Tests.{le-leb, lt-leb}
 use Rattle.rules.specs.Setup.{Fault, S1, S2, S3, S4, digit, Read, got, refused, wordAt, setup}
 use Rattle.rules.proofs.Accepted.{from-read}
@@ -15,8 +15,8 @@ use Rattle.setup.specs.Judging.{judgedOf}
 use Rattle.setup.specs.declared.Judged.{Judged}
 use Rattle.setup.specs.declared.Judged.the-variants.{Bad, Good}
 use Rattle.setup.proofs.Judging.{good-read, bad-read}
-use Rattle.run_reading.specs.Recorded.{headBytes, eventBytes, eventIn, Head, readHead, Item, begins, occurs, refuses}
-use Rattle.run_reading.specs.Recorder.{Recorder, heading, running, stopped, ended, begun, closed, isEnded, Fed, fed, onFault, onHead, eat, onEnd, atEnd}
+use Rattle.run_reading.specs.Recorded.{headBytes, eventBytes, eventIn, Head, readHead, begins, occurs, refuses}
+use Rattle.run_reading.specs.Recorder.{heading, running, stopped, ended, begun, closed, isEnded, Fed, fed, onFault, onHead, eat, onEnd, atEnd}
 use Rattle.run_reading.proofs.Reach.{setup-prefix, needs-more, Parts, head-parts}
 use Rattle.run_stream.specs.declared.Completed.{Completed}
 use Rattle.run_stream.specs.declared.Completed.the-variants.{Nothing, Begins, Occurs, Refuses}

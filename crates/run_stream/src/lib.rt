@@ -9,7 +9,6 @@ ghost use mathlib.Core.List.{[], _∷_, _++_};
 ghost use mathlib.Core.Path.{_≡_};
 ghost use Prim.Native.Nat.{_+_, _-_, _≤_, _<_, min};
 ghost use lib.ListN.{length, take};
-ghost use Rattle.run_reading.specs.Recorded.{headBytes};
 ghost use Rattle.run_reading.specs.Recorder.{ended, begun, closed, isEnded, atEnd};
 ghost use Rattle.run_stream.specs.Lent.{phase, size, placeOf, numbersOf, recorderOf, Is, Tests, Tells, Takes};
 

@@ -19,7 +19,7 @@ use Rattle.rules.proofs.Sizes.{sizes-afters}
 use Rattle.rules.proofs.Cells.{body-acts}
 use Rattle.rules.proofs.Broken.{tasks-next}
 use Rattle.run_reading.specs.Recorded.{Head, Item, begins, occurs, refuses, eventBytes, eventIn, eventItems, itemsBehind, readHead, itemsOf}
-use Rattle.run_text.specs.Text.{Stage, unstarted, at, onward, queues}
+use Rattle.run_text.specs.Text.{unstarted, at, onward}
 use Rattle.run_figures.specs.Figures.{Seen, seenFrom}
 use Rattle.run_totals.specs.Adding.{tasksOf, occurring, ran, ranWith}
 use Rattle.run_totals.proofs.Rows.{having}

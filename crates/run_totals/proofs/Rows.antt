@@ -1,12 +1,12 @@
 -- One event raises each row of a task that there is by one, and the codes by one. Assumes nothing.
 use mathlib.Core.Bool.{Bool, true, false, cond}
 use mathlib.Core.List.{List, [], _∷_}
-use mathlib.Core.Path.{_≡_, refl, sym, ap, _∙_}
+use mathlib.Core.Path.{_≡_, refl, ap, _∙_}
 use Prim.Native.Nat.{ℕ, zero, suc, _+_, _-_, _^_, _≤_, _<_, min}
 use native.Mathlib.Omega.{arith}
 use lib.Dec.{ltb}
 use lib.ListN.{length, getD, set, length-set}
-use borrow.Author.Tests.{lt-ltb, le-ltb, ltb-true, ltb-false}
+use borrow.Author.Tests.{lt-ltb, ltb-true, ltb-false}
 use Rattle.rules.specs.Ids.{once}
 use Rattle.rules.specs.Codes.{Code, number}
 use Rattle.rules.specs.Codes as Codes
@@ -14,7 +14,7 @@ use Rattle.rules.specs.State.{State, dormant, ready, suspended, absent, waiting
 use Rattle.rules.specs.Tasks.{stateNumber}
 use Rattle.run_tally.specs.Tables.{more, raised, states, tableCounted, placeIn, placeOf}
 use Rattle.run_figures.specs.Figures.{mostTasks, Figures, Seen, counted, countedAll}
-use Rattle.run_totals.specs.Adding.{sum}
+use Rattle.run_totals.specs.Adding.{sum, row}
 
 -- ---- a row
 
@@ -59,9 +59,6 @@ row-out (suc n) f (r ∷ t) zero h = absurd (omega (arith, h))
 row-out (suc n) f (r ∷ t) (suc i) h = row-out n (λ j. f (suc j)) t i (omega (arith, h))
 
 -- ---- an event
-
-abbrev pub row : Figures → ℕ → List ℕ
-row f i = getD (f .table) i []
 
 -- figures of k events at most
 pub record Shaped (f : Figures) (k : ℕ) : Type 0 where

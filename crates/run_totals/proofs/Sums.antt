@@ -15,10 +15,10 @@ use Rattle.run_month.specs.Monthly.{sumAt}
 use Rattle.run_tally.specs.Tables.{Flat}
 use Rattle.run_reading.specs.Recorded.{mostEvents, Head, Item, begins, occurs, refuses, eventBytes, eventIn, eventItems, itemsBehind, readHead, itemsOf}
 use Rattle.run_reading.proofs.Reach.{Parts, head-parts}
-use Rattle.run_text.specs.Text.{Stage, unstarted, at, onward, queues}
+use Rattle.run_text.specs.Text.{Stage, unstarted, at, onward}
 use Rattle.run_figures.specs.Figures.{none, seenFrom, figuresOf}
-use Rattle.run_totals.specs.Adding.{sum, part, totalled, occurring, ran, ranWith, RecordsOf, over}
-use Rattle.run_totals.proofs.Rows.{row, Shaped, AllProper, rows-add, codes-add, all-shaped, state-proper, code-proper}
+use Rattle.run_totals.specs.Adding.{sum, row, part, totalled, occurring, ran, ranWith, RecordsOf, over}
+use Rattle.run_totals.proofs.Rows.{Shaped, AllProper, rows-add, codes-add, all-shaped, state-proper, code-proper}
 use Rattle.run_totals.proofs.Kept.{seen, run-having, run-seen}
 
 -- ---- what is seen of a run

@@ -3,17 +3,21 @@ use mathlib.Core.Bool.{cond}
 use mathlib.Core.List.{List, [], _∷_}
 use Prim.Native.Nat.{ℕ, zero, suc, _+_}
 use lib.Dec.{ltb}
-use lib.ListN.{length}
+use lib.ListN.{length, getD}
 use Rattle.rules.specs.Setup.{Read, got, refused}
 use Rattle.run_month.specs.declared.Record.{Record}
 use Rattle.run_month.specs.Monthly.{sumAt}
 use Rattle.run_tally.specs.Tables.{Flat}
 use Rattle.run_reading.specs.Recorded.{Head, Item, begins, occurs, refuses, readHead, itemsOf}
-use Rattle.run_figures.specs.Figures.{figuresOf}
+use Rattle.run_figures.specs.Figures.{Figures, figuresOf}
 
 unfoldable pub sum : List ℕ → ℕ
 sum [] = 0
 sum (x ∷ l) = x + sum l
+
+-- the counts of task i + 1, by state
+abbrev pub row : Figures → ℕ → List ℕ
+row f i = getD (f .table) i []
 
 -- n numbers from k on
 unfoldable pub part : (ℕ → ℕ) → ℕ → ℕ → ℕ

@@ -2,12 +2,12 @@
 use mathlib.Core.Bool.{Bool, true, false, cond}
 use mathlib.Core.List.{List, [], _∷_}
 use mathlib.Core.Path.{_≡_, refl, sym, ap, _∙_}
-use Prim.Native.Nat.{ℕ, zero, suc, _+_, _-_, _*_, _≤_, _<_, min}
+use Prim.Native.Nat.{ℕ, zero, suc, _+_, _-_, _≤_, _<_}
 use native.Mathlib.Nat.{min-eq-left}
 use native.Mathlib.Omega.{arith}
 use lib.Dec.{eqb, leb}
 use lib.ListN.{length}
-use Rattle.rules.specs.Setup.{Fault, S1, S2, S3, S4, digit, Read, got, refused, and-then, wordAt, Range, to, within, readWord, Section, priorities, sections, alarmRanges, counters, readEntry, readEntries, readSection, readSections, entriesOf, setupOf, readWith, readSetup, perhaps, at-end, setup}
+use Rattle.rules.specs.Setup.{Fault, S1, S2, S3, S4, digit, Read, got, refused, and-then, wordAt, Range, to, within, readWord, Section, priorities, sections, alarmRanges, counters, readEntry, readEntries, readSection, readSections, entriesOf, setupOf, readWith, perhaps, at-end, setup}
 use Rattle.setup.specs.Judging.{judgedOf, toldAs, leftOut, onGood}
 use Rattle.setup.specs.Layout.{onward}
 use Rattle.setup.specs.declared.Judged.{Judged}

@@ -10,7 +10,7 @@ use lib.Dec.{eqb, leb}
 use borrow.Author.Tests.{leb-true}
 use lib.ListN.{length, drop, getD, length-map, List·getD-eq-default}
 use Rattle.rules.specs.Ids.{of, In, Each}
-use Rattle.rules.specs.Setup.{S4, Read, got, refused, wordAt, Range, Section, section, priorities, sections, alarmRanges, counters, readSection, readSections, Entry, AlarmEntry, CounterEntry, Setup, entriesOf, wordOf, taskEntry, alarmEntries, counterEntry, setupOf, readWith, readSetup, perhaps, at-end, setup}
+use Rattle.rules.specs.Setup.{S4, Read, got, refused, wordAt, Range, Section, section, priorities, sections, alarmRanges, counters, readSection, readSections, Entry, CounterEntry, Setup, entriesOf, wordOf, taskEntry, alarmEntries, counterEntry, setupOf, readWith, readSetup, perhaps, at-end, setup}
 use Rattle.rules.proofs.Accepted.{Reads, Fits, SectionFits, section-reads, reads-then, from-read}
 use Rattle.setup.specs.Layout.{partAt, planOf, entryAt, alarmsAt, counterAt, PlanShows, PlanFits}
 use Rattle.setup.proofs.Reading.{RowsAt, section-lies}

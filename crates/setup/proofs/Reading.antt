@@ -7,7 +7,7 @@ use Prim.Native.Nat.{ℕ, zero, suc, _+_, _*_, _<_}
 use native.Mathlib.Omega.{arith}
 use lib.Dec.{leb}
 use lib.ListN.{length, getD}
-use Rattle.rules.specs.Setup.{Fault, S1, S2, S3, Read, got, refused, and-then, wordAt, Range, within, readWord, Section, readEntry, readEntries, readSection}
+use Rattle.rules.specs.Setup.{Fault, S1, S2, S3, got, refused, wordAt, Range, within, readWord, Section, readEntry, readEntries, readSection}
 use Rattle.rules.proofs.Accepted.{Reads, reads-then}
 
 module _ (s : List ℕ) where

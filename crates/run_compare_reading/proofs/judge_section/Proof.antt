@@ -1,5 +1,5 @@
 -- `judge_section`: the words go by what was judged of the count. Assumes nothing.
-use mathlib.Core.Path.{_≡_, refl, sym, _∙_}
+use mathlib.Core.Path.{_≡_, sym, _∙_}
 use Prim.Native.Nat.{_*_}
 use lib.ListN.{replicate}
 use Rattle.rules.specs.Setup.{S2, wordAt, readEntry}

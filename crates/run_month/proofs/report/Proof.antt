@@ -1,5 +1,5 @@
 -- `report`: the three refusals in order, then the sums. Assumes nothing.
-use mathlib.Core.Path.{_≡_, refl, sym, _∙_}
+use mathlib.Core.Path.{refl, sym, _∙_}
 use borrow.Author.Tests.{lt-ltb, le-ltb, eq-eqb, ne-eqb, not-true, not-false}
 use Rattle.run_month.specs.Monthly.{refusal}
 use borrow.Author.Needs.{needs}

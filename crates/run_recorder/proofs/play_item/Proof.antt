@@ -1,6 +1,5 @@
 -- `play_item`: by what was completed. Assumes nothing.
 use denote.Ref.{now}
-use native.Mathlib.Omega.{arith}
 use Rattle.run_recorder.proofs.Items.{plays-nothing, plays-refuses}
 use borrow.Author.Needs.{needs}
 use Rattle.run_recorder.proofs.play_item.Statement.{statement}

@@ -1,5 +1,5 @@
 -- `judge_section`: the entries go by what was judged of the count. Assumes nothing.
-use mathlib.Core.Path.{_≡_, refl, sym, _∙_}
+use mathlib.Core.Path.{_≡_, sym, _∙_}
 use Rattle.rules.specs.Setup.{S2, wordAt, to, section, readEntries, readSection}
 use Rattle.setup.specs.Judging.{judgedOf, onGood, rangesOf}
 use Rattle.setup.proofs.Judging.{section-judged, word-told}
