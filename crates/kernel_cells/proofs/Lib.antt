@@ -1,2 +1,3 @@
 -- Laws of what is read.
 pub mod Promised
+pub mod Listing

@@ -1,17 +1,23 @@
--- What is read of a memory, and of its running task, from the verdict on it. Assumes nothing.
+-- What is read of a memory, of its tasks' states and its running task, from the verdict on it. Assumes nothing.
 use mathlib.Core.Bool.{Bool, true, false, _||_, true≢false}
 use mathlib.Core.List.{List}
-use mathlib.Core.Logic.{_↔_}
+use mathlib.Core.Logic.{_↔_, _≢_}
 use mathlib.Core.Path.{_≡_, refl, sym, ap, _∙_}
-use Prim.Native.Nat.{ℕ}
-use lib.IntN.{ℤ}
+use Prim.Native.Nat.{ℕ, _≤_, _<_, _^_}
+use native.Mathlib.Omega.{arith}
+use lib.IntN.{ℤ, pos}
 use lib.Dec.{eqb}
 use lib.ListN.{length}
+use lib.Signed.{mag}
 use borrow.Author.Tests.{eq-eqb, ne-eqb}
-use Rattle.rules.specs.Codes.{E-NOEXS, number}
+use mir.Syntax.{w32}
+use mir.Val.{toZ, ofZ}
+use Rattle.rules.specs.Ids.{In}
+use Rattle.rules.specs.Codes.{OK, E-NOEXS, number}
 use Rattle.rules.specs.Breach.{breach}
 use Rattle.rules.specs.Events.{nat, outside}
 use Rattle.rules.specs.Answers.{readCell}
+use Rattle.rules.specs.Tasks.{tsk-sts}
 use Rattle.rules.specs.State.{Task, task, nobody, isAbsent}
 use Rattle.rules.proofs.Ids.{of-ids, length-ids}
 use Rattle.rules.proofs.Waits.{in-by}
@@ -19,8 +25,12 @@ use Rattle.memory_columns.specs.Layout as Layout
 use Rattle.memory_columns.specs.Layout.{entry}
 use Rattle.memory_picture.specs.Picture.{taskShown, tasksShown, bodyShown, viewShown, Accepted}
 use Rattle.memory_running.specs.Running.{runningOf}
-use Rattle.call_words.proofs.Tasks.{absent-read}
-use Rattle.kernel_cells.specs.Promises.{kept, Reads, Runs}
+use Rattle.check_damage.specs.Judged.{Judged}
+use Rattle.call_words.proofs.Signed.{signed}
+use Rattle.call_words.proofs.Tasks.{tasks-count, few-tasks, absent-read}
+use Rattle.call_reading.specs.Reading.{numberAt}
+use Rattle.call_reading.proofs.Readings.{number-read}
+use Rattle.kernel_cells.specs.Promises.{kept, Reads, Runs, Listed, Lists}
 use Rattle.memory_running.proofs.Running.{running-law}
 
 module _ {b msgs : List ℕ} {r : Bool} (law : (r ≡ true) ↔ Accepted b msgs) where
@@ -74,3 +84,27 @@ module _ {b msgs : List ℕ} {r : Bool} (law : (r ≡ true) ↔ Accepted b msgs)
 
   pub idle : r ≡ false → Runs b msgs 0
   idle e = record { sound = λ h. absurd (refuted e h); damaged = λ h. refl }
+
+-- ---- the states of all tasks
+
+module _ {b msgs : List ℕ} {code : ℤ} {id : ℕ} (J : Judged b msgs code id) where
+  pub unlisted : (s : List ℕ) → ofZ w32 code ≢ 0 → {c : ℤ} → c ≡ code → Lists b msgs c 0 s s
+  unlisted s n e = record { sound = λ h. absurd (n (ap (ofZ w32) (J .exactly .1 h))); damaged = λ h. (e ∙ J .damaged h .0, refl, refl) }
+
+  module _ (f : mag code < 2 ^ 31) (z : ofZ w32 code ≡ 0) {n : ℕ} (en : n ≡ tasksShown b) where
+    accepted : Accepted b msgs
+    accepted = J .exactly .0 (sym (signed code f) ∙ ap (toZ w32) z)
+
+    pub few : n ≤ 32
+    few = omega (arith, en, few-tasks b msgs accepted)
+
+    -- each is a task's, so it is what the rule shows
+    shown : (t : ℕ) → In t n → numberAt b t ≡ tsk-sts (viewShown b msgs) (pos t) .w1
+    unfolding tsk-sts
+    shown t h = sym (number-read b msgs t (omega (arith, h .0), omega (arith, h .1, en, tasks-count b msgs)) accepted)
+
+    pub listed : {old new : List ℕ} → Listed (numberAt b) n old new → Lists b msgs (number OK) n old new
+    listed L = record {
+      sound = λ h. (refl, record { count = en ∙ sym (tasks-count b msgs); states = record { each = λ t k. L .each t k ∙ shown t k; rest = L .rest } });
+      damaged = λ h. absurd (h accepted);
+    }

@@ -1,2 +1,2 @@
--- What is promised of reading a cell and of naming the running task.
+-- What is promised of reading a cell, the states of all tasks and the running task.
 pub mod Promises

@@ -1,12 +1,15 @@
--- What is promised of reading a cell and of naming the running task, on any memory.
+-- What is promised of reading a cell, the states of all tasks and the running task, on any memory.
 use mathlib.Core.List.{List}
 use mathlib.Core.Path.{_≡_}
-use Prim.Native.Nat.{ℕ}
-use lib.IntN.{ℤ}
-use Rattle.rules.specs.Codes.{number}
+use Prim.Native.Nat.{ℕ, _<_}
+use lib.IntN.{ℤ, pos}
+use lib.ListN.{length}
+use Rattle.rules.specs.Ids.{of, In}
+use Rattle.rules.specs.Codes.{number, OK}
 use Rattle.rules.specs.Breach.{breach}
 use Rattle.rules.specs.Answers.{readCell}
-use Rattle.rules.specs.View.{running}
+use Rattle.rules.specs.Tasks.{tsk-sts}
+use Rattle.rules.specs.View.{View, running}
 use Rattle.memory_picture.specs.Picture.{codeOf, viewShown, Accepted}
 
 -- the number of the code that a cell keeps by a small number
@@ -22,3 +25,18 @@ pub record Reads (b msgs : List ℕ) (a : ℤ) (code : ℤ) (word : ℕ) : Type 
 pub record Runs (b msgs : List ℕ) (task : ℕ) : Type 0 where
   pub sound : Accepted b msgs → task ≡ running (viewShown b msgs)
   pub damaged : (Accepted b msgs → ⊥) → task ≡ 0
+
+-- a table read by id: f of each id up to n, and at higher ids what stood there
+pub record Listed (f : ℕ → ℕ) (n : ℕ) (old new : List ℕ) : Type 0 where
+  pub each : (t : ℕ) → In t n → of new t 0 ≡ f t
+  pub rest : (t : ℕ) → n < t → of new t 0 ≡ of old t 0
+
+-- the state of each task is w1 of tsk_sts's rule, which has 6 for a task that is not there
+pub record StatesOf (v : View) (tasks : ℕ) (old new : List ℕ) : Type 0 where
+  pub count : tasks ≡ length (v .body .tasks)
+  pub states : Listed (λ t. tsk-sts v (pos t) .w1) tasks old new
+
+-- On a damaged state: the code of what is broken, no task, and all as it was.
+pub record Lists (b msgs : List ℕ) (code : ℤ) (tasks : ℕ) (old new : List ℕ) : Type 0 where
+  pub sound : Accepted b msgs → (code ≡ number OK) × StatesOf (viewShown b msgs) tasks old new
+  pub damaged : (Accepted b msgs → ⊥) → (code ≡ number (breach (viewShown b msgs) .code)) × (tasks ≡ 0) × (new ≡ old)
