@@ -21,6 +21,7 @@ extern "C" {
 
 #define OKROZUMBA_STATE_WORDS 1760
 #define OKROZUMBA_MESSAGES 256
+#define OKROZUMBA_TASKS 32
 
 /* The kernel's memory, 8064 bytes. Only the functions below give its words a meaning. A copy of it is a second kernel in the same state. */
 typedef struct okrozumba_state {
@@ -91,14 +92,15 @@ enum {
     OKROZUMBA_CLEAR_ALL = 2 /* on success the flag's pattern becomes 0 */
 };
 
-/* What tsk_sts gives as a task's state. */
+/* The states of a task, as tsk_sts and okrozumba_states give them. */
 enum {
     OKROZUMBA_DORMANT = 0,
     OKROZUMBA_READY = 1,
     OKROZUMBA_RUN = 2,
     OKROZUMBA_WAIT = 3,
     OKROZUMBA_SUSPEND = 4,
-    OKROZUMBA_WAIT_SUSPEND = 5
+    OKROZUMBA_WAIT_SUSPEND = 5,
+    OKROZUMBA_ABSENT = 6 /* the task is not there, and tsk_sts refuses it */
 };
 
 /* ---- codes */
@@ -156,6 +158,12 @@ typedef struct okrozumba_reading {
     int32_t code;
     uint32_t word;
 } okrozumba_reading;
+
+/* What is shown of all tasks: 0, or the code of what is damaged; and how many tasks the setup has, 0 if the state is damaged. */
+typedef struct okrozumba_shown {
+    int32_t code;
+    uint32_t tasks;
+} okrozumba_shown;
 
 /* What came of a start or a run. The place is the offset of the setup's fault in bytes, 0 if there is none. */
 typedef struct okrozumba_outcome {
@@ -219,6 +227,11 @@ okrozumba_reading okrozumba_cell(const uint32_t words[OKROZUMBA_STATE_WORDS], co
    itself. */
 uint32_t okrozumba_running(const uint32_t words[OKROZUMBA_STATE_WORDS], const uint32_t messages[OKROZUMBA_MESSAGES]);
 
+/* The state of every task at once: that of task t goes to states[t - 1], and the places of higher ids are left. On a damaged state H_NUMBER to
+   H_FREE, and nothing is written. It looks for damage itself. */
+okrozumba_shown okrozumba_states(const uint32_t words[OKROZUMBA_STATE_WORDS], const uint32_t messages[OKROZUMBA_MESSAGES],
+                                 uint32_t states[OKROZUMBA_TASKS]);
+
 /* Events one after the other, five words each: kind, number, a, b, c (of what is no call only the kind counts). The code of event i goes to
    codes[i], its w1, w2, running and released to answers[4 i] and the next three; what lies behind the last is left. The answers are those
    of one call after the other, and it is quicker: the state is looked at for damage once. On a damaged state every event is answered as by
@@ -281,7 +294,6 @@ okrozumba_parted okrozumba_end(uint32_t numbers[OKROZUMBA_NUMBERS], const uint8_
 
 /* ---- figures of recorded runs */
 
-#define OKROZUMBA_TASKS 32
 #define OKROZUMBA_STATES 7
 #define OKROZUMBA_CODES 29
 
@@ -291,9 +303,6 @@ typedef struct okrozumba_figures {
     uint32_t table[OKROZUMBA_TASKS][OKROZUMBA_STATES];
     uint32_t codes[OKROZUMBA_CODES];
 } okrozumba_figures;
-
-/* The state of a task that is not there. */
-#define OKROZUMBA_ABSENT 6
 
 /* The codes in their order, to fill an array with. */
 #define OKROZUMBA_CODES_COUNTED                                                                                                         \

@@ -1,8 +1,8 @@
 //! The functions of the archive, as `include/okrozumba.h` declares them. A reference to an array is passed as C passes a pointer.
 use crate::brightness::{Curve, Light};
-use crate::figures::{Record, CODES, STATES, TASKS};
+use crate::figures::{Record, CODES, STATES};
 use crate::recorder::{HELD, NUMBERS};
-use crate::{Answer, Cell, MESSAGES, STATE_WORDS};
+use crate::{Answer, Cell, MESSAGES, STATE_WORDS, TASKS};
 
 type Words = [u32; STATE_WORDS];
 type Messages = [u32; MESSAGES];
@@ -11,6 +11,12 @@ type Messages = [u32; MESSAGES];
 pub struct Outcome {
     pub number: u32,
     pub place: usize,
+}
+
+#[repr(C)]
+pub struct Shown {
+    pub code: i32,
+    pub tasks: u32,
 }
 
 #[repr(C)]
@@ -79,6 +85,9 @@ extern "C" {
     pub fn okrozumba_cell(words: &Words, messages: &Messages, task: i32) -> Cell;
 
     pub fn okrozumba_running(words: &Words, messages: &Messages) -> u32;
+
+    pub fn okrozumba_states(words: &Words, messages: &Messages, states: &mut [u32; TASKS])
+        -> Shown;
 
     pub fn okrozumba_events(
         words: &mut Words,

@@ -29,7 +29,7 @@ use crate::archive;
 use crate::recorder::{said, Recorder, Said, LINE};
 
 /// Rows of a run's table: tasks by id, from task 1.
-pub const TASKS: usize = 32;
+pub use crate::TASKS;
 /// States of a task: those of tsk_sts, and 6 where it is not there.
 pub const STATES: usize = 7;
 /// The codes that are counted, in their order.

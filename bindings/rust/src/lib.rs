@@ -2,7 +2,7 @@
 //!
 //! A kernel is a [`State`]: two arrays that the program owns. [`State::start`] makes a fresh one from a setup, [`State::call`],
 //! [`State::tick`], [`State::enter`] and [`State::leave`] carry it from event to event, [`State::cell`] reads what a task was last released
-//! from a wait with, [`State::events`] and [`State::run`] play many events at once. Nothing is kept elsewhere: a clone is a second kernel in
+//! from a wait with, [`State::states`] the states of all tasks, [`State::events`] and [`State::run`] play many events at once. Nothing is kept elsewhere: a clone is a second kernel in
 //! the same state. [`playback::play`] gives the text of a recorded run, [`recorder::Recorder`] that of one that comes in parts. [`figures`] counts
 //! recorded runs and adds up a month of them. [`brightness`] is a display's light, whose readings arrive as messages.
 //!
@@ -54,11 +54,17 @@ pub mod figures;
 #[cfg(feature = "std")]
 pub mod playback;
 pub mod recorder;
+mod states;
+
+pub use code::Code;
+pub use states::{TaskState, TaskStates};
 
 /// Words of a state, without the marks of the messages.
 pub const STATE_WORDS: usize = 1760;
 /// Messages that a state has room for.
 pub const MESSAGES: usize = 256;
+/// The most tasks of a setup.
+pub const TASKS: usize = 32;
 /// Words of an event in [`State::events`]: kind, number, a, b, c.
 pub const EVENT_WORDS: usize = 5;
 /// Words that [`State::events`] answers an event with, beside its code: w1, w2, running, released.
@@ -88,7 +94,7 @@ pub mod mode {
     pub const CLEAR_ALL: i32 = 2;
 }
 
-/// What tsk_sts gives as a task's state.
+/// The numbers of a task's states, as tsk_sts gives them ([`TaskState`] has them by name).
 pub mod task_state {
     /// Not started, or ended.
     pub const DORMANT: u32 = 0;
@@ -102,6 +108,8 @@ pub mod task_state {
     pub const SUSPEND: u32 = 4;
     /// Waiting and suspended.
     pub const WAIT_SUSPEND: u32 = 5;
+    /// Not there: deleted and not made again. tsk_sts refuses such a task.
+    pub const ABSENT: u32 = 6;
 }
 
 /// What comes back of an event. `w1` and `w2` are 0 unless a call or a code names them. On a damaged state the code says the first rule

@@ -11,6 +11,7 @@ use brightness_light::Shown;
 use kernel_batches::Batch;
 use kernel_batches::Ran;
 use kernel_cells::Reading;
+use kernel_cells::TASK_PLACES;
 use kernel_events::Answer;
 use kernel_start::Started;
 use memory_columns::STATE_WORDS;
@@ -27,7 +28,7 @@ ghost use mathlib.Core.Path.{_≡_};
 ghost use Prim.Native.Nat.{_≤_};
 ghost use Rattle.rules.specs.Events as Events;
 ghost use Rattle.kernel_events.specs.Steps.{reply, Step};
-ghost use Rattle.kernel_cells.specs.Promises.{Reads, Runs};
+ghost use Rattle.kernel_cells.specs.Promises.{Reads, Runs, Lists};
 ghost use Rattle.kernel_batches.specs.Batches.{batchNumber, lent};
 ghost use Rattle.brightness_curve.specs.Curves.{judgedOf, levelOf};
 ghost use Rattle.brightness_light.specs.Lights.{firstShown, takenOf};
@@ -142,6 +143,19 @@ pub extern "C" fn okrozumba_running(words: &[u32; STATE_WORDS], messages: &[u32;
     ensures { λ r. ⌜ Runs (now (words .entry)) (now (messages .entry)) r ⌝ }
 {
     kernel_cells::running(words, messages)
+}
+
+// The state of each task, as tsk_sts shows it, 6 for a task that is not there. On a damaged state: the code of the first rule broken, no
+// task, and the places as they were.
+#[no_mangle]
+pub extern "C" fn okrozumba_states(
+    words: &[u32; STATE_WORDS],
+    messages: &[u32; 256],
+    states: &mut [u32; TASK_PLACES],
+) -> kernel_cells::Shown
+    ensures { λ r. ⌜ Lists (now (words .entry)) (now (messages .entry)) (r .code) (r .tasks) (now (states .entry)) (now (states .exit)) ⌝ }
+{
+    kernel_cells::states(words, messages, states)
 }
 
 // ---- many events
