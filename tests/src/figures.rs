@@ -62,7 +62,7 @@ impl Figures {
 }
 
 /// As tsk_sts shows it.
-fn state(plain: &Plain, id: u32) -> usize {
+pub fn state(plain: &Plain, id: u32) -> usize {
     match plain.task(id).standing {
         Standing::Dormant => 0,
         Standing::Ready if plain.running() == Some(id) => 2,

@@ -5,6 +5,7 @@ mod aimed;
 mod worked;
 
 use crate::pair::{serve, Pair};
+use crate::states::shows_damage;
 use crate::Verdict;
 use okrozumba::{Answer, State, MESSAGES, STATE_WORDS};
 use second::layout;
@@ -61,7 +62,7 @@ fn report(what: &str, breach: Breach, got: impl std::fmt::Debug, state: &State) 
     )
 }
 
-/// Code and id for every event, alone and in a batch; the code for every cell; nothing runs; nothing changes.
+/// Code and id for every event, alone and in a batch; the code for every cell and for the states; nothing runs; nothing changes.
 pub fn answers_damage(state: &State, breach: Breach, events: &[Event]) -> Result<(), String> {
     let mut kernel = state.clone();
     let refused = Answer {
@@ -84,6 +85,9 @@ pub fn answers_damage(state: &State, breach: Breach, events: &[Event]) -> Result
     if kernel.running() != 0 {
         return Err(report("running task", breach, kernel.running(), state));
     }
+    if !shows_damage(&kernel, breach.code) {
+        return Err(report("the states", breach, kernel.states(), state));
+    }
     let (mut codes, mut answers) = ([7; 5], [7; 20]);
     let got = kernel.events(&FIVE_EVENTS, &mut codes, &mut answers);
     let told = [breach.id, 0, 0, 0].repeat(5);
@@ -102,6 +106,7 @@ pub fn answers_sound(state: &State, picture: &Picture, events: &[Event]) -> Resu
         let mut pair = Pair::of(state.clone(), Plain::standing(picture));
         pair.same_running()?;
         pair.same_cell(1)?;
+        pair.same_states()?;
         pair.event(*event)?;
         pair.same_picture()?;
     }

@@ -17,6 +17,7 @@ mod records;
 mod refused;
 mod runs;
 mod sheet;
+mod states;
 
 use std::process::ExitCode;
 use std::thread;
@@ -27,9 +28,10 @@ pub type Verdict = Result<String, String>;
 
 type Part = (&'static str, fn() -> Verdict);
 
-const PARTS: [Part; 13] = [
+const PARTS: [Part; 14] = [
     ("bench sheet", sheet::check),
     ("random runs", runs::check),
+    ("states of all tasks", states::check),
     ("handlers", handlers::check),
     ("drawn states", drawn::check),
     ("damaged states", damage::check),
