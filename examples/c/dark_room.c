@@ -19,7 +19,7 @@
        0 lux in slot 3: message 3 sent by a handler, display runs: set, level 8
        message 4 has no slot: received at once: no slot, level 8
        memory overwritten: resumed: waits, level 8 */
-#include "okrozumba.h"
+#include "okrozumba_calls.h"
 
 #include <inttypes.h>
 #include <stdio.h>
@@ -45,7 +45,7 @@ static const okrozumba_curve falling = {.count = 2, .lux = {50, 10}, .level = {8
 
 static const char *const news[] = {"set", "waits", "stays", "no slot", "bad curve"};
 
-static okrozumba_state s;
+static okrozumba_state k;
 static uint32_t slots[SLOTS];
 static okrozumba_light light;
 
@@ -56,23 +56,23 @@ static void show(const char *event, okrozumba_display d) {
 }
 
 static okrozumba_display receive(void) {
-    return okrozumba_light_receive(s.words, s.messages, curve, slots, SLOTS, light, MAILBOX);
+    return okrozumba_light_receive(k.words, k.messages, curve, slots, SLOTS, light, MAILBOX);
 }
 
 static okrozumba_display resumed(void) {
-    return okrozumba_light_resumed(s.words, s.messages, curve, slots, SLOTS, light);
+    return okrozumba_light_resumed(k.words, k.messages, curve, slots, SLOTS, light);
 }
 
 /* The sensor's handler: the reading goes into its slot, and the message of that number is sent. */
 static void sense(uint32_t slot, uint32_t lux) {
     slots[slot - 1] = lux;
-    okrozumba_enter(s.words, s.messages);
-    okrozumba_call(s.words, s.messages, OKROZUMBA_HANDLER, OKROZUMBA_SND_MSG, MAILBOX, (int32_t)slot, 0);
-    okrozumba_leave(s.words, s.messages);
+    okrozumba_kernel_enter(&k);
+    okrozumba_snd_msg(&k, OKROZUMBA_HANDLER, MAILBOX, (int32_t)slot);
+    okrozumba_kernel_leave(&k);
 }
 
 int main(void) {
-    if (okrozumba_start(setup, sizeof setup, s.words, s.messages).number != OKROZUMBA_DONE ||
+    if (okrozumba_kernel_start(&k, setup, sizeof setup).number != OKROZUMBA_DONE ||
         okrozumba_curve_judge(curve).number != OKROZUMBA_GOOD_CURVE) {
         return 1;
     }
@@ -89,18 +89,18 @@ int main(void) {
 
     show("display waits for the next reading", receive());
     show("cloth over the sensor, no reading comes: supervisor runs", resumed());
-    okrozumba_call(s.words, s.messages, OKROZUMBA_TASK, OKROZUMBA_REL_WAI, DISPLAY, 0, 0);
-    printf("supervisor rel_wai(1), display runs: cell %" PRId32, okrozumba_cell(s.words, s.messages, DISPLAY).code);
+    okrozumba_rel_wai(&k, OKROZUMBA_TASK, DISPLAY);
+    printf("supervisor rel_wai(1), display runs: cell %" PRId32, okrozumba_kernel_cell(&k, DISPLAY).code);
     show("", resumed());
 
     show("display waits for the next reading", receive());
     sense(3, 0);
     show("0 lux in slot 3: message 3 sent by a handler, display runs", resumed());
 
-    okrozumba_call(s.words, s.messages, OKROZUMBA_TASK, OKROZUMBA_SND_MSG, MAILBOX, 4, 0);
+    okrozumba_snd_msg(&k, OKROZUMBA_TASK, MAILBOX, 4);
     show("message 4 has no slot: received at once", receive());
 
-    memset(&s, 0xff, sizeof s);
+    memset(&k, 0xff, sizeof k);
     light.waits = DISPLAY;
     show("memory overwritten: resumed", resumed());
     return 0;

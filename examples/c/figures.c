@@ -17,29 +17,14 @@
        65 records: T1
        an output of 252 words: T2
        a total of 2^32: T3, and the output has its code 0: 2 */
-#include "okrozumba.h"
+#include "bench_sheet.h"
 
 #include <inttypes.h>
 #include <stdio.h>
 
-#define WORD(n) (uint8_t)(n), 0, 0, 0
-
 enum { PART = 7, TASKS = 3, FIRST_CODE = OKROZUMBA_TASKS * OKROZUMBA_STATES };
 
-/* The setup of the bench sheet, then two events of the running task: sta_tsk(3) and slp_tsk. */
-static const uint8_t run[] = {
-    WORD(4),                                                       /* priorities */
-    WORD(3), WORD(2), WORD(1), WORD(2), WORD(1), WORD(1), WORD(0), /* tasks: priority, started */
-    WORD(1), WORD(0),                                              /* a semaphore: count */
-    WORD(1), WORD(0),                                              /* a flag: pattern */
-    WORD(1),                                                       /* a mailbox */
-    WORD(2),                                                       /* messages */
-    WORD(1), WORD(2),                                              /* a pool: blocks */
-    WORD(0),                                                       /* no counter */
-    WORD(2),                                                       /* events: kind, call, a, b, c */
-    WORD(OKROZUMBA_TASK), WORD(OKROZUMBA_STA_TSK), WORD(3), WORD(0), WORD(0),
-    WORD(OKROZUMBA_TASK), WORD(OKROZUMBA_SLP_TSK), WORD(0), WORD(0), WORD(0),
-};
+static const uint8_t run[] = {BENCH_SHEET_RUN};
 
 static const int32_t codes[OKROZUMBA_CODES] = OKROZUMBA_CODES_COUNTED;
 static okrozumba_state state;

@@ -15,29 +15,14 @@
        the end: 0
        one more end: 5
        another byte: 5 */
-#include "okrozumba.h"
+#include "bench_sheet.h"
 
 #include <inttypes.h>
 #include <stdio.h>
 
-#define WORD(n) (uint8_t)(n), 0, 0, 0
-
 enum { PART = 7 };
 
-/* The setup of the bench sheet, then two events of the running task: sta_tsk(3) and slp_tsk. */
-static const uint8_t run[] = {
-    WORD(4),                                                       /* priorities */
-    WORD(3), WORD(2), WORD(1), WORD(2), WORD(1), WORD(1), WORD(0), /* tasks: priority, started */
-    WORD(1), WORD(0),                                              /* a semaphore: count */
-    WORD(1), WORD(0),                                              /* a flag: pattern */
-    WORD(1),                                                       /* a mailbox */
-    WORD(2),                                                       /* messages */
-    WORD(1), WORD(2),                                              /* a pool: blocks */
-    WORD(0),                                                       /* no counter */
-    WORD(2),                                                       /* events: kind, call, a, b, c */
-    WORD(OKROZUMBA_TASK), WORD(OKROZUMBA_STA_TSK), WORD(3), WORD(0), WORD(0),
-    WORD(OKROZUMBA_TASK), WORD(OKROZUMBA_SLP_TSK), WORD(0), WORD(0), WORD(0),
-};
+static const uint8_t run[] = {BENCH_SHEET_RUN};
 
 static okrozumba_recorder recorder;
 static okrozumba_state state;
@@ -59,7 +44,7 @@ int main(void) {
         given += told.taken;
         fwrite(text, 1, told.written, stdout);
         if (told.written != 0) {
-            printf("%zu bytes taken, runs %" PRIu32 "\n", given, okrozumba_running(state.words, state.messages));
+            printf("%zu bytes taken, runs %" PRIu32 "\n", given, okrozumba_kernel_running(&state));
         }
     }
     printf("the end: %" PRIu32 "\n", okrozumba_end(recorder.numbers, recorder.held, text, sizeof text).number);
