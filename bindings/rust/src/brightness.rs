@@ -4,7 +4,7 @@
 //!
 //! ```
 //! use okrozumba::brightness::{Curve, Light, News};
-//! use okrozumba::{call, context, State};
+//! use okrozumba::{Context, State};
 //!
 //! // One priority; two tasks, both started; one mailbox; one message; nothing else.
 //! let words: [u32; 11] = [1, 2, 1, 1, 1, 1, 0, 0, 1, 1, 0];
@@ -17,13 +17,13 @@
 //!
 //! // Task 1 waits for a reading, and task 2 breaks the wait off.
 //! assert_eq!(kernel.receive(&curve, &[30], &mut light, 1), Ok(News::Waits));
-//! kernel.call(context::TASK, call::REL_WAI, 1, 0, 0);
-//! kernel.call(context::TASK, call::ROT_RDQ, 0, 0, 0);
+//! kernel.rel_wai(Context::Task, 1);
+//! kernel.rot_rdq(Context::Task, 0);
 //! assert_eq!(kernel.resumed(&curve, &[30], &mut light), Ok(News::Stays));
 //! assert_eq!(light.level, 8);
 //!
 //! // A message lies in the mailbox: its slot has 30 lux.
-//! kernel.call(context::TASK, call::SND_MSG, 1, 1, 0);
+//! kernel.snd_msg(Context::Task, 1, 1);
 //! assert_eq!(kernel.receive(&curve, &[30], &mut light, 1), Ok(News::Set));
 //! assert_eq!(light.level, 18);
 //! ```

@@ -1,7 +1,8 @@
 //! Okrozumba, a small μITRON kernel that was proved in Rattle, for programs in Rust.
 //!
-//! A kernel is a [`State`]: two arrays that the program owns. [`State::start`] makes a fresh one from a setup, [`State::call`],
-//! [`State::tick`], [`State::enter`] and [`State::leave`] carry it from event to event, [`State::cell`] reads what a task was last released
+//! A kernel is a [`State`]: two arrays that the program owns. [`State::start`] makes a fresh one from a setup. Each of the 39 calls is a method
+//! by the manual's name, [`State::sig_sem`] and so on, and [`State::call`] makes a call by its number. They and [`State::tick`],
+//! [`State::enter`] and [`State::leave`] carry the kernel from event to event, [`State::cell`] reads what a task was last released
 //! from a wait with, [`State::states`] the states of all tasks, [`State::events`] and [`State::run`] play many events at once. Nothing is kept elsewhere: a clone is a second kernel in
 //! the same state. [`playback::play`] gives the text of a recorded run, [`recorder::Recorder`] that of one that comes in parts. [`figures`] counts
 //! recorded runs and adds up a month of them. [`brightness`] is a display's light, whose readings arrive as messages.
@@ -18,7 +19,7 @@
 //! # Example
 //!
 //! ```
-//! use okrozumba::{call, code, context, State};
+//! use okrozumba::{Code, Context, State};
 //!
 //! // One priority; one task, of priority 1 and started; one semaphore, of count 0; nothing else.
 //! let words: [u32; 10] = [1, 1, 1, 1, 1, 0, 0, 0, 0, 0];
@@ -26,13 +27,23 @@
 //!
 //! let mut kernel = State::start(&setup).unwrap();
 //! assert_eq!(kernel.running(), 1);
-//! let waits = kernel.call(context::TASK, call::WAI_SEM, 1, 0, 0);
-//! assert_eq!((waits.code, waits.running), (code::WAITS, 0));
+//! let waits = kernel.wai_sem(Context::Task, 1);
+//! assert_eq!((waits.code(), waits.running), (Code::WAITS, 0));
 //! kernel.enter();
-//! let broken = kernel.call(context::HANDLER, call::REL_WAI, 1, 0, 0);
-//! assert_eq!((broken.code, broken.running, broken.released), (code::E_OK, 0, 1));
+//! let broken = kernel.rel_wai(Context::Handler, 1);
+//! assert_eq!(broken.to_string(), "E_OK, w1 0, w2 0, runs 0, released 1");
 //! assert_eq!(kernel.leave().running, 1);
-//! assert_eq!(kernel.cell(1).code, code::E_RLWAI);
+//! assert_eq!(kernel.cell(1).code(), Code::E_RLWAI);
+//!
+//! // What is refused goes on by `?`.
+//! fn sleep(setup: &[u8]) -> Result<(), Box<dyn std::error::Error>> {
+//!     let mut kernel = State::start(setup)?;
+//!     kernel.slp_tsk(Context::Handler).done()?;
+//!     Ok(())
+//! }
+//! assert_eq!(sleep(&setup).unwrap_err().to_string(), "E_CTX");
+//! let text = "the setup has a fault at byte 4: S1, the bytes end before a needed word is whole";
+//! assert_eq!(sleep(&setup[..4]).unwrap_err().to_string(), text);
 //! ```
 //!
 //! # Features
@@ -45,17 +56,22 @@
 #[cfg(feature = "std")]
 extern crate std;
 
+mod answer;
 mod archive;
 pub mod brightness;
 pub mod call;
+mod calls;
 pub mod code;
 pub mod compare;
+mod errors;
 pub mod figures;
 #[cfg(feature = "std")]
 pub mod playback;
 pub mod recorder;
 mod states;
 
+pub use answer::{Answer, Cell};
+pub use calls::Context;
 pub use code::Code;
 pub use states::{TaskState, TaskStates};
 
@@ -72,7 +88,7 @@ pub const ANSWER_WORDS: usize = 4;
 /// The time of wai_tsk that never ends.
 pub const FOR_EVER: i32 = -1;
 
-/// Who makes a call; and the kind of an event in [`State::events`].
+/// Who makes a call ([`Context`] by number); and the kind of an event in [`State::events`].
 pub mod context {
     /// The running task calls.
     pub const TASK: i32 = 0;
@@ -110,35 +126,6 @@ pub mod task_state {
     pub const WAIT_SUSPEND: u32 = 5;
     /// Not there: deleted and not made again. tsk_sts refuses such a task.
     pub const ABSENT: u32 = 6;
-}
-
-/// What comes back of an event. `w1` and `w2` are 0 unless a call or a code names them. On a damaged state the code says the first rule
-/// broken, `w1` the smallest id that breaks it, and all else is 0.
-#[repr(C)]
-#[derive(Clone, Copy, PartialEq, Eq, Debug, Default)]
-pub struct Answer {
-    /// One of [`code`].
-    pub code: i32,
-    /// The call's first word; of [`code::H_QUEUE`], [`code::H_SERVED`], [`code::H_TWICE`] and [`code::H_FREE`] the task, waiter, message or
-    /// pool.
-    pub w1: u32,
-    /// The call's second word.
-    pub w2: u32,
-    /// The running task after the event, while a handler is open the one at the outermost entry; 0 if none.
-    pub running: u32,
-    /// The number of tasks released from a wait.
-    pub released: u32,
-}
-
-/// An answer cell: the code that the task was last released from a wait with, and the pattern, message or block that it got. A wait that
-/// ends since the task is terminated writes nothing.
-#[repr(C)]
-#[derive(Clone, Copy, PartialEq, Eq, Debug, Default)]
-pub struct Cell {
-    /// [`code::E_OK`], [`code::E_TMOUT`] or [`code::E_RLWAI`]; if there was nothing to read, [`code::E_NOEXS`] or the code of the damage.
-    pub code: i32,
-    /// 0 unless a wait was served with a pattern, a message or a block.
-    pub word: u32,
 }
 
 /// What is wrong with a setup.

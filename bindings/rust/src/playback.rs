@@ -1,4 +1,4 @@
-//! The text of a whole recorded run, which [`Recorder`](crate::recorder::Recorder) takes as it comes.
+//! The text of a whole recorded run, which [`Recorder`] takes as it comes.
 //!
 //! ```
 //! use okrozumba::playback::{play, Short};

@@ -3,6 +3,7 @@
 //! a word, only the parts that have it in their name.
 mod batch;
 mod brightness;
+mod calls;
 mod compare;
 mod damage;
 mod drawn;
@@ -28,10 +29,11 @@ pub type Verdict = Result<String, String>;
 
 type Part = (&'static str, fn() -> Verdict);
 
-const PARTS: [Part; 14] = [
+const PARTS: [Part; 15] = [
     ("bench sheet", sheet::check),
     ("random runs", runs::check),
     ("states of all tasks", states::check),
+    ("calls by name", calls::check),
     ("handlers", handlers::check),
     ("drawn states", drawn::check),
     ("damaged states", damage::check),
