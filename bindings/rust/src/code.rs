@@ -11,6 +11,7 @@ use core::fmt;
 /// assert_eq!(Code::E_RLWAI.to_string(), "E_RLWAI");
 /// assert!(Code::H_QUEUE.is_refusal() && Code::H_QUEUE.is_damage());
 /// assert_eq!(Code::of(-9).to_string(), "-9");
+/// assert!(Code::ALL.iter().map(|code| code.number()).eq(okrozumba::figures::CODES));
 /// ```
 #[derive(Clone, Copy, PartialEq, Eq, PartialOrd, Ord, Hash)]
 pub struct Code(i32);

@@ -1,11 +1,12 @@
 //! Okrozumba, a small μITRON kernel that was proved in Rattle, for programs in Rust.
 //!
-//! A kernel is a [`State`]: two arrays that the program owns. [`State::start`] makes a fresh one from a setup. Each of the 39 calls is a method
-//! by the manual's name, [`State::sig_sem`] and so on, and [`State::call`] makes a call by its number. They and [`State::tick`],
-//! [`State::enter`] and [`State::leave`] carry the kernel from event to event, [`State::cell`] reads what a task was last released
-//! from a wait with, [`State::states`] the states of all tasks, [`State::events`] and [`State::run`] play many events at once. Nothing is kept elsewhere: a clone is a second kernel in
-//! the same state. [`playback::play`] gives the text of a recorded run, [`recorder::Recorder`] that of one that comes in parts. [`figures`] counts
-//! recorded runs and adds up a month of them. [`brightness`] is a display's light, whose readings arrive as messages.
+//! A kernel is a [`State`]: two arrays that the program owns. [`State::start`] makes a fresh one from a setup. Each of the 39 calls is a
+//! method by the manual's name, [`State::sig_sem`] and so on, and [`State::call`] makes a call by its number. They and [`State::tick`],
+//! [`State::enter`] and [`State::leave`] carry the kernel from event to event, [`State::cell`] reads what a task was last released from a
+//! wait with, [`State::states`] the states of all tasks, [`State::events`] and [`State::run`] play many events at once. Nothing is kept
+//! elsewhere: a clone is a second kernel in the same state. [`playback::play`] gives the text of a recorded run, [`recorder::Recorder`]
+//! that of one that comes in parts. [`figures`] counts recorded runs and adds up a month of them. [`brightness`] is a display's light,
+//! whose readings arrive as messages.
 //!
 //! Every function is defined for every argument and every content of the arrays, and says by its answer what was wrong; so all of them
 //! are safe. That is what the kernel's proofs promise of the functions that this crate wraps (`include/okrozumba.h`).
