@@ -3,8 +3,11 @@ use std::io::Read;
 
 use okrozumba::recorder::BadRun;
 
+use crate::compare;
+use crate::month::{self, Counted};
 use crate::picture::model::{NoPicture, Picture, Range};
 use crate::picture::{page, svg};
+use crate::run;
 use crate::text::line::Wrong;
 use crate::text::{reader, writer};
 
@@ -213,6 +216,8 @@ fn ask(command: &str, options: Options) -> Result<Done, Failure> {
         "assemble" => assemble(&options.one(command)?),
         "list" => list(&options.one(command)?),
         "picture" => picture(&options.one(command)?, &options),
+        "month" => month(&options.files),
+        "compare" => compare(&options.one(command)?),
         _ => Err(Failure::Usage(format!("there is no command {command}"))),
     }
 }
@@ -242,7 +247,7 @@ fn shown(input: &Input, wrong: &Wrong) -> String {
 
 /// A run's fault and its place.
 fn fault(input: &Input, bad: BadRun) -> String {
-    format!("{}: {}", input.name, svg::refusal(bad))
+    format!("{}: {}", input.name, run::refusal(bad))
 }
 
 fn list(input: &Input) -> Result<Done, Failure> {
@@ -280,4 +285,35 @@ fn no_picture(input: &Input, why: NoPicture) -> String {
             format!("{name}: a picture has at most {most} events; choose some with --from and --to")
         }
     }
+}
+
+fn month(files: &[String]) -> Result<Done, Failure> {
+    if files.is_empty() {
+        return Err(Failure::Usage("month takes files".to_string()));
+    }
+    let inputs = files
+        .iter()
+        .map(|file| read(file))
+        .collect::<Result<Vec<_>, _>>()?;
+    let runs: Vec<Counted> = inputs
+        .iter()
+        .map(|input| Counted::of(&input.name, &input.bytes))
+        .collect();
+    let output = month::page(&runs).map_err(|why| Failure::Input(format!("okrozumba: {why}")))?;
+    let bad = inputs
+        .iter()
+        .zip(&runs)
+        .filter_map(|(input, run)| run.refusal.map(|bad| fault(input, bad)));
+    let bad: Vec<String> = bad.collect();
+    let wrong = (!bad.is_empty()).then(|| bad.join("\n"));
+    Ok(Done {
+        wrong,
+        ..Done::from(output)
+    })
+}
+
+fn compare(input: &Input) -> Result<Done, Failure> {
+    let page = compare::page(&input.name, &input.bytes);
+    page.map(Done::from)
+        .map_err(|why| Failure::Input(format!("{}: {why}", input.name)))
 }

@@ -5,7 +5,9 @@
 pub mod calls;
 pub mod codes;
 pub mod command;
+pub mod compare;
 pub mod html;
+pub mod month;
 pub mod picture;
 pub mod run;
 #[cfg(test)]

@@ -39,43 +39,46 @@ impl<'a> Player<'a> {
         self.recorder.state()
     }
 
-    /// The event whose last byte was just taken.
-    fn five(&self) -> Five {
-        let event = &self.bytes[self.at - WORD * EVENT_WORDS..self.at];
-        let mut words = event.chunks_exact(WORD);
-        [(); EVENT_WORDS].map(|()| {
-            let word = words.next().and_then(|word| word.try_into().ok());
-            i32::from_le_bytes(word.expect("an event has five words of four bytes"))
-        })
-    }
-
-    /// The line that was written, if one was.
+    /// The line that was written, if one was; its event's last byte was just taken.
     fn line(&self, said: Said, text: &[u8]) -> Option<Line> {
         if let Said::Refused(bad) = said {
             return Some(Line::Refused(bad));
         }
         let text = String::from_utf8_lossy(text);
-        let words: Vec<&str> = text.split_whitespace().collect();
-        match words[..] {
-            ["start", running] => Some(Line::Start(number(running))),
-            [event, code, w1, w2, running, released] => Some(Line::Event(
-                number(event),
-                self.five(),
-                Answer {
-                    code: code.parse().expect("the recorder writes numbers"),
-                    w1: number(w1),
-                    w2: number(w2),
-                    running: number(running),
-                    released: number(released),
-                },
-            )),
-            _ => None,
+        let text = text.trim_end();
+        match text.strip_prefix("start ") {
+            Some(running) => running.parse().ok().map(Line::Start),
+            None => answer(text).map(|(number, answer)| {
+                let event = self.at - WORD * EVENT_WORDS;
+                Line::Event(number, five(&self.bytes[event..]), answer)
+            }),
         }
     }
 }
 
-fn number(word: &str) -> u32 {
-    word.parse().expect("the recorder writes numbers")
+/// The event at the front of bytes.
+pub fn five(bytes: &[u8]) -> Five {
+    let mut words = bytes.chunks_exact(WORD);
+    [(); EVENT_WORDS].map(|()| {
+        let word = words.next().and_then(|word| word.try_into().ok());
+        i32::from_le_bytes(word.expect("an event has five words of four bytes"))
+    })
+}
+
+/// An event's number and answer from its line.
+pub fn answer(line: &str) -> Option<(u32, Answer)> {
+    let words: Vec<&str> = line.split(' ').collect();
+    let [number, code, w1, w2, running, released] = words[..] else {
+        return None;
+    };
+    let answer = Answer {
+        code: code.parse().ok()?,
+        w1: w1.parse().ok()?,
+        w2: w2.parse().ok()?,
+        running: running.parse().ok()?,
+        released: released.parse().ok()?,
+    };
+    Some((number.parse().ok()?, answer))
 }
 
 impl Iterator for Player<'_> {
@@ -93,25 +96,34 @@ impl Iterator for Player<'_> {
     }
 }
 
-/// The fault in words.
-pub fn fault(fault: Fault) -> &'static str {
+/// A fault's digit.
+pub fn digit(fault: Fault) -> u32 {
     match fault {
-        Fault::S1 => "the bytes end before a needed word is whole",
-        Fault::S2 => "a count outside its range",
-        Fault::S3 => "an entry outside its range",
-        Fault::S4 => "the bytes go on behind the end",
-    }
-}
-
-/// The fault as `play` writes it.
-pub fn refused(bad: BadRun) -> String {
-    let digit = match bad.fault {
         Fault::S1 => 1,
         Fault::S2 => 2,
         Fault::S3 => 3,
         Fault::S4 => 4,
-    };
-    format!("refused {digit} {}", bad.place)
+    }
+}
+
+/// The fault with a digit in words.
+pub fn fault(digit: u32) -> &'static str {
+    match digit {
+        1 => "the bytes end before a needed word is whole",
+        2 => "a count outside its range",
+        3 => "an entry outside its range",
+        _ => "the bytes go on behind the end",
+    }
+}
+
+/// A run's fault as `play` writes it.
+pub fn refused(bad: BadRun) -> String {
+    format!("refused {} {}", digit(bad.fault), bad.place)
+}
+
+/// The same, then in words.
+pub fn refusal(bad: BadRun) -> String {
+    format!("{}: {}", refused(bad), fault(digit(bad.fault)))
 }
 
 #[cfg(test)]

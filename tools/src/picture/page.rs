@@ -2,6 +2,7 @@
 use super::model::{Column, Picture, Span};
 use super::svg::{self, Rows, Scale};
 use crate::html::{self, array, escaped, quoted};
+use crate::run;
 use crate::states;
 
 /// The page of a picture.
@@ -10,7 +11,7 @@ pub fn page(picture: &Picture) -> String {
     let refusal = match picture.refusal {
         Some(bad) => format!(
             "<p class=\"alert-text\">{}</p>\n",
-            escaped(&svg::refusal(bad))
+            escaped(&run::refusal(bad))
         ),
         None => String::new(),
     };

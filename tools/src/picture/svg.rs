@@ -2,6 +2,7 @@
 use super::model::{Picture, Span};
 use super::palette::{self, Colour, ALERT, BAND, DEPTH, FAINT, GRID, INK, PAPER, STATE};
 use crate::html::escaped;
+use crate::run;
 use crate::states;
 
 /// Room for the names of the lanes.
@@ -9,7 +10,7 @@ pub const LEFT: f64 = 118.0;
 pub const RIGHT: f64 = 20.0;
 /// The widest plot of a drawing alone, and the widest column.
 const PLOT: f64 = 1000.0;
-const COLUMN: f64 = 56.0;
+const COLUMN: f64 = 80.0;
 /// From this width on a column has its event in words below.
 pub const WORDS: f64 = 15.0;
 
@@ -503,19 +504,10 @@ pub fn alone(picture: &Picture) -> String {
 fn head(picture: &Picture) -> String {
     let summary = text(&FAINT, "start", 4.0, 44.0, &picture.summary());
     let refusal = match picture.refusal {
-        Some(bad) => text(&ALERT, "start", 420.0, 44.0, &refusal(bad)),
+        Some(bad) => text(&ALERT, "start", 420.0, 44.0, &run::refusal(bad)),
         None => String::new(),
     };
     summary + &refusal + &legend(68.0)
-}
-
-/// The run's fault in words.
-pub fn refusal(bad: okrozumba::recorder::BadRun) -> String {
-    format!(
-        "{}: {}",
-        crate::run::refused(bad),
-        crate::run::fault(bad.fault)
-    )
 }
 
 #[cfg(test)]
