@@ -1,7 +1,5 @@
 //! The calls by name, and how their words are written.
-use okrozumba::call;
-
-use crate::{codes, states};
+use okrozumba::{call, Code, TaskState};
 
 /// A word that a call takes.
 #[derive(Clone, Copy, PartialEq, Eq, Debug)]
@@ -54,16 +52,20 @@ impl Gives {
             Gives::Nothing => String::new(),
             Gives::One(name) => format!("{name} {w1}"),
             Gives::Pattern => format!("pattern {w1:#x}"),
-            Gives::State => format!("{}, priority {w2}", states::NAMES[w1 as usize]),
+            Gives::State => format!("{}, priority {w2}", state(w1)),
             Gives::Waiter(name) => format!("{}, {name} {w2}", waiter(w1)),
             Gives::WaiterPattern => format!("{}, pattern {w2:#x}", waiter(w1)),
             Gives::Clock => format!("clock {}", (u64::from(w1) << 32) | u64::from(w2)),
             Gives::Alarm => {
                 let use_ = if w1 == 1 { "in use" } else { "idle" };
-                format!("{use_}, kept code {}", codes::name(-(w2 as i32)))
+                format!("{use_}, kept code {}", Code::of(-(w2 as i32)))
             }
         }
     }
+}
+
+fn state(number: u32) -> String {
+    TaskState::of(number).map_or(number.to_string(), |state| state.to_string())
 }
 
 fn waiter(task: u32) -> String {

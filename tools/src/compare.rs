@@ -1,8 +1,7 @@
 //! What a second setup changes in a run, as a page: the two setups, where the events differ, and the events that do, side by side.
 use okrozumba::compare::{self, TEXT};
-use okrozumba::{Answer, EVENT_WORDS};
+use okrozumba::{Answer, Code, EVENT_WORDS};
 
-use crate::codes;
 use crate::html::{self, escaped};
 use crate::picture::model::{spans, Picture, Range};
 use crate::picture::svg;
@@ -146,7 +145,7 @@ fn table(changes: &[Change]) -> String {
 fn row(change: &Change) -> String {
     let parts = |answer: Answer| {
         [
-            codes::name(answer.code),
+            Code::of(answer.code).to_string(),
             words::runs(answer.running),
             words::given(change.five, answer),
         ]

@@ -3,7 +3,6 @@
 #![forbid(unsafe_code)]
 
 pub mod calls;
-pub mod codes;
 pub mod command;
 pub mod compare;
 pub mod html;
@@ -13,5 +12,4 @@ pub mod run;
 #[cfg(test)]
 mod samples;
 pub mod setup;
-pub mod states;
 pub mod text;

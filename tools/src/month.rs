@@ -1,12 +1,11 @@
 //! The figures of many runs as a page: a heat map of tasks by states, and the codes as bars.
-use okrozumba::figures::{self, Counter, NoReport, Record, CODES, COUNTS, RECORDS, TASKS};
+use okrozumba::figures::{self, Counter, NoReport, Record, CODES, COUNTS, RECORDS, STATES, TASKS};
 use okrozumba::recorder::{BadRun, Said};
+use okrozumba::{Code, TaskState};
 
-use crate::codes;
 use crate::html::{self, escaped};
 use crate::picture::palette::STATE;
 use crate::run;
-use crate::states::{NAMES, STATES};
 
 /// A run that was counted.
 pub struct Counted {
@@ -75,7 +74,7 @@ fn no_report(why: NoReport) -> String {
 
 fn heat_map(table: &[u32]) -> String {
     let mut head = String::from("<tr><th></th>");
-    for (name, colour) in NAMES.iter().zip(&STATE) {
+    for (name, colour) in TaskState::ALL.iter().zip(&STATE) {
         let class = colour.class;
         head += &format!("<th><svg width=\"10\" height=\"10\"><rect class=\"{class}\" width=\"10\" height=\"10\"/></svg> {name}</th>");
     }
@@ -115,9 +114,9 @@ fn bars(counts: &[u32]) -> String {
     let mut rows = String::new();
     let mut never = Vec::new();
     for (code, count) in CODES.iter().zip(counts) {
-        let name = codes::name(*code);
+        let name = Code::of(*code);
         if *count == 0 {
-            never.push(name);
+            never.push(name.to_string());
             continue;
         }
         let kind = if *code < 0 { "refused" } else { "done" };

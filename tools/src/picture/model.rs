@@ -1,11 +1,9 @@
 //! What a picture shows: columns, one for the start and one for each event, and lanes, one for each task.
 use okrozumba::recorder::BadRun;
-use okrozumba::{code, context, Answer};
+use okrozumba::{code, context, Answer, Code, TaskState, TaskStates};
 
-use crate::codes;
 use crate::run::{Five, Line, Player};
 use crate::setup::Setup;
-use crate::states;
 use crate::text::words;
 
 /// No picture has more columns.
@@ -65,7 +63,7 @@ pub struct Span {
 /// A task.
 #[derive(Clone, PartialEq, Eq, Debug)]
 pub struct Lane {
-    pub task: usize,
+    pub task: u32,
     /// Its starting priority in the setup.
     pub priority: u32,
     /// Its states by number.
@@ -113,13 +111,12 @@ pub fn spans(values: impl Iterator<Item = u32>) -> Vec<Span> {
 /// Builds a picture along a run.
 struct Painter {
     range: Range,
-    tasks: usize,
     depth: u32,
     time: u32,
     events: u32,
     columns: Vec<Column>,
     /// The states after each column, and before the first if the range does not begin at the start.
-    states: Vec<Vec<u32>>,
+    states: Vec<TaskStates>,
     refusal: Option<BadRun>,
 }
 
@@ -135,7 +132,9 @@ impl Painter {
         };
         self.events = column.number;
         if self.range.has(column.number + 1) || self.range.has(column.number) {
-            self.states.push(states::of(player.state(), self.tasks));
+            let states = player.state().states();
+            self.states
+                .push(states.expect("the state of a run is sound"));
         }
         if self.range.has(column.number) {
             self.columns.push(column);
@@ -157,7 +156,7 @@ impl Painter {
             number,
             event: words::event(five),
             answer: words::answer(five, answer),
-            refused: (answer.code < 0).then(|| codes::name(answer.code)),
+            refused: (answer.code < 0).then(|| Code::of(answer.code).to_string()),
             running: answer.running,
             depth: self.depth,
             time: self.time,
@@ -166,20 +165,36 @@ impl Painter {
         }
     }
 
-    fn lane(&self, place: usize, priority: u32) -> Lane {
+    fn lane(&self, task: u32, priority: u32) -> Lane {
         let before = self.states.len() - self.columns.len();
-        let states: Vec<u32> = self.states.iter().map(|states| states[place]).collect();
+        let states: Vec<TaskState> = self
+            .states
+            .iter()
+            .filter_map(|states| states.of(task))
+            .collect();
         let is_released = |column: &usize| {
             let after = column + before;
-            after > 0 && states::waits(states[after - 1]) && states::may_run(states[after])
+            after > 0 && waits(states[after - 1]) && may_run(states[after])
         };
         Lane {
-            task: place + 1,
+            task,
             priority,
             released: (0..self.columns.len()).filter(is_released).collect(),
-            states: spans(states[before..].iter().copied()),
+            states: spans(states[before..].iter().map(|state| state.number())),
         }
     }
+}
+
+fn waits(state: TaskState) -> bool {
+    matches!(state, TaskState::Wait | TaskState::WaitSuspend)
+}
+
+/// Where a release leads.
+fn may_run(state: TaskState) -> bool {
+    matches!(
+        state,
+        TaskState::Ready | TaskState::Run | TaskState::Suspend
+    )
 }
 
 fn start(running: u32) -> Column {
@@ -202,7 +217,6 @@ impl Picture {
         let (setup, _) = Setup::read(bytes);
         let mut painter = Painter {
             range,
-            tasks: setup.tasks.len(),
             depth: 0,
             time: 0,
             events: 0,
@@ -230,11 +244,11 @@ impl Painter {
             _ if self.columns.is_empty() => return Err(NoPicture::Empty(self.events)),
             _ => {}
         }
-        let tasks = setup.tasks.iter().enumerate();
+        let tasks = (1..).zip(&setup.tasks);
         Ok(Picture {
             title: title.to_string(),
             lanes: tasks
-                .map(|(place, task)| self.lane(place, task.priority))
+                .map(|(id, task)| self.lane(id, task.priority))
                 .collect(),
             columns: self.columns,
             refusal: self.refusal,
@@ -336,7 +350,7 @@ mod tests {
             for (place, line) in played.iter().enumerate() {
                 let column = &picture.columns[place + 1];
                 assert_eq!(i64::from(column.number), line[0]);
-                let refused = (line[1] < 0).then(|| codes::name(line[1] as i32));
+                let refused = (line[1] < 0).then(|| Code::of(line[1] as i32).to_string());
                 assert_eq!(column.refused, refused);
                 assert_eq!(i64::from(running[place + 1]), line[4]);
                 let dots = picture
@@ -356,12 +370,15 @@ mod tests {
             let record = counter.record();
             for lane in whole(&bytes).lanes {
                 let states = each(&lane.states);
-                for state in 0..states::STATES {
+                for state in 0..TaskState::ALL.len() {
                     let count = states[1..]
                         .iter()
                         .filter(|found| **found as usize == state)
                         .count();
-                    assert_eq!(record.in_state(lane.task, state), Some(count as u32));
+                    assert_eq!(
+                        record.in_state(lane.task as usize, state),
+                        Some(count as u32)
+                    );
                 }
             }
         }

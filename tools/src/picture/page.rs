@@ -1,9 +1,10 @@
 //! The page: the drawing in a window that a script moves and zooms, and the event in words where one points.
+use okrozumba::TaskState;
+
 use super::model::{Column, Picture, Span};
 use super::svg::{self, Rows, Scale};
 use crate::html::{self, array, escaped, quoted};
 use crate::run;
-use crate::states;
 
 /// The page of a picture.
 pub fn page(picture: &Picture) -> String {
@@ -60,7 +61,7 @@ fn data(picture: &Picture) -> String {
         format!(
             "{{task:{},top:{},states:{}}}",
             lane.task,
-            rows.top(lane.task - 1),
+            rows.top(lane.task as usize - 1),
             spans(&lane.states)
         )
     });
@@ -92,7 +93,10 @@ fn data(picture: &Picture) -> String {
             svg::words_height(picture).ceil(),
             svg::LANE
         ),
-        format!("names:{}", array(states::NAMES, quoted)),
+        format!(
+            "names:{}",
+            array(TaskState::ALL, |state| quoted(state.name()))
+        ),
         format!("events:{}", text(|column| &column.event)),
         format!("answers:{}", text(|column| &column.answer)),
         format!("refused:{refused}"),

@@ -1,5 +1,5 @@
 //! Colours, in light and in dark. Those of the states are Okabe and Ito's, which colour-blind people can tell apart.
-use crate::states::STATES;
+use okrozumba::TaskState;
 
 /// A class of elements and its colour in light and in dark.
 pub struct Colour {
@@ -13,7 +13,7 @@ const fn colour(class: &'static str, light: &'static str, dark: &'static str) ->
 }
 
 /// By state's number. The classes are `s0` to `s6`.
-pub const STATE: [Colour; STATES] = [
+pub const STATE: [Colour; TaskState::ALL.len()] = [
     colour("s0", "#b4bcc5", "#5d6873"),
     colour("s1", "#56b4e9", "#56b4e9"),
     colour("s2", "#009e73", "#009e73"),

@@ -1,9 +1,10 @@
 //! The drawing. Paths are the same in the page and alone; alone, all numbers and names stand beside them, at a fixed scale.
-use super::model::{Picture, Span};
+use okrozumba::TaskState;
+
+use super::model::{Column, Picture, Span};
 use super::palette::{self, Colour, ALERT, BAND, DEPTH, FAINT, GRID, INK, PAPER, STATE};
 use crate::html::escaped;
 use crate::run;
-use crate::states;
 
 /// Room for the names of the lanes.
 pub const LEFT: f64 = 118.0;
@@ -27,7 +28,7 @@ const TICK: f64 = 7.0;
 const HEAD: f64 = 92.0;
 
 /// The height of a state's bar, so that states differ without colours too.
-const HEIGHTS: [f64; states::STATES] = [5.0, 11.0, BAR, 11.0, 11.0, 11.0, 5.0];
+const HEIGHTS: [f64; TaskState::ALL.len()] = [5.0, 11.0, BAR, 11.0, 11.0, 11.0, 5.0];
 
 /// Where rows stand, from the top of the plot.
 #[derive(Clone, Copy)]
@@ -336,7 +337,7 @@ fn runners(picture: &Picture, scale: Scale) -> String {
 }
 
 /// What stands below a column.
-fn label(column: &super::model::Column) -> String {
+fn label(column: &Column) -> String {
     match &column.refused {
         Some(code) => format!("{}  {code}", column.event),
         None => column.event.clone(),
@@ -382,7 +383,7 @@ pub fn words_height(picture: &Picture) -> f64 {
 fn hints(picture: &Picture, scale: Scale) -> String {
     let height = short(Rows::of(picture).words());
     let width = short(scale.column);
-    let hint = |(place, column): (usize, &super::model::Column)| {
+    let hint = |(place, column): (usize, &Column)| {
         let x = short(scale.x(place));
         let said = escaped(&format!(
             "{}  {}  {}",
@@ -410,41 +411,29 @@ fn key(drawn: &str, x: &mut f64, y: f64, name: &str) -> String {
 fn legend(y: f64) -> String {
     let mut x = 4.0;
     let mut out = String::new();
-    for (state, colour) in STATE.iter().enumerate() {
-        let span = Span {
-            from: 0,
-            to: 1,
-            value: 0,
-        };
-        let height = HEIGHTS[state];
-        let scale = Scale {
-            left: x,
-            column: 18.0,
-        };
-        let drawn = filled(colour, "", &bar(scale, &span, y - height / 2.0, height));
-        out += &key(&drawn, &mut x, y, states::NAMES[state]);
+    for ((state, colour), height) in TaskState::ALL.iter().zip(&STATE).zip(HEIGHTS) {
+        let drawn = filled(
+            colour,
+            "",
+            &bar(sample(x), &FIRST, y - height / 2.0, height),
+        );
+        out += &key(&drawn, &mut x, y, state.name());
     }
-    let scale = Scale {
-        left: x,
-        column: 18.0,
-    };
-    out += &key(
-        &stroked(&INK, 6.0, "round", &mark(scale, 0, y)),
-        &mut x,
-        y,
-        "released",
-    );
-    let scale = Scale {
-        left: x,
-        column: 18.0,
-    };
-    let refused = stroked(
-        &ALERT,
-        2.5,
-        "butt",
-        &stick(scale, 0, y - STICK / 2.0, STICK),
-    );
-    out + &key(&refused, &mut x, y, "refused")
+    let released = stroked(&INK, 6.0, "round", &mark(sample(x), 0, y));
+    out += &key(&released, &mut x, y, "released");
+    let stick = stick(sample(x), 0, y - STICK / 2.0, STICK);
+    out + &key(&stroked(&ALERT, 2.5, "butt", &stick), &mut x, y, "refused")
+}
+
+/// One column, as wide as a sample in the legend.
+const FIRST: Span = Span {
+    from: 0,
+    to: 1,
+    value: 0,
+};
+
+fn sample(left: f64) -> Scale {
+    Scale { left, column: 18.0 }
 }
 
 /// The legend as a drawing of its own, for a page.

@@ -1,8 +1,7 @@
 //! Events and answers in words.
-use okrozumba::{context, Answer};
+use okrozumba::{code, context, Answer, Code};
 
 use crate::calls::{self, Call};
-use crate::codes;
 use crate::run::Five;
 
 /// Who calls, as the text form has it.
@@ -74,7 +73,7 @@ pub fn runs(task: u32) -> String {
 pub fn given(five: Five, answer: Answer) -> String {
     let mut said = Vec::new();
     let [kind, number, ..] = five;
-    if matches!(kind, context::TASK | context::HANDLER) && answer.code == okrozumba::code::E_OK {
+    if matches!(kind, context::TASK | context::HANDLER) && answer.code == code::E_OK {
         if let Some(call) = calls::by_number(number) {
             said.push(call.gives.written(answer.w1, answer.w2));
         }
@@ -88,7 +87,7 @@ pub fn given(five: Five, answer: Answer) -> String {
 
 /// An answer in a line: code, running task, what else is given.
 pub fn answer(five: Five, answer: Answer) -> String {
-    let code = codes::name(answer.code);
+    let code = Code::of(answer.code);
     let line = format!(
         "{code:<8}  {:<9}  {}",
         runs(answer.running),
