@@ -166,7 +166,7 @@ fn row(change: &Change) -> String {
     format!(
         "<tr><td>{}</td><td class=\"mono\">{}</td>{}{}</tr>\n",
         change.number,
-        escaped(&words::event(change.five)),
+        escaped(&words::brief(change.five)),
         cells(&first, &second, ""),
         cells(&second, &first, "second")
     )

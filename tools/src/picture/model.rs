@@ -154,7 +154,7 @@ impl Painter {
         }
         Column {
             number,
-            event: words::event(five),
+            event: words::brief(five),
             answer: words::answer(five, answer),
             refused: (answer.code < 0).then(|| Code::of(answer.code).to_string()),
             running: answer.running,

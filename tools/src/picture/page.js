@@ -59,6 +59,18 @@ function runners() {
   return out;
 }
 
+// The codes of refused events beside their marks, as many as have room.
+const refusals = run.refused.map((code, column) => [column, code]).filter(([, code]) => code);
+function codes() {
+  let out = "";
+  refusals.forEach(([column, code], i) => {
+    if (column < view.from || column >= view.to) return;
+    const at = x(column + .5) + 4, next = i + 1 < refusals.length ? x(refusals[i + 1][0] + .5) : Infinity;
+    if (at + 7.6 * code.length <= Math.min(next, x(view.to))) out += `<text class="alert" x="${at.toFixed(1)}" y="${run.refusedY}">${code}</text>`;
+  });
+  return out;
+}
+
 function words() {
   let out = "";
   for (let column = Math.max(0, Math.ceil(view.from - .5)); column < Math.min(run.columns, view.to - .4); column++) {
@@ -73,7 +85,7 @@ function draw() {
   pane.setAttribute("viewBox", `${view.from} 0 ${view.to - view.from} ${height}`);
   pane.setAttribute("width", plotWidth());
   drawing.setAttribute("height", height + (wordy ? run.wordsHeight : 0));
-  part("labels").innerHTML = numbers() + times() + runners() + (wordy ? words() : "");
+  part("labels").innerHTML = numbers() + times() + runners() + (wordy ? words() : codes());
   scroll.firstChild.style.width = 100 * run.columns / (view.to - view.from) + "%";
   scroll.scrollLeft = view.from * columnWidth();
 }

@@ -82,8 +82,9 @@ fn data(picture: &Picture) -> String {
             svg::NUMBER
         ),
         format!(
-            "runningY:{},numbersY:{},ticksY:{},wordsY:{}",
+            "runningY:{},refusedY:{},numbersY:{},ticksY:{},wordsY:{}",
             Rows::running(),
+            rows.refused() + 4.0,
             rows.numbers(),
             rows.times(),
             rows.words()

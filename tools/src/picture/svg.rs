@@ -62,7 +62,7 @@ impl Rows {
     }
 
     /// The middle of the row of refused events.
-    fn refused(self) -> f64 {
+    pub fn refused(self) -> f64 {
         self.end() + 14.0
     }
 
@@ -318,6 +318,31 @@ fn times(picture: &Picture, scale: Scale) -> String {
     out
 }
 
+/// The codes of refused events beside their marks, as many as have room; where all events stand in words, these have them.
+fn codes(picture: &Picture, scale: Scale) -> String {
+    if scale.column >= WORDS {
+        return String::new();
+    }
+    let y = Rows::of(picture).refused() + 4.0;
+    let refused = |(place, column): (usize, &Column)| Some((place, column.refused.clone()?));
+    let mut refused = picture
+        .columns
+        .iter()
+        .enumerate()
+        .filter_map(refused)
+        .peekable();
+    let end = scale.x(picture.columns.len());
+    let mut out = String::new();
+    while let Some((place, code)) = refused.next() {
+        let x = scale.middle(place) + 4.0;
+        let free = refused.peek().map_or(end, |(next, _)| scale.middle(*next)) - x;
+        if width(&code) <= free {
+            out += &text(&ALERT, "start", x, y, &code);
+        }
+    }
+    out
+}
+
 /// The running task's number where its box has room.
 fn runners(picture: &Picture, scale: Scale) -> String {
     let mut out = String::new();
@@ -484,6 +509,7 @@ pub fn alone(picture: &Picture) -> String {
     out += &paths(picture, scale);
     out += &(numbers(picture, scale)
         + &times(picture, scale)
+        + &codes(picture, scale)
         + &runners(picture, scale)
         + &words(picture, scale));
     out += &hints(picture, scale);

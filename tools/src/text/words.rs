@@ -20,23 +20,40 @@ pub const UNUSED: &str = "unused";
 
 /// An event as the text form has it.
 pub fn event(five: Five) -> String {
+    brief(five) + &unused(rest(&five))
+}
+
+/// An event without the words that do not count.
+pub fn brief(five: Five) -> String {
     let [kind, number, words @ ..] = five;
-    if let Some((name, _)) = PLAIN.iter().find(|(_, plain)| *plain == kind) {
-        return name.to_string() + &unused(&five[1..]);
-    }
-    match kind {
-        context::TASK => format!("{TASK}>{}", call(number, words)),
-        context::HANDLER => format!("{HANDLER}>{}", call(number, words)),
+    match (kind, plain(kind)) {
+        (_, Some(name)) => name.to_string(),
+        (context::TASK, _) => format!("{TASK}>{}", call(number, words)),
+        (context::HANDLER, _) => format!("{HANDLER}>{}", call(number, words)),
         _ => format!("{ANY} {}", decimal(&five, " ")),
     }
 }
 
+fn plain(kind: i32) -> Option<&'static str> {
+    let found = PLAIN.iter().find(|(_, plain)| *plain == kind);
+    found.map(|(name, _)| *name)
+}
+
+/// The words of an event that do not count.
+fn rest(five: &Five) -> &[i32] {
+    let [kind, number, words @ ..] = five;
+    match (*kind, calls::by_number(*number)) {
+        (context::TASK | context::HANDLER, Some(call)) => &words[call.takes.len()..],
+        (kind, _) if plain(kind).is_some() => &five[1..],
+        _ => &[],
+    }
+}
+
 fn call(number: i32, words: [i32; 3]) -> String {
-    let Some(call) = calls::by_number(number) else {
-        return format!("{number}({})", decimal(&words, ", "));
-    };
-    let (taken, rest) = words.split_at(call.takes.len());
-    call.name.to_string() + &arguments(call, taken) + &unused(rest)
+    match calls::by_number(number) {
+        Some(call) => call.name.to_string() + &arguments(call, &words[..call.takes.len()]),
+        None => format!("{number}({})", decimal(&words, ", ")),
+    }
 }
 
 fn arguments(call: &Call, words: &[i32]) -> String {
@@ -115,6 +132,7 @@ mod tests {
         assert_eq!(event([4, -3, 2, 0, 4]), "return unused -3 2 0 4");
         assert_eq!(event([0, 40, 1, 0, 0]), "X>40(1, 0, 0)");
         assert_eq!(event([0, 13, 1, 0, 7]), "X>sig_sem(1) unused 0 7");
+        assert_eq!(brief([0, 13, 1, 0, 7]), "X>sig_sem(1)");
         assert_eq!(event([-5, 0, 0, 0, 1]), "event -5 0 0 0 1");
     }
 
