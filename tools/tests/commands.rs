@@ -190,7 +190,11 @@ fn opened(browser: &str, page: &Path, profile: &Path) -> String {
 #[test]
 fn pages_open_in_a_browser() {
     let Some(browser) = chromium() else {
-        println!("chromium is not on this machine: the pages were not opened");
+        // past the tests' capture, so that it is seen
+        let _ = writeln!(
+            std::io::stderr(),
+            "chromium is not on this machine: the pages were not opened"
+        );
         return;
     };
     let profile = scratch("profile");
@@ -208,4 +212,20 @@ fn pages_open_in_a_browser() {
     assert_eq!(labels.matches("class=\"alert\"").count(), 5);
     assert!(labels.contains("X&gt;set_abs(2, 3, 2)  H_USED"));
     assert!(labels.contains(">start<") && labels.contains(">4<"));
+}
+
+#[test]
+fn the_readme_lists_what_the_program_does() {
+    let text = example("text/light_sensor.txt").display().to_string();
+    let run = scratch("light_sensor.run").display().to_string();
+    assert_eq!(status(&okrozumba(&["assemble", &text, "-o", &run], &[])), 0);
+    let listed = okrozumba(&["list", &run], &[]);
+    let readme = Path::new(env!("CARGO_MANIFEST_DIR")).join("../README.md");
+    let readme = fs::read_to_string(readme).expect("there is a README");
+    let events = String::from_utf8_lossy(&listed.stdout).into_owned();
+    let is_event = |line: &&str| line.starts_with("   ");
+    assert_eq!(events.lines().filter(is_event).count(), 13);
+    for line in events.lines().filter(is_event) {
+        assert!(readme.contains(&format!("\n    {line}\n")), "{line}");
+    }
 }

@@ -305,32 +305,51 @@ mod tests {
     use crate::samples;
     use okrozumba::figures::Counter;
     use okrozumba::playback;
+    use std::fs;
 
-    /// The shipped runs that have a picture, and random ones.
-    fn runs() -> Vec<Vec<u8>> {
-        let shipped = samples::shipped().into_iter().map(|run| run.bytes);
-        let has_picture = |bytes: &Vec<u8>| Picture::of("", bytes, Range::default()).is_ok();
-        let drawn = (0..40).map(|seed| samples::drawn(seed, 200).0);
-        shipped.filter(has_picture).chain(drawn).collect()
+    /// A run and its text as `play` writes it.
+    struct Sample {
+        bytes: Vec<u8>,
+        text: String,
+    }
+
+    /// The shipped runs that have a picture, with their texts, and random ones.
+    fn runs() -> Vec<Sample> {
+        let shipped = samples::shipped().into_iter().map(|run| Sample {
+            text: fs::read_to_string(run.name.replace(".run", ".txt"))
+                .expect("its text is shipped"),
+            bytes: run.bytes,
+        });
+        let drawn = (0..40).map(|seed| {
+            let (bytes, _) = samples::drawn(seed, 200);
+            let text = played(&bytes);
+            Sample { bytes, text }
+        });
+        shipped
+            .filter(|run| run.text.starts_with("start"))
+            .chain(drawn)
+            .collect()
+    }
+
+    fn played(bytes: &[u8]) -> String {
+        let mut text = vec![0; 100_000];
+        let long = playback::play(bytes, &mut text).expect("there is place");
+        String::from_utf8_lossy(&text[..long]).into_owned()
     }
 
     fn whole(bytes: &[u8]) -> Picture {
         Picture::of("a run", bytes, Range::default()).expect("it has a picture")
     }
 
-    /// The numbers of the lines that `play` writes of events.
-    fn played(bytes: &[u8]) -> Vec<Vec<i64>> {
-        let mut text = vec![0; 100_000];
-        let long = playback::play(bytes, &mut text).expect("there is place");
-        let text = String::from_utf8_lossy(&text[..long]).into_owned();
+    /// The numbers of the lines of events.
+    fn numbers(text: &str) -> Vec<Vec<i64>> {
         let events = text.lines().filter(|line| !line.starts_with(['s', 'r']));
-        events
-            .map(|line| {
-                line.split(' ')
-                    .map(|number| number.parse().unwrap())
-                    .collect()
-            })
-            .collect()
+        let numbers = |line: &str| {
+            line.split(' ')
+                .map(|number| number.parse().unwrap())
+                .collect()
+        };
+        events.map(numbers).collect()
     }
 
     fn each(spans: &[Span]) -> Vec<u32> {
@@ -342,9 +361,9 @@ mod tests {
 
     #[test]
     fn numbers_are_the_players() {
-        for bytes in runs() {
+        for Sample { bytes, text } in runs() {
             let picture = whole(&bytes);
-            let played = played(&bytes);
+            let played = numbers(&text);
             let running = each(&picture.running());
             assert_eq!(picture.columns.len(), played.len() + 1);
             for (place, line) in played.iter().enumerate() {
@@ -364,7 +383,7 @@ mod tests {
 
     #[test]
     fn states_are_those_of_the_figures() {
-        for bytes in runs() {
+        for Sample { bytes, .. } in runs() {
             let mut counter = Counter::new();
             counter.part(&bytes);
             let record = counter.record();
@@ -386,7 +405,7 @@ mod tests {
 
     #[test]
     fn a_range_is_a_part_of_the_whole() {
-        for bytes in runs() {
+        for Sample { bytes, .. } in runs() {
             let all = whole(&bytes);
             let events = all.columns.len() as u32;
             let range = Range {
