@@ -195,15 +195,24 @@ fn read(file: &str) -> Result<Input, Failure> {
     }
 }
 
-/// A file's name without its folders, and nothing that would end a line.
+/// A file's name without its folders.
 fn title(file: &str) -> String {
-    let name = match file {
-        "-" => "standard input",
-        file => file.rsplit('/').next().unwrap_or(file),
+    match file {
+        "-" => "standard input".to_string(),
+        file => visible(file.rsplit('/').next().unwrap_or(file)),
+    }
+}
+
+/// A line without what would end it or steer a terminal.
+fn visible(line: &str) -> String {
+    let shown = |letter: char| {
+        if letter.is_control() && letter != '\t' {
+            '?'
+        } else {
+            letter
+        }
     };
-    name.chars()
-        .map(|letter| if letter.is_control() { '?' } else { letter })
-        .collect()
+    line.chars().map(shown).collect()
 }
 
 fn ask(command: &str, options: Options) -> Result<Done, Failure> {
@@ -235,14 +244,16 @@ fn assemble(input: &Input) -> Result<Done, Failure> {
 /// What is wrong with a text, the line, and a mark below the place.
 fn shown(input: &Input, wrong: &Wrong) -> String {
     let text = String::from_utf8_lossy(&input.bytes);
-    let line = text.lines().nth(wrong.at.line - 1).unwrap_or("");
+    let text = text.trim_start_matches('\u{feff}');
+    let line = visible(text.lines().nth(wrong.at.line - 1).unwrap_or(""));
     let before = line.chars().take(wrong.at.column - 1);
     let blank: String = before
         .map(|letter| if letter == '\t' { '\t' } else { ' ' })
         .collect();
     let pad = " ".repeat((wrong.at.column - 1).saturating_sub(blank.chars().count()));
     let mark = "^".repeat(wrong.at.width.max(1));
-    format!("{}:{wrong}\n    {line}\n    {blank}{pad}{mark}", input.name)
+    let said = visible(&format!("{}:{wrong}", input.name));
+    format!("{said}\n    {line}\n    {blank}{pad}{mark}")
 }
 
 /// A run's fault and its place.

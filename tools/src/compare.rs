@@ -1,6 +1,6 @@
 //! What a second setup changes in a run, as a page: the two setups, where the events differ, and the events that do, side by side.
 use okrozumba::compare::{self, TEXT};
-use okrozumba::{Answer, Code, EVENT_WORDS};
+use okrozumba::{Answer, EVENT_WORDS};
 
 use crate::html::{self, escaped};
 use crate::picture::model::{spans, Picture, Range};
@@ -143,14 +143,8 @@ fn table(changes: &[Change]) -> String {
 
 /// Code, running task and the rest of both answers; what differs is marked.
 fn row(change: &Change) -> String {
-    let parts = |answer: Answer| {
-        [
-            Code::of(answer.code).to_string(),
-            words::runs(answer.running),
-            words::given(change.five, answer),
-        ]
-    };
-    let (first, second) = (parts(change.first), parts(change.second));
+    let first = words::parts(change.five, change.first);
+    let second = words::parts(change.five, change.second);
     let cells = |own: &[String; 3], other: &[String; 3], side: &str| -> String {
         let cell = |(place, said): (usize, &String)| {
             let changed = if *said == other[place] {

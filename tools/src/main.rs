@@ -1,4 +1,6 @@
 //! `okrozumba`: see [`bench::command`].
+#![forbid(unsafe_code)]
+
 use std::io::{self, ErrorKind, Write};
 use std::process::ExitCode;
 

@@ -155,7 +155,7 @@ impl Painter {
         Column {
             number,
             event: words::brief(five),
-            answer: words::answer(five, answer),
+            answer: told(words::parts(five, answer)),
             refused: (answer.code < 0).then(|| Code::of(answer.code).to_string()),
             running: answer.running,
             depth: self.depth,
@@ -195,6 +195,12 @@ fn may_run(state: TaskState) -> bool {
         state,
         TaskState::Ready | TaskState::Run | TaskState::Suspend
     )
+}
+
+/// The parts of an answer that are not empty.
+fn told(parts: [String; 3]) -> String {
+    let parts: Vec<String> = parts.into_iter().filter(|part| !part.is_empty()).collect();
+    parts.join(", ")
 }
 
 fn start(running: u32) -> Column {

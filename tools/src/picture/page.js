@@ -4,8 +4,12 @@ const drawing = part("drawing"), frame = part("frame"), pane = part("window"), s
 const LEAST = 3; // columns in view at least
 const view = { from: 0, to: run.columns };
 
-const plotWidth = () => Math.max(50, frame.clientWidth - run.left - run.right);
-const columnWidth = () => plotWidth() / (view.to - view.from);
+// Asking the frame for its width makes the browser lay out the page, so that is done once for each size.
+let plotWidth = 0;
+function measure() {
+  plotWidth = Math.max(50, frame.clientWidth - run.left - run.right);
+}
+const columnWidth = () => plotWidth / (view.to - view.from);
 const x = (column) => run.left + (column - view.from) * columnWidth();
 const columnAt = (mouse) => Math.floor(view.from + (mouse.clientX - frame.getBoundingClientRect().left - run.left) / columnWidth());
 
@@ -42,7 +46,7 @@ function times() {
   let out = "", last = -Infinity;
   for (const [column, time] of run.ticks) {
     const at = x(column + .5);
-    if (at > frame.clientWidth - run.right) break;
+    if (at > run.left + plotWidth) break;
     if (at >= run.left && at - last >= 32) { out += text(at, run.ticksY, "faint", String(time)); last = at; }
   }
   return out;
@@ -66,7 +70,7 @@ function codes() {
   refusals.forEach(([column, code], i) => {
     if (column < view.from || column >= view.to) return;
     const at = x(column + .5) + 4, next = i + 1 < refusals.length ? x(refusals[i + 1][0] + .5) : Infinity;
-    if (at + 7.6 * code.length <= Math.min(next, x(view.to))) out += `<text class="alert" x="${at.toFixed(1)}" y="${run.refusedY}">${code}</text>`;
+    if (at + 8.2 * code.length <= Math.min(next, x(view.to))) out += `<text class="alert" x="${at.toFixed(1)}" y="${run.refusedY}">${code}</text>`;
   });
   return out;
 }
@@ -83,7 +87,7 @@ function words() {
 function draw() {
   const height = run.wordsY, wordy = columnWidth() >= run.words;
   pane.setAttribute("viewBox", `${view.from} 0 ${view.to - view.from} ${height}`);
-  pane.setAttribute("width", plotWidth());
+  pane.setAttribute("width", plotWidth);
   drawing.setAttribute("height", height + (wordy ? run.wordsHeight : 0));
   part("labels").innerHTML = numbers() + times() + runners() + (wordy ? words() : codes());
   scroll.firstChild.style.width = 100 * run.columns / (view.to - view.from) + "%";
@@ -176,6 +180,10 @@ addEventListener("keydown", (key) => {
 part("closer").onclick = () => zoom(.5);
 part("wider").onclick = () => zoom(2);
 part("all").onclick = () => show(0, run.columns);
-addEventListener("resize", redraw);
-addEventListener("beforeprint", draw);
-draw();
+function resize() {
+  measure();
+  draw();
+}
+addEventListener("resize", resize);
+addEventListener("beforeprint", resize);
+resize();

@@ -34,20 +34,20 @@ pub const ALERT: Colour = colour("alert", "#b3261e", "#ff8a80");
 
 const FILLS: [Colour; 7] = [PAPER, INK, FAINT, GRID, BAND, DEPTH, ALERT];
 
-/// The style sheet of all drawings: the colours as fills, and as strokes of what has the class `line` too.
+/// The style sheet of drawings and pages: the colours as variables, as fills, and as strokes of what has the class `line` too.
 pub fn css() -> String {
+    let light = rules(|colour| colour.light);
+    let dark = rules(|colour| colour.dark);
+    format!("{light}@media(prefers-color-scheme:dark){{{dark}}}")
+}
+
+fn rules(shade: fn(&Colour) -> &'static str) -> String {
     let all = || STATE.iter().chain(&FILLS);
-    let rules = |dark: bool| -> String {
-        let rule = |colour: &Colour| {
-            let shade = if dark { colour.dark } else { colour.light };
-            let class = colour.class;
-            format!(".{class}{{fill:{shade}}}.line.{class}{{fill:none;stroke:{shade}}}")
-        };
-        all().map(rule).collect()
+    let variable = |colour: &Colour| format!("--{}:{};", colour.class, shade(colour));
+    let rule = |colour: &Colour| {
+        let (class, shade) = (colour.class, shade(colour));
+        format!(".{class}{{fill:{shade}}}.line.{class}{{fill:none;stroke:{shade}}}")
     };
-    format!(
-        "{}@media(prefers-color-scheme:dark){{{}}}",
-        rules(false),
-        rules(true)
-    )
+    let variables: String = all().map(variable).collect();
+    format!(":root{{{variables}}}") + &all().map(rule).collect::<String>()
 }

@@ -181,10 +181,11 @@ impl<'a> Line<'a> {
 
 /// The known word that is most like this one, if one is.
 pub fn nearest<'a>(word: &str, known: impl Iterator<Item = &'a str>) -> Option<&'a str> {
-    const FAR: usize = 3;
+    let word = word.to_lowercase();
+    let far_off = 1 + word.chars().count() / 3;
     known
-        .map(|known| (distance(word, known), known))
-        .filter(|(far, _)| *far < FAR)
+        .map(|known| (distance(&word, &known.to_lowercase()), known))
+        .filter(|(far, _)| *far < far_off)
         .min_by_key(|(far, _)| *far)
         .map(|(_, known)| known)
 }
@@ -252,10 +253,12 @@ mod tests {
 
     #[test]
     fn likeness() {
-        assert_eq!(
-            nearest("sta_tks", ["slp_tsk", "sta_tsk"].into_iter()),
-            Some("sta_tsk")
-        );
-        assert_eq!(nearest("brightness", ["slp_tsk"].into_iter()), None);
+        let known = ["X", "H", "slp_tsk", "sta_tsk", "tick"];
+        let nearest = |word| nearest(word, known.into_iter());
+        assert_eq!(nearest("sta_tks"), Some("sta_tsk"));
+        assert_eq!(nearest("STA_TSK"), Some("sta_tsk"));
+        assert_eq!(nearest("tik"), Some("tick"));
+        assert_eq!((nearest("h"), nearest("y")), (Some("H"), None));
+        assert_eq!(nearest("brightness"), None);
     }
 }

@@ -32,9 +32,10 @@ pub fn assemble(text: &str) -> Result<Vec<u8>, Wrong> {
     Ok(bytes)
 }
 
-/// Text that is no UTF-8 has a place, too.
+/// The text of a file, without the mark that some editors put first. Bytes that are no UTF-8 have a place, too.
 pub fn utf8(bytes: &[u8]) -> Result<&str, Wrong> {
-    std::str::from_utf8(bytes).map_err(|wrong| {
+    let text = std::str::from_utf8(bytes).map(|text| text.trim_start_matches('\u{feff}'));
+    text.map_err(|wrong| {
         let before = String::from_utf8_lossy(&bytes[..wrong.valid_up_to()]);
         let line = before.matches('\n').count() + 1;
         let column = before
@@ -129,7 +130,10 @@ fn no_event(word: Word) -> Wrong {
         return word.wrong("this run was refused: it is not whole");
     }
     let plain = PLAIN.iter().map(|(name, _)| *name);
-    let known = KEYWORDS.into_iter().chain(plain).chain([ANY]);
+    let known = KEYWORDS
+        .into_iter()
+        .chain(plain)
+        .chain([TASK, HANDLER, ANY]);
     word.wrong(match nearest(name, known) {
         Some(near) => format!("no line begins with \"{name}\"; is \"{near}\" meant?"),
         None => format!("no line begins with \"{name}\""),

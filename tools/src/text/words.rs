@@ -102,14 +102,19 @@ pub fn given(five: Five, answer: Answer) -> String {
     said.join(", ")
 }
 
-/// An answer in a line: code, running task, what else is given.
-pub fn answer(five: Five, answer: Answer) -> String {
-    let code = Code::of(answer.code);
-    let line = format!(
-        "{code:<8}  {:<9}  {}",
+/// An answer in parts: code, running task, what else is given.
+pub fn parts(five: Five, answer: Answer) -> [String; 3] {
+    [
+        Code::of(answer.code).to_string(),
         runs(answer.running),
-        given(five, answer)
-    );
+        given(five, answer),
+    ]
+}
+
+/// An answer in a line, its parts below those of the line before.
+pub fn answer(five: Five, answer: Answer) -> String {
+    let [code, runs, given] = parts(five, answer);
+    let line = format!("{code:<8}  {runs:<9}  {given}");
     line.trim_end().to_string()
 }
 
