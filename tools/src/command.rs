@@ -326,5 +326,5 @@ fn month(files: &[String]) -> Result<Done, Failure> {
 fn compare(input: &Input) -> Result<Done, Failure> {
     let page = compare::page(&input.name, &input.bytes);
     page.map(Done::from)
-        .map_err(|why| Failure::Input(format!("{}: {why}", input.name)))
+        .map_err(|bad| Failure::Input(fault(input, bad)))
 }

@@ -1,5 +1,6 @@
 //! What a second setup changes in a run, as a page: the two setups, where the events differ, and the events that do, side by side.
 use okrozumba::compare::{self, TEXT};
+use okrozumba::recorder::BadRun;
 use okrozumba::{Answer, EVENT_WORDS};
 
 use crate::html::{self, escaped};
@@ -46,13 +47,13 @@ impl Input<'_> {
     }
 }
 
-/// The page of an input; or the line of its refusal.
-pub fn page(name: &str, bytes: &[u8]) -> Result<String, String> {
+/// The page of an input; or its fault.
+pub fn page(name: &str, bytes: &[u8]) -> Result<String, BadRun> {
     let mut text = vec![0; TEXT];
     let long = compare::compare(bytes, &mut text).expect("there is room for any text");
     let text = String::from_utf8_lossy(&text[..long]);
-    if text.starts_with("refused") {
-        return Err(refusal(text.trim_end()));
+    if let Some(bad) = run::bad(text.trim_end()) {
+        return Err(bad);
     }
     let input = Input::of(bytes);
     let changes = changes(&input, &text);
@@ -68,12 +69,6 @@ pub fn page(name: &str, bytes: &[u8]) -> Result<String, String> {
         pictures(&input),
     );
     Ok(html::page(&title, include_str!("tables.css"), &body))
-}
-
-/// The fault's words behind its line.
-fn refusal(line: &str) -> String {
-    let digit = line.split(' ').nth(1).and_then(|digit| digit.parse().ok());
-    format!("{line}: {}", digit.map_or("", run::fault))
 }
 
 fn changes(input: &Input, text: &str) -> Vec<Change> {
@@ -188,6 +183,7 @@ fn pictures(input: &Input) -> String {
 mod tests {
     use super::*;
     use crate::samples;
+    use okrozumba::Fault;
 
     fn shipped(name: &str) -> Vec<u8> {
         let inputs = samples::files("examples/compare", "run");
@@ -211,6 +207,6 @@ mod tests {
         assert!(equal.contains("<p>0 of "));
         assert!(page("", &shipped("no_events.run")).is_ok());
         let refused = page("", &shipped("refused_2_events.run")).unwrap_err();
-        assert!(refused.ends_with(": a count outside its range"));
+        assert_eq!(refused.fault, Fault::S2);
     }
 }

@@ -66,9 +66,8 @@ pub fn page(runs: &[Counted]) -> Result<String, String> {
 
 fn no_report(why: NoReport) -> String {
     match why {
-        NoReport::T1 => format!("T1: a month has at most {RECORDS} runs"),
-        NoReport::T2 => "T2: the output has another length".to_string(),
-        NoReport::T3 => "T3: a total is beyond 4294967295".to_string(),
+        NoReport::T1 => format!("{why}: a month has at most {RECORDS} runs"),
+        _ => why.to_string(),
     }
 }
 

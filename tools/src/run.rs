@@ -96,34 +96,31 @@ impl Iterator for Player<'_> {
     }
 }
 
-/// A fault's digit.
-pub fn digit(fault: Fault) -> u32 {
-    match fault {
-        Fault::S1 => 1,
-        Fault::S2 => 2,
-        Fault::S3 => 3,
-        Fault::S4 => 4,
-    }
-}
-
-/// The fault with a digit in words.
-pub fn fault(digit: u32) -> &'static str {
-    match digit {
-        1 => "the bytes end before a needed word is whole",
-        2 => "a count outside its range",
-        3 => "an entry outside its range",
-        _ => "the bytes go on behind the end",
-    }
-}
+/// The faults by their digits, from 1.
+const FAULTS: [Fault; 4] = [Fault::S1, Fault::S2, Fault::S3, Fault::S4];
 
 /// A run's fault as `play` writes it.
 pub fn refused(bad: BadRun) -> String {
-    format!("refused {} {}", digit(bad.fault), bad.place)
+    let before = FAULTS
+        .iter()
+        .take_while(|fault| **fault != bad.fault)
+        .count();
+    format!("refused {} {}", before + 1, bad.place)
 }
 
 /// The same, then in words.
 pub fn refusal(bad: BadRun) -> String {
-    format!("{}: {}", refused(bad), fault(digit(bad.fault)))
+    format!("{}: {}", refused(bad), bad.fault)
+}
+
+/// The fault and place of such a line.
+pub fn bad(line: &str) -> Option<BadRun> {
+    let (digit, place) = line.strip_prefix("refused ")?.split_once(' ')?;
+    let before = digit.parse::<usize>().ok()?.checked_sub(1)?;
+    Some(BadRun {
+        fault: *FAULTS.get(before)?,
+        place: place.parse().ok()?,
+    })
 }
 
 #[cfg(test)]
@@ -146,6 +143,18 @@ mod tests {
             };
         }
         text
+    }
+
+    #[test]
+    fn refusals() {
+        for fault in FAULTS {
+            let found = BadRun { fault, place: 104 };
+            assert_eq!(bad(&refused(found)), Some(found));
+        }
+        assert_eq!(
+            (bad("refused 0 4"), bad("refused 5 4"), bad("start 1")),
+            (None, None, None)
+        );
     }
 
     #[test]

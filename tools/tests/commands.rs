@@ -44,7 +44,7 @@ fn scratch(name: &str) -> PathBuf {
 fn list_and_assemble_are_the_identity() {
     for entry in fs::read_dir(example("runs")).expect("there are examples") {
         let path = entry.expect("it can be read").path();
-        if path.extension().is_none_or(|ending| ending != "run") {
+        if !path.extension().is_some_and(|ending| ending == "run") {
             continue;
         }
         let name = path.display().to_string();

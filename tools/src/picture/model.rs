@@ -1,6 +1,6 @@
 //! What a picture shows: columns, one for the start and one for each event, and lanes, one for each task.
 use okrozumba::recorder::BadRun;
-use okrozumba::{code, context, Answer, Code, TaskState, TaskStates};
+use okrozumba::{context, Answer, Code, TaskState, TaskStates};
 
 use crate::run::{Five, Line, Player};
 use crate::setup::Setup;
@@ -144,7 +144,7 @@ impl Painter {
     /// Entries and returns that are accepted change how many handlers are open.
     fn event(&mut self, number: u32, five: Five, answer: Answer) -> Column {
         let kind = five[0];
-        if answer.code == code::E_OK {
+        if answer.code() == Code::E_OK {
             match kind {
                 context::ENTRY => self.depth += 1,
                 context::RETURN => self.depth -= 1,
@@ -156,7 +156,10 @@ impl Painter {
             number,
             event: words::brief(five),
             answer: told(words::parts(five, answer)),
-            refused: (answer.code < 0).then(|| Code::of(answer.code).to_string()),
+            refused: answer
+                .code()
+                .is_refusal()
+                .then(|| answer.code().to_string()),
             running: answer.running,
             depth: self.depth,
             time: self.time,

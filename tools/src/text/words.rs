@@ -1,5 +1,5 @@
 //! Events and answers in words.
-use okrozumba::{code, context, Answer, Code};
+use okrozumba::{context, Answer, Code};
 
 use crate::calls::{self, Call};
 use crate::run::Five;
@@ -90,7 +90,7 @@ pub fn runs(task: u32) -> String {
 pub fn given(five: Five, answer: Answer) -> String {
     let mut said = Vec::new();
     let [kind, number, ..] = five;
-    if matches!(kind, context::TASK | context::HANDLER) && answer.code == code::E_OK {
+    if matches!(kind, context::TASK | context::HANDLER) && answer.code() == Code::E_OK {
         if let Some(call) = calls::by_number(number) {
             said.push(call.gives.written(answer.w1, answer.w2));
         }
@@ -105,7 +105,7 @@ pub fn given(five: Five, answer: Answer) -> String {
 /// An answer in parts: code, running task, what else is given.
 pub fn parts(five: Five, answer: Answer) -> [String; 3] {
     [
-        Code::of(answer.code).to_string(),
+        answer.code().to_string(),
         runs(answer.running),
         given(five, answer),
     ]

@@ -47,7 +47,7 @@ fn event(number: u32, five: Five, answer: Answer, out: &mut impl Write) -> io::R
 
 fn refusal(bad: BadRun, out: &mut impl Write) -> io::Result<BadRun> {
     let line = run::refused(bad);
-    writeln!(out, "{line:<39}  # {}", run::fault(run::digit(bad.fault)))?;
+    writeln!(out, "{line:<39}  # {}", bad.fault)?;
     Ok(bad)
 }
 
