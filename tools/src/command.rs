@@ -65,8 +65,9 @@ impl From<String> for Done {
     }
 }
 
-/// A file and its name.
+/// A file: where it is, what it is called, and what it holds.
 struct Input {
+    path: String,
     name: String,
     bytes: Vec<u8>,
 }
@@ -188,6 +189,7 @@ fn read(file: &str) -> Result<Input, Failure> {
     };
     match bytes {
         Ok(bytes) => Ok(Input {
+            path: path(file),
             name: title(file),
             bytes,
         }),
@@ -195,12 +197,18 @@ fn read(file: &str) -> Result<Input, Failure> {
     }
 }
 
-/// A file's name without its folders.
-fn title(file: &str) -> String {
+/// A file as it is called in messages.
+fn path(file: &str) -> String {
     match file {
         "-" => "standard input".to_string(),
-        file => visible(file.rsplit('/').next().unwrap_or(file)),
+        file => visible(file),
     }
+}
+
+/// The same without its folders, as a title.
+fn title(file: &str) -> String {
+    let path = path(file);
+    path.rsplit('/').next().unwrap_or(&path).to_string()
 }
 
 /// A line without what would end it or steer a terminal.
@@ -252,13 +260,19 @@ fn shown(input: &Input, wrong: &Wrong) -> String {
         .collect();
     let pad = " ".repeat((wrong.at.column - 1).saturating_sub(blank.chars().count()));
     let mark = "^".repeat(wrong.at.width.max(1));
-    let said = visible(&format!("{}:{wrong}", input.name));
+    let said = visible(&format!("{}:{wrong}", input.path));
     format!("{said}\n    {line}\n    {blank}{pad}{mark}")
 }
 
-/// A run's fault and its place.
+/// A run's fault and its place. No run is text alone: its first word has bytes of 0.
 fn fault(input: &Input, bad: BadRun) -> String {
-    format!("{}: {}", input.name, run::refusal(bad))
+    let is_text = !input.bytes.is_empty() && !input.bytes.contains(&0);
+    let hint = if is_text {
+        " (a text? okrozumba assemble makes a run of it)"
+    } else {
+        ""
+    };
+    format!("{}: {}{hint}", input.path, run::refusal(bad))
 }
 
 fn list(input: &Input) -> Result<Done, Failure> {
@@ -286,7 +300,7 @@ fn picture(input: &Input, options: &Options) -> Result<Done, Failure> {
 }
 
 fn no_picture(input: &Input, why: NoPicture) -> String {
-    let name = &input.name;
+    let name = &input.path;
     match why {
         NoPicture::Refused(bad) => fault(input, bad),
         NoPicture::Empty(events) => {

@@ -74,7 +74,18 @@ fn a_refused_run_is_told_as_play_does() {
         .lines()
         .last()
         .is_some_and(|line| line.starts_with("refused 1 104 ")));
-    assert!(said(&listed).starts_with("refused_1_in_an_event.run: refused 1 104: "));
+    let told = format!("{}: refused 1 104: S1, ", file.display());
+    assert!(said(&listed).starts_with(&told));
+}
+
+#[test]
+fn a_text_in_place_of_a_run_is_told() {
+    let text = example("text/light_sensor.txt").display().to_string();
+    for command in ["list", "picture", "month", "compare"] {
+        let output = okrozumba(&[command, &text], &[]);
+        assert_eq!(status(&output), 1);
+        assert!(said(&output).ends_with(" (a text? okrozumba assemble makes a run of it)\n"));
+    }
 }
 
 #[test]

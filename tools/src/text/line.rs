@@ -182,7 +182,8 @@ impl<'a> Line<'a> {
 /// The known word that is most like this one, if one is.
 pub fn nearest<'a>(word: &str, known: impl Iterator<Item = &'a str>) -> Option<&'a str> {
     let word = word.to_lowercase();
-    let far_off = 1 + word.chars().count() / 3;
+    let is_sign = word.chars().count() < 3;
+    let far_off = if is_sign { 1 } else { 3 };
     known
         .map(|known| (distance(&word, &known.to_lowercase()), known))
         .filter(|(far, _)| *far < far_off)
@@ -253,11 +254,14 @@ mod tests {
 
     #[test]
     fn likeness() {
-        let known = ["X", "H", "slp_tsk", "sta_tsk", "tick"];
+        let known = ["X", "H", "slp_tsk", "sta_tsk", "tick", "entry"];
         let nearest = |word| nearest(word, known.into_iter());
         assert_eq!(nearest("sta_tks"), Some("sta_tsk"));
         assert_eq!(nearest("STA_TSK"), Some("sta_tsk"));
-        assert_eq!(nearest("tik"), Some("tick"));
+        assert_eq!(
+            (nearest("tik"), nearest("enter")),
+            (Some("tick"), Some("entry"))
+        );
         assert_eq!((nearest("h"), nearest("y")), (Some("H"), None));
         assert_eq!(nearest("brightness"), None);
     }
