@@ -11,6 +11,7 @@ mod handlers;
 mod month;
 mod pair;
 mod parts;
+mod peer;
 mod playback;
 mod program;
 mod reach;
@@ -29,7 +30,7 @@ pub type Verdict = Result<String, String>;
 
 type Part = (&'static str, fn() -> Verdict);
 
-const PARTS: [Part; 15] = [
+const PARTS: [Part; 16] = [
     ("bench sheet", sheet::check),
     ("random runs", runs::check),
     ("states of all tasks", states::check),
@@ -45,6 +46,7 @@ const PARTS: [Part; 15] = [
     ("changed setups", compare::check),
     ("brightness", brightness::check),
     ("runs in parts", parts::check),
+    ("the peer in C", peer::check),
 ];
 
 fn timed(check: fn() -> Verdict) -> (Verdict, f64) {

@@ -1,0 +1,264 @@
+/* Whether a state keeps every rule of "A sound state", for a state that may be damaged.
+
+   A walk of a ring goes on only to a task whose backward link is the step just made, so it comes to no task twice, and no task stands in
+   two rings. Each task met belongs there by its own words; so if as many were met as belong to some queue, each stands where it should. */
+#include "rules.h"
+
+/* ---- tasks */
+
+/* What the tasks say of themselves: who waits for a time, and how many stand in queues. */
+struct census {
+    uint32_t timed;
+    uint32_t queued;
+};
+
+/* What is due later than the next look, and within the longest time. */
+static inline bool is_due_sound(const struct peer *k, const struct task *t)
+{
+    uint32_t now = (uint32_t)k->clock;
+    uint32_t left = t->due - now;
+    return left - 1 < INT32_MAX && k->soonest - now - 1 < left;
+}
+
+/* That a waiter's object is there is seen where its queue is walked. */
+static inline bool is_wait_sound(const struct peer *k, const struct task *t, uint32_t bit, struct census *all)
+{
+    switch (t->kind) {
+    case SLEEP:
+        return t->wakeups == 0;
+    case TIMED:
+        all->timed |= bit;
+        return t->wakeups == 0 && is_due_sound(k, t);
+    default:
+        all->queued++;
+        return true;
+    }
+}
+
+static inline bool is_task_sound(const struct peer *k, const struct task *t, uint32_t bit, struct census *all)
+{
+    if (t->status == ABSENT)
+        return is_nothing(t);
+    if (!are_numbers_sound(k, t))
+        return false;
+    switch (t->status) {
+    case DORMANT:
+        return t->wakeups == 0 && t->priority == t->start;
+    case READY:
+        all->queued++;
+        return true;
+    case SUSPEND:
+        return true;
+    case WAIT:
+    case WAIT_SUSPEND:
+        return is_wait_sound(k, t, bit, all);
+    default:
+        return false;
+    }
+}
+
+static inline bool tasks_are_sound(const struct peer *k, struct census *all)
+{
+    for (uint32_t i = 0; i < k->tasks; i++)
+        if (!is_task_sound(k, &k->task[i + 1], 1u << i, all))
+            return false;
+    return k->timed == all->timed;
+}
+
+/* ---- queues of tasks */
+
+/* The task behind a node of a ring; NULL if the link leads elsewhere, or isn't linked back. */
+static inline const struct task *onward(const struct peer *k, const struct queue *node)
+{
+    uintptr_t offset = (uintptr_t)node->next - (uintptr_t)&k->task[1];
+    if (offset % sizeof(struct task) != 0 || offset / sizeof(struct task) >= k->tasks || node->next->prev != node)
+        return NULL;
+    return (const struct task *)node->next;
+}
+
+static inline bool is_ready_queue_sound(const struct peer *k, const struct queue *q, uint32_t priority, uint32_t *met)
+{
+    const struct queue *node = q;
+    while (node->next != q) {
+        const struct task *t = onward(k, node);
+        if (t == NULL || t->status != READY || t->priority != priority)
+            return false;
+        ++*met;
+        node = &t->node;
+    }
+    return q->prev == node;
+}
+
+/* The queue of the idle task has it alone. */
+static inline bool is_idle_sound(const struct peer *k)
+{
+    const struct queue *q = &k->ready_queue[PRIORITIES_MOST];
+    const struct queue *idle = &k->task[0].node;
+    return q->next == idle && q->prev == idle && idle->next == q && idle->prev == q;
+}
+
+static inline bool ready_queues_are_sound(const struct peer *k, uint32_t *met)
+{
+    uint32_t ready = IDLE_BIT;
+    for (uint32_t p = 1; p <= k->priorities; p++) {
+        const struct queue *q = &k->ready_queue[p - 1];
+        if (!is_ready_queue_sound(k, q, p, met))
+            return false;
+        if (!is_empty(q))
+            ready |= bit_of(p);
+    }
+    return k->ready == ready && is_idle_sound(k);
+}
+
+static inline bool is_waiter(const struct task *t, uint32_t kind, uint32_t object)
+{
+    return is_waiting(t) && t->kind == kind && t->object == object;
+}
+
+/* Where the object has what would serve a waiter, there is none. */
+static inline bool is_wait_queue_sound(const struct peer *k, const struct queue *q, uint32_t kind, uint32_t object, bool serves,
+                                       uint32_t *met)
+{
+    const struct queue *node = q;
+    if (serves)
+        return node->next == q && q->prev == q;
+    while (node->next != q) {
+        const struct task *t = onward(k, node);
+        if (t == NULL || !is_waiter(t, kind, object))
+            return false;
+        ++*met;
+        node = &t->node;
+    }
+    return q->prev == node;
+}
+
+static inline bool semaphores_are_sound(const struct peer *k, uint32_t *met)
+{
+    for (uint32_t i = 0; i < k->semaphores; i++) {
+        const struct semaphore *s = &k->semaphore[i];
+        if (s->count > SEMAPHORE_MOST || !is_wait_queue_sound(k, &s->waiters, SEMAPHORE, i + 1, s->count != 0, met))
+            return false;
+    }
+    return true;
+}
+
+static inline bool is_flag_sound(const struct peer *k, const struct flag *f, uint32_t id, uint32_t *met)
+{
+    const struct queue *node = &f->waiters;
+    while (node->next != &f->waiters) {
+        const struct task *t = onward(k, node);
+        if (t == NULL || !is_waiter(t, FLAG, id) || t->wish == 0 || t->mode > MODE_MOST || meets(f->pattern, t->wish, t->mode))
+            return false;
+        ++*met;
+        node = &t->node;
+    }
+    return f->waiters.prev == node;
+}
+
+static inline bool flags_are_sound(const struct peer *k, uint32_t *met)
+{
+    for (uint32_t i = 0; i < k->flags; i++)
+        if (!is_flag_sound(k, &k->flag[i], i + 1, met))
+            return false;
+    return true;
+}
+
+/* ---- messages */
+
+/* Each message of the mailbox is marked as its own. A list that comes back to itself has more than there are messages. */
+static inline bool is_mail_sound(const struct peer *k, const struct mailbox *m, uint32_t id, uint32_t *lying)
+{
+    uint32_t last = m->last;
+    for (uint32_t j = m->first; j != 0; j = k->next[j]) {
+        if (j > k->messages || k->lies_in[j] != id || *lying == k->messages)
+            return false;
+        ++*lying;
+        last = j;
+    }
+    return m->last == last;
+}
+
+static inline uint32_t marked(const struct peer *k)
+{
+    uint32_t many = 0;
+    for (uint32_t j = 1; j <= k->messages; j++)
+        many += k->lies_in[j] != 0;
+    return many;
+}
+
+static inline bool mailboxes_are_sound(const struct peer *k, uint32_t *met)
+{
+    uint32_t lying = 0;
+    for (uint32_t i = 0; i < k->mailboxes; i++) {
+        const struct mailbox *m = &k->mailbox[i];
+        if (!is_mail_sound(k, m, i + 1, &lying) || !is_wait_queue_sound(k, &m->waiters, MAILBOX, i + 1, m->first != 0, met))
+            return false;
+    }
+    return lying == marked(k);
+}
+
+/* ---- blocks */
+
+/* As many as are listed are free, and all that are listed: so each free one is listed once. */
+static inline bool is_line_sound(const struct pool *p)
+{
+    uint32_t all = 0;
+    uint32_t listed = 0;
+    for (uint32_t i = 0; i < p->count; i++) {
+        uint32_t block = p->line[(p->head + i) % BLOCKS_MOST];
+        all |= block;
+        listed |= 1u << block % BLOCKS_MOST;
+    }
+    return all < BLOCKS_MOST && listed == p->free && (uint32_t)__builtin_popcount(listed) == p->count;
+}
+
+static inline bool pools_are_sound(const struct peer *k, uint32_t *met)
+{
+    for (uint32_t i = 0; i < k->pools; i++) {
+        const struct pool *p = &k->pool[i];
+        bool numbers = p->blocks - 1 < BLOCKS_MOST && p->head < BLOCKS_MOST && p->count <= p->blocks;
+        if (!numbers || p->free > UINT32_MAX >> (BLOCKS_MOST - p->blocks) || !is_line_sound(p) ||
+            !is_wait_queue_sound(k, &p->waiters, POOL, i + 1, p->free != 0, met))
+            return false;
+    }
+    return true;
+}
+
+/* ---- alarms, and who runs */
+
+/* No alarm in use fires before the next look. */
+static inline bool is_alarm_set_sound(const struct peer *k, const struct alarm *alarm)
+{
+    return is_due_in_range(k, alarm) && k->until - 1 < distance(k, alarm->expiry);
+}
+
+/* Without a counter nothing of the alarms counts. */
+static inline bool alarms_are_sound(const struct peer *k)
+{
+    if (k->round == 0)
+        return true;
+    if (!is_counter_sound(k))
+        return false;
+    for (uint32_t i = 0; i < ALARMS; i++) {
+        const struct alarm *alarm = &k->alarm[i];
+        if (!is_alarm_sound(k, alarm) || ((k->used >> i & 1) && !is_alarm_set_sound(k, alarm)))
+            return false;
+    }
+    return true;
+}
+
+static inline bool is_running_sound(const struct peer *k)
+{
+    if (k->depth == 0)
+        return k->running == id_of(k, first(&k->ready_queue[lowest(k->ready)]));
+    return is_interrupted_sound(k);
+}
+
+bool is_sound(const struct peer *k)
+{
+    struct census all = {0};
+    uint32_t met = 0;
+    return counts_are_sound(k) && alarms_are_sound(k) && tasks_are_sound(k, &all) && ready_queues_are_sound(k, &met) &&
+           semaphores_are_sound(k, &met) && flags_are_sound(k, &met) && mailboxes_are_sound(k, &met) && pools_are_sound(k, &met) &&
+           met == all.queued && is_running_sound(k);
+}
