@@ -2,8 +2,9 @@
 //!
 //! Queues are doubly linked rings in arrays: nodes 1 to 32 are tasks (1 to 256 messages, or free blocks, 32 for each pool), the nodes behind
 //! them anchors, one for each queue.
-//! Bit masks say which ready queues are nonempty, which tasks wait for a time and which alarms are in use. Nothing is allocated. Numbers that a sound state keeps in
-//! their ranges are trusted; `Kernel::is_sound` looks at all of them, and `Kernel::checked_event` does so before the event.
+//! Bit masks say which ready queues are nonempty, which tasks wait for a time and which alarms are in use; a tick looks at them only when
+//! one of them may be due. Nothing is allocated. Numbers that a sound state keeps in their ranges are trusted; `Kernel::is_sound` looks at
+//! all of them, and `Kernel::checked_event` does so before the event.
 
 mod damage;
 
@@ -71,7 +72,8 @@ struct Task {
     object: u32,
     wish: u32,
     mode: u32,
-    ticks: u32,
+    /// The low word of the clock when a timed wait ends.
+    due: u32,
     code: i32,
     word: u32,
 }
@@ -93,7 +95,7 @@ struct Link {
     prev: u32,
 }
 
-/// Rings over N nodes. A node in no ring, and an empty anchor, points to itself.
+/// Rings over N nodes. An empty anchor points to itself; what a node in no ring holds doesn't count.
 #[derive(Clone, PartialEq)]
 struct Rings<const N: usize> {
     link: [Link; N],
@@ -143,10 +145,6 @@ impl<const N: usize> Rings<N> {
         let Link { next, prev } = self.link[node as usize];
         self.link[prev as usize].next = next;
         self.link[next as usize].prev = prev;
-        self.link[node as usize] = Link {
-            next: node,
-            prev: node,
-        };
     }
 }
 
@@ -158,6 +156,8 @@ pub struct Kernel {
     depth: u32,
     ready: u32,
     timed: u32,
+    /// No timed wait ends before this low word of the clock.
+    soonest: u32,
     clock: u64,
     priorities: u32,
     tasks: u32,
@@ -175,10 +175,11 @@ pub struct Kernel {
     mail: Rings<{ MESSAGES + 17 }>,
     mailbox: [u32; MESSAGES + 1],
     blocks: Rings<{ BLOCKS + 9 }>,
-    /// The counter's size, 0 if there is none; its present count; and the alarms in use.
+    /// The counter's size, 0 if there is none; its present count; the alarms in use; and the ticks before which none of them fires.
     round: u32,
     present: u32,
     used: u32,
+    until: u32,
     alarm: [Alarm; ALARMS + 1],
 }
 
@@ -277,6 +278,7 @@ impl Kernel {
             depth: 0,
             ready: 0,
             timed: 0,
+            soonest: 0,
             clock: 0,
             priorities: setup.priorities,
             tasks: setup.tasks.len() as u32,
@@ -297,6 +299,7 @@ impl Kernel {
             round: 0,
             present: 0,
             used: 0,
+            until: 0,
             alarm: [Alarm::default(); ALARMS + 1],
         };
         if let Some(counter) = &setup.counter {
@@ -407,15 +410,27 @@ impl Kernel {
     /// The running task sleeps, for so many ticks if there are any.
     fn sleep(&mut self, t: u32, ticks: u32) {
         self.leave_ready(t);
-        let task = self.at_mut(t);
-        task.status = WAIT;
-        task.ticks = ticks;
+        self.at_mut(t).status = WAIT;
         if ticks == 0 {
-            task.kind = SLEEP;
+            self.at_mut(t).kind = SLEEP;
         } else {
-            task.kind = TIMED;
-            self.timed |= 1 << (t - 1);
+            self.wait_ticks(t, ticks);
         }
+    }
+
+    fn now(&self) -> u32 {
+        self.clock as u32
+    }
+
+    fn wait_ticks(&mut self, t: u32, ticks: u32) {
+        let due = self.now().wrapping_add(ticks);
+        if self.timed == 0 || ticks < self.soonest.wrapping_sub(self.now()) {
+            self.soonest = due;
+        }
+        self.timed |= 1 << (t - 1);
+        let task = self.at_mut(t);
+        task.kind = TIMED;
+        task.due = due;
     }
 
     /// A task goes dormant.
@@ -995,12 +1010,27 @@ impl Kernel {
         if self.is_used(i) {
             return Err(H_USED);
         }
-        self.used |= 1 << (i - 1);
-        let expiry = self.reduced(from + count as u32);
-        let alarm = &mut self.alarm[i as usize];
-        alarm.expiry = expiry;
-        alarm.period = period as u32;
+        self.alarm[i as usize].period = period as u32;
+        self.arm(i, self.reduced(from + count as u32));
         DONE
+    }
+
+    /// The ticks until the counter reaches a count: 1 to the round.
+    fn distance(&self, count: u32) -> u32 {
+        if count > self.present {
+            count - self.present
+        } else {
+            count + self.round - self.present
+        }
+    }
+
+    fn arm(&mut self, i: u32, expiry: u32) {
+        let left = self.distance(expiry);
+        if self.used == 0 || left < self.until {
+            self.until = left;
+        }
+        self.used |= 1 << (i - 1);
+        self.alarm[i as usize].expiry = expiry;
     }
 
     /// The remainder of what is below two rounds.
@@ -1032,37 +1062,45 @@ impl Kernel {
     /// The counter's step in a tick: gives how many tasks the alarms release.
     fn count_on(&mut self) -> u32 {
         self.present = self.reduced(self.present + 1);
-        let mut left = self.used;
+        if self.used == 0 {
+            return 0;
+        }
+        self.until -= 1;
+        if self.until == 0 {
+            self.look_at_alarms()
+        } else {
+            0
+        }
+    }
+
+    /// Those that are due fire; the next look is at the first of the others and of those set again.
+    fn look_at_alarms(&mut self) -> u32 {
+        let mut left = std::mem::take(&mut self.used);
         let mut n = 0;
         while left != 0 {
             let i = left.trailing_zeros() + 1;
             left &= left - 1;
-            if self.alarm[i as usize].expiry == self.present {
-                n += self.fire(i);
+            let Alarm { expiry, period, .. } = self.alarm[i as usize];
+            if expiry != self.present {
+                self.arm(i, expiry);
+                continue;
+            }
+            n += self.fire(i);
+            if period != 0 {
+                self.arm(i, self.reduced(self.present + period));
             }
         }
         n
     }
 
     fn fire(&mut self, i: u32) -> u32 {
-        let Alarm {
-            task,
-            wakes,
-            period,
-            ..
-        } = self.alarm[i as usize];
+        let Alarm { task, wakes, .. } = self.alarm[i as usize];
         let done = if wakes != 0 {
             self.wake(task)
         } else {
             self.start_task(task).map(|()| 0)
         };
-        let again = self.reduced(self.present + period);
-        let alarm = &mut self.alarm[i as usize];
-        alarm.kept = done.err().unwrap_or(0);
-        alarm.expiry = again;
-        if period == 0 {
-            self.used &= !(1 << (i - 1));
-        }
+        self.alarm[i as usize].kept = done.err().unwrap_or(0);
         done.unwrap_or(0)
     }
 
@@ -1118,21 +1156,34 @@ impl Kernel {
     /// Gives how many tasks are released.
     fn tick(&mut self) -> u32 {
         self.clock = (self.clock + 1) & ((1 << 48) - 1);
-        let mut left = self.timed;
         let mut n = 0;
-        while left != 0 {
-            let t = left.trailing_zeros() + 1;
-            left &= left - 1;
-            let task = self.at_mut(t);
-            task.ticks -= 1;
-            if task.ticks == 0 {
-                self.release(t, E_TMOUT, 0);
-                n += 1;
-            }
+        if self.timed != 0 && self.now() == self.soonest {
+            n += self.look_at_waits();
         }
         if self.round != 0 {
             n += self.count_on();
         }
+        n
+    }
+
+    /// Those that are due end; the next look is when the first of the others is.
+    fn look_at_waits(&mut self) -> u32 {
+        let now = self.now();
+        let mut left = self.timed;
+        let mut soonest = u32::MAX;
+        let mut n = 0;
+        while left != 0 {
+            let t = left.trailing_zeros() + 1;
+            left &= left - 1;
+            let ticks = self.at(t).due.wrapping_sub(now);
+            if ticks == 0 {
+                self.release(t, E_TMOUT, 0);
+                n += 1;
+            } else {
+                soonest = soonest.min(ticks);
+            }
+        }
+        self.soonest = now.wrapping_add(soonest);
         n
     }
 
@@ -1257,14 +1308,21 @@ impl Kernel {
         kept && alarm.task.wrapping_sub(1) < self.tasks && (due || !self.is_used(i))
     }
 
+    /// Of a timed wait.
+    fn left(&self, task: &Task) -> u32 {
+        task.due.wrapping_sub(self.now())
+    }
+
     fn is_wait_sound(&self, task: &Task, t: u32) -> bool {
         let exists = |n: u32| task.object.wrapping_sub(1) < n;
         let o = task.object as usize;
         match task.kind {
             SLEEP => task.wakeups == 0,
             TIMED => {
+                let left = self.left(task);
                 task.wakeups == 0
-                    && task.ticks.wrapping_sub(1) < i32::MAX as u32
+                    && left.wrapping_sub(1) < i32::MAX as u32
+                    && self.soonest.wrapping_sub(self.now()).wrapping_sub(1) < left
                     && self.timed >> (t - 1) & 1 == 1
             }
             SEMAPHORE => exists(self.semaphores) && self.count[o] == 0,
@@ -1328,63 +1386,52 @@ impl Kernel {
     }
 
     fn queues_are_sound(&self) -> bool {
-        let mut marks = [0u32; TASKS + 1];
-        let walked = self
-            .queue
-            .walk(self.tasks, ready_anchor(1), self.priorities, &mut marks)
-            && self.queue.walk(
-                self.tasks,
-                wait_anchor(SEMAPHORE, 1),
-                self.semaphores,
-                &mut marks,
-            )
-            && self
-                .queue
-                .walk(self.tasks, wait_anchor(FLAG, 1), self.flags, &mut marks)
-            && self.queue.walk(
-                self.tasks,
-                wait_anchor(MAILBOX, 1),
-                self.mailboxes,
-                &mut marks,
-            )
-            && self
-                .queue
-                .walk(self.tasks, wait_anchor(POOL, 1), self.pools, &mut marks);
-        walked
-            && (1..=self.tasks).all(|t| {
-                marks[t as usize] == self.home(t)
-                    && (marks[t as usize] != 0 || self.queue.next(t) == t)
-            })
+        let rings = [
+            (ready_anchor(1), self.priorities),
+            (wait_anchor(SEMAPHORE, 1), self.semaphores),
+            (wait_anchor(FLAG, 1), self.flags),
+            (wait_anchor(MAILBOX, 1), self.mailboxes),
+            (wait_anchor(POOL, 1), self.pools),
+        ];
+        let mut met = 0;
+        let walk = |(anchor, many)| {
+            self.queue
+                .walk(self.tasks, anchor, many, |t| self.home(t), &mut met)
+        };
+        let walked = rings.into_iter().all(walk);
+        walked && met == (1..=self.tasks).filter(|t| self.home(*t) != 0).count()
     }
 
     fn mail_is_sound(&self) -> bool {
-        let mut marks = [0u32; MESSAGES + 1];
         let home = |j: u32| match self.mailbox[j as usize] {
             0 => 0,
             // a mark too large for a mailbox stays no anchor
             m => mail_anchor(0).saturating_add(m),
         };
-        self.mail
-            .walk(self.messages, mail_anchor(1), self.mailboxes, &mut marks)
-            && (1..=self.messages).all(|j| {
-                marks[j as usize] == home(j) && (marks[j as usize] != 0 || self.mail.next(j) == j)
-            })
+        let marked = &self.mailbox[1..=self.messages as usize];
+        let mut met = 0;
+        let walked = self.mail.walk(
+            self.messages,
+            mail_anchor(1),
+            self.mailboxes,
+            home,
+            &mut met,
+        );
+        walked && met == marked.iter().filter(|m| **m != 0).count()
     }
 
     fn blocks_are_sound(&self) -> bool {
-        let mut marks = [0u32; BLOCKS + 1];
-        let nodes = 32 * self.pools;
         let home = |node: u32| {
-            let (p, bit) = (node.div_ceil(32), (node - 1) % 32);
+            let (p, bit) = ((node + 31) / 32, (node - 1) % 32);
             let free = self.free[p as usize] >> bit & 1;
             free * free_anchor(p)
         };
-        self.blocks
-            .walk(nodes, free_anchor(1), self.pools, &mut marks)
-            && (1..=nodes).all(|node| {
-                marks[node as usize] == home(node)
-                    && (marks[node as usize] != 0 || self.blocks.next(node) == node)
-            })
+        let free = &self.free[1..=self.pools as usize];
+        let mut met = 0;
+        let walked = self
+            .blocks
+            .walk(32 * self.pools, free_anchor(1), self.pools, home, &mut met);
+        walked && met == free.iter().map(|free| free.count_ones() as usize).sum()
     }
 
     /// The mask of the ready queues, the depth, and who runs or was interrupted.
@@ -1395,7 +1442,18 @@ impl Kernel {
                 ready |= 1 << (p - 1);
             }
         }
-        self.ready == ready && self.depth <= 15 && self.is_running_sound()
+        self.ready == ready
+            && self.depth <= 15
+            && self.is_running_sound()
+            && self.is_next_look_sound()
+    }
+
+    /// No alarm in use fires before the next look at them.
+    fn is_next_look_sound(&self) -> bool {
+        let early =
+            |i: &u32| self.until.wrapping_sub(1) >= self.distance(self.alarm[*i as usize].expiry);
+        let mut used = (1..=ALARMS as u32).filter(|i| self.is_used(*i));
+        self.round == 0 || !used.any(|i| early(&i))
     }
 
     fn is_running_sound(&self) -> bool {
@@ -1408,10 +1466,17 @@ impl Kernel {
 }
 
 impl<const N: usize> Rings<N> {
-    /// Walks the rings of `count` anchors from `anchor` on and marks each node with its ring's anchor. False if a link is damaged or leads
-    /// to a node that is none of 1 to n, or has a mark.
-    fn walk(&self, n: u32, anchor: u32, count: u32, marks: &mut [u32]) -> bool {
-        for a in anchor..anchor + count {
+    /// Walks the rings of `many` anchors from `anchor` on and counts whom it meets. False if a link is damaged or leads to a node that is
+    /// none of 1 to n, or has its home elsewhere. A node is met once, since its backward link is the only way to it.
+    fn walk(
+        &self,
+        n: u32,
+        anchor: u32,
+        many: u32,
+        home: impl Fn(u32) -> u32,
+        met: &mut usize,
+    ) -> bool {
+        for a in anchor..anchor + many {
             let mut x = a;
             loop {
                 let y = self.next(x);
@@ -1421,10 +1486,10 @@ impl<const N: usize> Rings<N> {
                 if y == a {
                     break;
                 }
-                if y.wrapping_sub(1) >= n || marks[y as usize] != 0 {
+                if y.wrapping_sub(1) >= n || home(y) != a {
                     return false;
                 }
-                marks[y as usize] = a;
+                *met += 1;
                 x = y;
             }
         }

@@ -65,7 +65,7 @@ impl Kernel {
         let exists = |n: u32| (1..=n).contains(&task.object);
         match task.kind {
             SLEEP => task.wakeups == 0,
-            TIMED => task.wakeups == 0 && (1..=i32::MAX as u32).contains(&task.ticks),
+            TIMED => task.wakeups == 0 && (1..=i32::MAX as u32).contains(&self.left(task)),
             SEMAPHORE => exists(self.semaphores),
             FLAG => exists(self.flags) && task.wish != 0 && task.mode <= 3,
             MAILBOX => exists(self.mailboxes),

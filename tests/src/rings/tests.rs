@@ -111,10 +111,10 @@ fn listed<const N: usize>(rings: &Rings<N>, anchor: u32, many: u32, n: u32) -> Q
     (anchor..anchor + many).map(queue).collect()
 }
 
-fn wait_of(task: &Task) -> Wait {
+fn wait_of(k: &Kernel, task: &Task) -> Wait {
     match task.kind {
         SLEEP => Wait::Asleep,
-        TIMED => Wait::Timed(task.ticks),
+        TIMED => Wait::Timed(k.left(task)),
         SEMAPHORE => Wait::On(Object::Semaphore(task.object), 0, 0),
         FLAG => Wait::On(Object::Flag(task.object), task.wish, task.mode),
         MAILBOX => Wait::On(Object::Mailbox(task.object), 0, 0),
@@ -122,7 +122,7 @@ fn wait_of(task: &Task) -> Wait {
     }
 }
 
-fn task_of(task: &Task) -> picture::Task {
+fn task_of(k: &Kernel, task: &Task) -> picture::Task {
     picture::Task {
         start: task.start,
         priority: task.priority,
@@ -130,9 +130,9 @@ fn task_of(task: &Task) -> picture::Task {
             DORMANT => Standing::Dormant,
             READY => Standing::Ready,
             SUSPEND => Standing::Suspend,
-            WAIT => Standing::Wait(wait_of(task)),
+            WAIT => Standing::Wait(wait_of(k, task)),
             ABSENT => Standing::Absent,
-            _ => Standing::WaitSuspend(wait_of(task)),
+            _ => Standing::WaitSuspend(wait_of(k, task)),
         },
         wakeups: task.wakeups,
         cell: (task.code, task.word),
@@ -153,7 +153,7 @@ fn shown(k: &Kernel) -> Picture {
     };
     Picture {
         priorities: k.priorities,
-        tasks: (1..=k.tasks).map(|t| task_of(k.at(t))).collect(),
+        tasks: (1..=k.tasks).map(|t| task_of(k, k.at(t))).collect(),
         semaphores: k.count[1..=k.semaphores as usize].to_vec(),
         flags: k.pattern[1..=k.flags as usize].to_vec(),
         mailboxes: k.mailboxes,
@@ -199,31 +199,26 @@ fn put_counter(k: &mut Kernel, from: &picture::Counter) {
         let to = &mut k.alarm[i as usize];
         to.kept = alarm.kept;
         if let Some(due) = alarm.due {
-            to.expiry = due.expiry;
             to.period = due.period;
-            k.used |= 1 << (i - 1);
+            k.arm(i, due.expiry);
         }
     }
 }
 
 fn put_wait(k: &mut Kernel, t: u32, wait: Wait) {
-    let (kind, object, wish, mode, ticks) = match wait {
-        Wait::Asleep => (SLEEP, 0, 0, 0, 0),
-        Wait::Timed(left) => (TIMED, 0, 0, 0, left),
-        Wait::On(Object::Semaphore(on), wish, mode) => (SEMAPHORE, on, wish, mode, 0),
-        Wait::On(Object::Flag(on), wish, mode) => (FLAG, on, wish, mode, 0),
-        Wait::On(Object::Mailbox(on), wish, mode) => (MAILBOX, on, wish, mode, 0),
-        Wait::On(Object::Pool(on), wish, mode) => (POOL, on, wish, mode, 0),
+    let (kind, object, wish, mode) = match wait {
+        Wait::Asleep => (SLEEP, 0, 0, 0),
+        Wait::Timed(left) => return k.wait_ticks(t, left),
+        Wait::On(Object::Semaphore(on), wish, mode) => (SEMAPHORE, on, wish, mode),
+        Wait::On(Object::Flag(on), wish, mode) => (FLAG, on, wish, mode),
+        Wait::On(Object::Mailbox(on), wish, mode) => (MAILBOX, on, wish, mode),
+        Wait::On(Object::Pool(on), wish, mode) => (POOL, on, wish, mode),
     };
-    if kind == TIMED {
-        k.timed |= 1 << (t - 1);
-    }
     let task = k.at_mut(t);
     task.kind = kind;
     task.object = object;
     task.wish = wish;
     task.mode = mode;
-    task.ticks = ticks;
 }
 
 fn put_task(k: &mut Kernel, t: u32, from: &picture::Task) {
@@ -261,6 +256,7 @@ fn standing(p: &Picture) -> Kernel {
         }),
     };
     let mut k = Kernel::start(&setup::bytes(&setup)).unwrap();
+    k.clock = p.clock;
     for (t, task) in (1..).zip(&p.tasks) {
         put_task(&mut k, t, task);
     }
@@ -285,7 +281,6 @@ fn standing(p: &Picture) -> Kernel {
     if let Some(counter) = &p.counter {
         put_counter(&mut k, counter);
     }
-    k.clock = p.clock;
     k.depth = p.depth;
     k.running = if p.depth == 0 {
         k.best()
@@ -424,10 +419,12 @@ fn damage_is_found() {
     assert!(sound.is_sound());
     let t = sound.running;
     type Damage = fn(&mut Kernel, u32);
-    let damages: [(Damage, i32, u32); 35] = [
+    let damages: [(Damage, i32, u32); 37] = [
         (|k, _| k.priorities = 17, H_NUMBER, 0),
         (|k, _| k.ready ^= 1 << 3, H_NUMBER, 0),
         (|k, _| k.timed ^= 1, H_NUMBER, 0),
+        (|k, _| k.soonest += 1, H_NUMBER, 0),
+        (|k, _| k.until += 1, H_NUMBER, 0),
         (|k, _| k.count[1] = 65536, H_NUMBER, 0),
         (|k, _| k.size[1] = 33, H_NUMBER, 0),
         (|k, _| k.mailbox[1] ^= 1, H_NUMBER, 0),
