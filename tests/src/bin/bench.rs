@@ -1,15 +1,18 @@
-//! How fast the proved kernel is, beside the unproved one of `rings`: `cargo run --profile bench --bin bench`. It is no part of the gate.
+//! How fast the proved kernel is, beside the unproved ones, `rings` and the peer in C: `cargo run --profile bench --bin bench`. It is no
+//! part of the gate.
 //!
 //! Each row sets two sides beside each other in one run: they take turns, round after round, each from the same state over the same events,
 //! and the quickest round of each counts. Two kernels must have answered alike. With two words, a side (events, calls, rings,
-//! checked) and a setup (small, middle, large), that side alone plays the mixed events once, for a profiler.
+//! checked, c, checkedc) and a setup (small, middle, large), that side alone plays the mixed events once, for a profiler.
 use okrozumba::brightness::Curve;
 use okrozumba::recorder::Recorder;
 use okrozumba::{Answer, State};
+use second::peer::Peer;
 use second::plain::{names_task, ALM_STS, CALLS, CRE_TSK, SET_ABS};
 use second::random::Random;
 use second::rings::Kernel;
-use second::setup::{self, Counter, Setup, ALARMS};
+use second::setup::{self, Setup, ALARMS};
+use second::sizes::{counted, large, middle, small, with_tasks};
 use std::fmt::Write;
 use std::time::Instant;
 
@@ -17,69 +20,8 @@ const ROUNDS: u32 = 31;
 const TEXT_ROUNDS: u32 = 7;
 const MIXED: usize = 20_000;
 const LONG: usize = 1_000_000;
-/// The size of a counter among mixed events, and one that no round of ticks goes through.
-const ROUND: u32 = 100;
+/// The size of a counter that no round of ticks goes through.
 const ROUND_MOST: u32 = 65535;
-
-// ---- setups
-
-/// Every task has its turn of the priorities; the first of them are started.
-fn sized(
-    priorities: u32,
-    tasks: u32,
-    started: u32,
-    objects: usize,
-    messages: u32,
-    pools: usize,
-    blocks: u32,
-) -> Setup {
-    Setup {
-        priorities,
-        tasks: (0..tasks)
-            .map(|t| (1 + t % priorities, t < started))
-            .collect(),
-        semaphores: vec![0; objects],
-        flags: vec![0; objects],
-        mailboxes: objects as u32,
-        messages,
-        pools: vec![blocks; pools],
-        counter: None,
-    }
-}
-
-/// With a counter, whose alarms start and wake the tasks in turn.
-fn counted(size: u32, s: Setup) -> Setup {
-    let tasks = s.tasks.len();
-    Setup {
-        counter: Some(Counter {
-            size,
-            alarms: std::array::from_fn(|i| (1 + (i % tasks) as u32, i % 2 == 1)),
-        }),
-        ..s
-    }
-}
-
-/// The bench sheet's, with a counter.
-fn small() -> Setup {
-    let sheet = Setup {
-        tasks: vec![(2, true), (2, true), (1, false)],
-        ..sized(4, 3, 2, 1, 2, 1, 2)
-    };
-    counted(ROUND, sheet)
-}
-
-fn middle() -> Setup {
-    counted(ROUND, sized(6, 8, 6, 4, 32, 2, 8))
-}
-
-fn large() -> Setup {
-    counted(ROUND, sized(16, 32, 24, 16, 256, 8, 32))
-}
-
-/// As large, but for the tasks, all of which are started, and with no counter.
-fn with_tasks(tasks: u32) -> Setup {
-    sized(16, tasks, tasks, 16, 256, 8, 32)
-}
 
 // ---- events
 
@@ -259,12 +201,37 @@ impl Side for Checked {
     }
 }
 
+/// The kernel in C, all events by one call as the archive's `events`.
+#[derive(Clone)]
+struct C(Peer);
+
+impl Side for C {
+    #[inline(never)]
+    fn play(&mut self, events: &[i32], to: &mut Answers) {
+        self.0.events(events, &mut to.codes, &mut to.words);
+    }
+}
+
+#[derive(Clone)]
+struct CheckedC(Peer);
+
+impl Side for CheckedC {
+    #[inline(never)]
+    fn play(&mut self, events: &[i32], to: &mut Answers) {
+        self.0.checked_events(events, &mut to.codes, &mut to.words);
+    }
+}
+
 fn proved(s: &Setup) -> State {
     State::start(&setup::bytes(s)).expect("a setup without a fault")
 }
 
 fn rings(s: &Setup) -> Kernel {
     Kernel::start(&setup::bytes(s)).expect("a setup without a fault")
+}
+
+fn c(s: &Setup) -> Peer {
+    Peer::start(&setup::bytes(s)).expect("a setup without a fault")
 }
 
 /// The side after some events.
@@ -302,30 +269,38 @@ fn row_alike<A: Side, B: Side>(what: &str, a: A, b: B, events: &[i32]) {
     assert!(to_a == to_b, "the answers differ");
 }
 
-fn against_rings(name: &str, s: &Setup) {
-    let events = &mixed(s, MIXED);
-    let what = format!("`events`, mixed, {name} / rings");
-    row_alike(&what, Events(proved(s)), Unchecked(rings(s)), events);
-    let what = format!("`call`, mixed, {name} / checked rings");
-    row_alike(&what, Calls(proved(s)), Checked(rings(s)), events);
-}
-
-/// A grant and a return, in `events` and by single calls.
-fn blocks() {
-    let s = &large();
-    let events = &pair_of_blocks();
+/// Both unproved kernels over such events: without their checks beside `events`, with them beside single calls.
+fn against_peers(what: &str, s: &Setup, events: &[i32]) {
+    let (batch, single) = (Events(proved(s)), Calls(proved(s)));
+    let (by_events, by_call) = (format!("`events`, {what}"), format!("`call`, {what}"));
     row_alike(
-        "`events`, pget_blk and rel_blk, large / rings",
-        Events(proved(s)),
+        &format!("{by_events} / rings"),
+        batch.clone(),
         Unchecked(rings(s)),
         events,
     );
+    row_alike(&format!("{by_events} / C"), batch, C(c(s)), events);
     row_alike(
-        "`call`, pget_blk and rel_blk, large / checked rings",
-        Calls(proved(s)),
+        &format!("{by_call} / checked rings"),
+        single.clone(),
         Checked(rings(s)),
         events,
     );
+    row_alike(
+        &format!("{by_call} / checked C"),
+        single,
+        CheckedC(c(s)),
+        events,
+    );
+}
+
+fn mixed_events(name: &str, s: &Setup) {
+    against_peers(&format!("mixed, {name}"), s, &mixed(s, MIXED));
+}
+
+/// A grant and a return.
+fn blocks() {
+    against_peers("pget_blk and rel_blk, large", &large(), &pair_of_blocks());
 }
 
 /// From few to many of what the kernel holds, in `events` and by single calls.
@@ -355,18 +330,20 @@ fn ticks() {
         (all.clone(), events),
         (none.clone(), events),
     );
-    row_alike(
-        "tick in `events`, none timed / rings",
-        none,
-        after(Unchecked(rings(s)), asleep),
-        events,
-    );
-    row_alike(
-        "tick in `events`, 32 timed waits / rings",
-        all,
-        after(Unchecked(rings(s)), timed),
-        events,
-    );
+    for (what, side, before) in [("none timed", none, asleep), ("32 timed waits", all, timed)] {
+        row_alike(
+            &format!("tick in `events`, {what} / rings"),
+            side.clone(),
+            after(Unchecked(rings(s)), before),
+            events,
+        );
+        row_alike(
+            &format!("tick in `events`, {what} / C"),
+            side,
+            after(C(c(s)), before),
+            events,
+        );
+    }
 }
 
 /// A tick with alarms, from all tasks asleep.
@@ -404,18 +381,23 @@ fn alarms() {
         (Calls(waiting.0.clone()), events),
         (Calls(none.0), events),
     );
-    row_alike(
-        "tick in `events`, eight alarms set / rings",
-        waiting,
-        after(Unchecked(rings(counter)), far),
-        events,
-    );
-    row_alike(
-        "tick in `events`, eight alarms fire / rings",
-        firing,
-        after(Unchecked(rings(counter)), each),
-        events,
-    );
+    for (what, side, before) in [
+        ("eight alarms set", waiting, far),
+        ("eight alarms fire", firing, each),
+    ] {
+        row_alike(
+            &format!("tick in `events`, {what} / rings"),
+            side.clone(),
+            after(Unchecked(rings(counter)), before),
+            events,
+        );
+        row_alike(
+            &format!("tick in `events`, {what} / C"),
+            side,
+            after(C(c(counter)), before),
+            events,
+        );
+    }
 }
 
 /// A start and a million events: both sides from the setup's bytes.
@@ -441,10 +423,25 @@ fn long_run() {
             to.each(events, |event| kernel.event(event));
         }
     }
+    #[derive(Clone)]
+    struct StartC<'a>(&'a [u8]);
+    impl Side for StartC<'_> {
+        fn play(&mut self, events: &[i32], to: &mut Answers) {
+            let mut kernel = Peer::start(self.0).expect("a setup without a fault");
+            kernel.events(events, &mut to.codes, &mut to.words);
+        }
+    }
+    let run = Run(proved(s), bytes);
     row_alike(
         "`run`, 1,000,000 mixed, large / rings",
-        Run(proved(s), bytes),
+        run.clone(),
         Start(bytes),
+        events,
+    );
+    row_alike(
+        "`run`, 1,000,000 mixed, large / C",
+        run,
+        StartC(bytes),
         events,
     );
 }
@@ -562,6 +559,8 @@ fn profiled(side: &str, name: &str) {
         "events" => Events(proved(s)).play(events, to),
         "calls" => Calls(proved(s)).play(events, to),
         "rings" => Unchecked(rings(s)).play(events, to),
+        "c" => C(c(s)).play(events, to),
+        "checkedc" => CheckedC(c(s)).play(events, to),
         _ => Checked(rings(s)).play(events, to),
     }
 }
@@ -577,9 +576,9 @@ fn main() {
     }
     println!("| a / b | a, ns an event | b, ns an event | ratio |");
     println!("|---|---|---|---|");
-    against_rings("small", &small());
-    against_rings("middle", &middle());
-    against_rings("large", &large());
+    mixed_events("small", &small());
+    mixed_events("middle", &middle());
+    mixed_events("large", &large());
     blocks();
     let (one, many) = (proved(&with_tasks(1)), proved(&with_tasks(32)));
     growth("32 tasks / 1 task", &many, &one);
