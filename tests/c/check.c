@@ -199,17 +199,22 @@ static inline bool mailboxes_are_sound(const struct peer *k, uint32_t *met)
 
 /* ---- blocks */
 
-/* As many as are listed are free, and all that are listed: so each free one is listed once. */
+/* Each free block once and no other. */
 static inline bool is_line_sound(const struct pool *p)
 {
     uint32_t all = 0;
     uint32_t listed = 0;
-    for (uint32_t i = 0; i < p->count; i++) {
-        uint32_t block = p->line[(p->head + i) % BLOCKS_MOST];
+    uint32_t twice = 0;
+    uint32_t at = p->head;
+    for (uint32_t left = p->count; left != 0; left--) {
+        uint32_t block = p->line[at];
+        uint32_t bit = 1u << block % BLOCKS_MOST;
         all |= block;
-        listed |= 1u << block % BLOCKS_MOST;
+        twice |= listed & bit;
+        listed |= bit;
+        at = (at + 1) % BLOCKS_MOST;
     }
-    return all < BLOCKS_MOST && listed == p->free && (uint32_t)__builtin_popcount(listed) == p->count;
+    return all < BLOCKS_MOST && twice == 0 && listed == p->free;
 }
 
 static inline bool pools_are_sound(const struct peer *k, uint32_t *met)

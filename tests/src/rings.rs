@@ -1106,8 +1106,9 @@ impl Kernel {
 
     // ---- events
 
-    fn call(&mut self, by: Caller, n: i32, a: i32, b: i32, c: i32) -> Result<Said, i32> {
-        match n {
+    #[inline(never)]
+    fn call(&mut self, by: Caller, n: i32, a: i32, b: i32, c: i32) -> Answer {
+        let said = match n {
             1 => self.sta_tsk(by, a),
             2 => self.ext_tsk(by),
             3 => self.ter_tsk(by, a),
@@ -1150,10 +1151,12 @@ impl Kernel {
             38 => self.can_alm(by, a),
             39 => self.alm_sts(by, a),
             _ => Err(H_CALL),
-        }
+        };
+        self.told(said)
     }
 
     /// Gives how many tasks are released.
+    #[inline(never)]
     fn tick(&mut self) -> u32 {
         self.clock = (self.clock + 1) & ((1 << 48) - 1);
         let mut n = 0;
@@ -1204,16 +1207,23 @@ impl Kernel {
     }
 
     /// An event of five words: kind (0 task, 1 handler, 2 tick, 3 entry, 4 return), call, a, b, c.
+    #[inline]
     pub fn event(&mut self, e: &[i32; 5]) -> Answer {
         let [kind, n, a, b, c] = *e;
         let said = match kind {
-            0 => self.call(Caller::in_task(self), n, a, b, c),
-            1 => self.call(Caller::in_handler(self), n, a, b, c),
+            0 => return self.call(Caller::in_task(self), n, a, b, c),
+            1 => return self.call(Caller::in_handler(self), n, a, b, c),
             2 => released(self.tick()),
             3 => self.enter(),
             4 => self.leave(),
             _ => Err(H_CALL),
         };
+        self.told(said)
+    }
+
+    /// What comes back, once it is clear who runs.
+    #[inline(always)]
+    fn told(&mut self, said: Result<Said, i32>) -> Answer {
         match said {
             Ok(said) => {
                 self.dispatch();
@@ -1236,6 +1246,7 @@ impl Kernel {
     }
 
     /// The same on a state that may be damaged: the first rule broken if it is, and the smallest id.
+    #[inline]
     pub fn checked_event(&mut self, e: &[i32; 5]) -> Answer {
         if !self.is_sound() {
             let (code, id) = self.breach();
