@@ -4,6 +4,9 @@
    two rings. Each task met belongs there by its own words; so if as many were met as belong to some queue, each stands where it should. */
 #include "rules.h"
 
+/* Nearly every state is sound; the compiler would take what stands behind many tests for rare. */
+#define likely(holds) __builtin_expect((holds), true)
+
 /* ---- tasks */
 
 /* What the tasks say of themselves: who waits for a time, and how many stand in queues. */
@@ -60,7 +63,7 @@ static inline bool is_task_sound(const struct peer *k, const struct task *t, uin
 static inline bool tasks_are_sound(const struct peer *k, struct census *all)
 {
     for (uint32_t i = 0; i < k->tasks; i++)
-        if (!is_task_sound(k, &k->task[i + 1], 1u << i, all))
+        if (!likely(is_task_sound(k, &k->task[i + 1], 1u << i, all)))
             return false;
     return k->timed == all->timed;
 }
@@ -76,17 +79,44 @@ static inline const struct task *onward(const struct peer *k, const struct queue
     return (const struct task *)node->next;
 }
 
-static inline bool is_ready_queue_sound(const struct peer *k, const struct queue *q, uint32_t priority, uint32_t *met)
+/* Whether a task belongs to a queue, which two numbers say. */
+typedef bool belongs(const struct task *t, uint32_t first, uint32_t second);
+
+/* Walks a ring of tasks that belong there and counts them. Inlined, so that `to` costs no call. */
+__attribute__((always_inline)) static inline bool walk(const struct peer *k, const struct queue *q, belongs *to, uint32_t first,
+                                                       uint32_t second, uint32_t *met)
 {
     const struct queue *node = q;
     while (node->next != q) {
         const struct task *t = onward(k, node);
-        if (t == NULL || t->status != READY || t->priority != priority)
+        if (!likely(t != NULL && to(t, first, second)))
             return false;
         ++*met;
         node = &t->node;
     }
     return q->prev == node;
+}
+
+static inline bool is_ready(const struct task *t, uint32_t status, uint32_t priority)
+{
+    return t->status == status && t->priority == priority;
+}
+
+static inline bool is_waiter(const struct task *t, uint32_t kind, uint32_t object)
+{
+    return is_waiting(t) && t->kind == kind && t->object == object;
+}
+
+static inline bool is_flag_waiter(const struct task *t, uint32_t flag, uint32_t pattern)
+{
+    return is_waiter(t, FLAG, flag) && t->wish != 0 && t->mode <= MODE_MOST && !meets(pattern, t->wish, t->mode);
+}
+
+/* Where the object has what would serve a waiter, there is none. */
+static inline bool are_waiters_sound(const struct peer *k, const struct queue *q, bool served, uint32_t kind, uint32_t object,
+                                     uint32_t *met)
+{
+    return served ? q->next == q && q->prev == q : walk(k, q, is_waiter, kind, object, met);
 }
 
 /* The queue of the idle task has it alone. */
@@ -102,7 +132,7 @@ static inline bool ready_queues_are_sound(const struct peer *k, uint32_t *met)
     uint32_t ready = IDLE_BIT;
     for (uint32_t p = 1; p <= k->priorities; p++) {
         const struct queue *q = &k->ready_queue[p - 1];
-        if (!is_ready_queue_sound(k, q, p, met))
+        if (!likely(walk(k, q, is_ready, READY, p, met)))
             return false;
         if (!is_empty(q))
             ready |= bit_of(p);
@@ -110,55 +140,20 @@ static inline bool ready_queues_are_sound(const struct peer *k, uint32_t *met)
     return k->ready == ready && is_idle_sound(k);
 }
 
-static inline bool is_waiter(const struct task *t, uint32_t kind, uint32_t object)
-{
-    return is_waiting(t) && t->kind == kind && t->object == object;
-}
-
-/* Where the object has what would serve a waiter, there is none. */
-static inline bool is_wait_queue_sound(const struct peer *k, const struct queue *q, uint32_t kind, uint32_t object, bool serves,
-                                       uint32_t *met)
-{
-    const struct queue *node = q;
-    if (serves)
-        return node->next == q && q->prev == q;
-    while (node->next != q) {
-        const struct task *t = onward(k, node);
-        if (t == NULL || !is_waiter(t, kind, object))
-            return false;
-        ++*met;
-        node = &t->node;
-    }
-    return q->prev == node;
-}
-
 static inline bool semaphores_are_sound(const struct peer *k, uint32_t *met)
 {
     for (uint32_t i = 0; i < k->semaphores; i++) {
         const struct semaphore *s = &k->semaphore[i];
-        if (s->count > SEMAPHORE_MOST || !is_wait_queue_sound(k, &s->waiters, SEMAPHORE, i + 1, s->count != 0, met))
+        if (!likely(s->count <= SEMAPHORE_MOST && are_waiters_sound(k, &s->waiters, s->count != 0, SEMAPHORE, i + 1, met)))
             return false;
     }
     return true;
 }
 
-static inline bool is_flag_sound(const struct peer *k, const struct flag *f, uint32_t id, uint32_t *met)
-{
-    const struct queue *node = &f->waiters;
-    while (node->next != &f->waiters) {
-        const struct task *t = onward(k, node);
-        if (t == NULL || !is_waiter(t, FLAG, id) || t->wish == 0 || t->mode > MODE_MOST || meets(f->pattern, t->wish, t->mode))
-            return false;
-        ++*met;
-        node = &t->node;
-    }
-    return f->waiters.prev == node;
-}
-
 static inline bool flags_are_sound(const struct peer *k, uint32_t *met)
 {
     for (uint32_t i = 0; i < k->flags; i++)
-        if (!is_flag_sound(k, &k->flag[i], i + 1, met))
+        if (!likely(walk(k, &k->flag[i].waiters, is_flag_waiter, i + 1, k->flag[i].pattern, met)))
             return false;
     return true;
 }
@@ -170,7 +165,7 @@ static inline bool is_mail_sound(const struct peer *k, const struct mailbox *m, 
 {
     uint32_t last = m->last;
     for (uint32_t j = m->first; j != 0; j = k->next[j]) {
-        if (j > k->messages || k->lies_in[j] != id || *lying == k->messages)
+        if (!likely(j <= k->messages && k->lies_in[j] == id && *lying < k->messages))
             return false;
         ++*lying;
         last = j;
@@ -191,7 +186,7 @@ static inline bool mailboxes_are_sound(const struct peer *k, uint32_t *met)
     uint32_t lying = 0;
     for (uint32_t i = 0; i < k->mailboxes; i++) {
         const struct mailbox *m = &k->mailbox[i];
-        if (!is_mail_sound(k, m, i + 1, &lying) || !is_wait_queue_sound(k, &m->waiters, MAILBOX, i + 1, m->first != 0, met))
+        if (!likely(is_mail_sound(k, m, i + 1, &lying) && are_waiters_sound(k, &m->waiters, m->first != 0, MAILBOX, i + 1, met)))
             return false;
     }
     return lying == marked(k);
@@ -222,8 +217,8 @@ static inline bool pools_are_sound(const struct peer *k, uint32_t *met)
     for (uint32_t i = 0; i < k->pools; i++) {
         const struct pool *p = &k->pool[i];
         bool numbers = p->blocks - 1 < BLOCKS_MOST && p->head < BLOCKS_MOST && p->count <= p->blocks;
-        if (!numbers || p->free > UINT32_MAX >> (BLOCKS_MOST - p->blocks) || !is_line_sound(p) ||
-            !is_wait_queue_sound(k, &p->waiters, POOL, i + 1, p->free != 0, met))
+        bool blocks = numbers && p->free <= UINT32_MAX >> (BLOCKS_MOST - p->blocks) && is_line_sound(p);
+        if (!likely(blocks && are_waiters_sound(k, &p->waiters, p->free != 0, POOL, i + 1, met)))
             return false;
     }
     return true;
@@ -246,7 +241,8 @@ static inline bool alarms_are_sound(const struct peer *k)
         return false;
     for (uint32_t i = 0; i < ALARMS; i++) {
         const struct alarm *alarm = &k->alarm[i];
-        if (!is_alarm_sound(k, alarm) || ((k->used >> i & 1) && !is_alarm_set_sound(k, alarm)))
+        bool due = !(k->used >> i & 1) || is_alarm_set_sound(k, alarm);
+        if (!likely(due && is_alarm_sound(k, alarm)))
             return false;
     }
     return true;
@@ -263,7 +259,7 @@ bool is_sound(const struct peer *k)
 {
     struct census all = {0};
     uint32_t met = 0;
-    return counts_are_sound(k) && alarms_are_sound(k) && tasks_are_sound(k, &all) && ready_queues_are_sound(k, &met) &&
-           semaphores_are_sound(k, &met) && flags_are_sound(k, &met) && mailboxes_are_sound(k, &met) && pools_are_sound(k, &met) &&
-           met == all.queued && is_running_sound(k);
+    return likely(counts_are_sound(k)) && likely(alarms_are_sound(k)) && likely(tasks_are_sound(k, &all)) &&
+           likely(ready_queues_are_sound(k, &met)) && likely(semaphores_are_sound(k, &met)) && likely(flags_are_sound(k, &met)) &&
+           likely(mailboxes_are_sound(k, &met)) && likely(pools_are_sound(k, &met)) && met == all.queued && is_running_sound(k);
 }
