@@ -103,15 +103,33 @@ impl Repository {
     }
 
     fn find_name(&self, path: &str, name: &str) -> Result<bool, String> {
-        let names = self
-            .declared
-            .get(path)
-            .ok_or(format!("there is no file {path}"))?;
-        if names.contains(name) {
-            Ok(true)
-        } else {
-            Err(format!("{path} declares no {name}"))
+        match self.declared.get(path) {
+            Some(names) if names.contains(name) => Ok(true),
+            Some(_) => Err(format!(
+                "{path} declares no {name}{}",
+                self.elsewhere(path, name)
+            )),
+            None => Err(format!(
+                "there is no file {path}{}",
+                self.elsewhere(path, name)
+            )),
         }
+    }
+
+    /// Where else the name is declared, in a file of the same name if there is one: what was moved is found so.
+    fn elsewhere(&self, path: &str, name: &str) -> String {
+        let last = path.rsplit('/').next();
+        let mut places: Vec<&String> = self
+            .declared
+            .iter()
+            .filter(|(_, names)| names.contains(name))
+            .map(|(f, _)| f)
+            .collect();
+        places.sort_by_key(|f| (f.rsplit('/').next() != last, f.as_str()));
+        places
+            .first()
+            .map(|f| format!("; it is in {f}"))
+            .unwrap_or_default()
     }
 
     fn find_listed(&self, text: &str) -> Result<bool, String> {

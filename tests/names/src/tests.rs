@@ -96,6 +96,15 @@ fn a_file_a_crate_a_word_that_is_not_there() {
 }
 
 #[test]
+fn what_was_moved_is_told_with_its_place() {
+    let told = problems(
+        "moved",
+        &format!("{GOOD}| x | `rules/proofs/Tasks.antt:sta-tsk` |\n"),
+    );
+    assert!(told[0].ends_with("there is no file crates/rules/proofs/Tasks.antt; it is in crates/rules/specs/Tasks.antt"), "{told:?}");
+}
+
+#[test]
 fn a_call_a_code_an_export_an_edit_that_is_not_there() {
     for bad in [
         "2 sta_tsk",
