@@ -4,6 +4,7 @@ mod document;
 mod inventory;
 mod lookup;
 mod source;
+pub mod stack;
 
 use std::fmt;
 use std::path::Path;

@@ -4,6 +4,7 @@ use std::path::PathBuf;
 
 use crate::check;
 use crate::document::references;
+use crate::stack::compare;
 
 const HEADER: &str = "/* The calls, by number. */
 enum {
@@ -158,5 +159,57 @@ fn a_span_over_two_lines_and_the_last_file() {
             ("two   lines", 2),
             (":e", 4)
         ]
+    );
+}
+
+const LISTING: &str = "
+0000000000000000 <memory::leaf>:
+   0:\tsub    $0x10,%rsp
+   4:\tadd    $0x10,%rsp
+   8:\tret
+
+0000000000000000 <okrozumba_call>:
+   0:\tpush   %rbx
+   1:\tmov    %rsp,%r11
+   d:\tsub    $0x2000,%r11
+  14:\tsub    $0x1000,%rsp
+  23:\tcmp    %r11,%rsp
+  4a:\tcall   4f <okrozumba_call+0x4f>
+\t\t\t4b: R_X86_64_PLT32\t.text.memory::leaf-0x4
+  5b:\tret
+";
+
+#[test]
+fn frames_are_added_up_along_the_calls() {
+    // a return address, a register, two pages, a return address, 16 bytes
+    let takes = 8 + 8 + 0x2000 + 8 + 16;
+    let told = |bound: usize| {
+        let (exports, problems) = compare(LISTING, &format!("| `okrozumba_call` | {bound} |\n"));
+        assert_eq!(exports, 1);
+        problems.iter().map(|p| p.to_string()).collect::<Vec<_>>()
+    };
+    assert_eq!(told(takes), Vec::<String>::new());
+    let short = format!(
+        "docs/BELIEVE.md:1: okrozumba_call takes {takes} bytes of the stack, not at most {}",
+        takes - 1
+    );
+    assert_eq!(told(takes - 1), [short]);
+}
+
+#[test]
+fn an_export_without_a_bound_a_call_by_pointer_and_one_of_itself() {
+    assert_eq!(
+        compare(LISTING, "| `okrozumba_tick` | 9,999 |\n").1.len(),
+        1
+    );
+    let pointer = LISTING.replace("call   4f <okrozumba_call+0x4f>", "call   *%rax");
+    assert_eq!(
+        compare(&pointer, "| `okrozumba_call` | 99,999 |\n").1.len(),
+        1
+    );
+    let itself = LISTING.replace(".text.memory::leaf-0x4", "okrozumba_call-0x4");
+    assert_eq!(
+        compare(&itself, "| `okrozumba_call` | 99,999 |\n").1.len(),
+        1
     );
 }
