@@ -4,7 +4,7 @@ use std::collections::BTreeMap;
 use std::path::Path;
 use std::process::Command;
 
-use crate::{problem, Problem};
+use crate::{problem, Problem, Report};
 
 const ARCHIVE: &str = "target/staticlib/libokrozumba.a";
 const DOCUMENT: &str = "docs/BELIEVE.md";
@@ -22,25 +22,31 @@ struct Frame {
     calls: Vec<String>,
 }
 
-/// The bounds that are too small or missing, and how many were looked at; nothing where there is no archive to look at.
-pub fn check(root: &Path) -> Option<(usize, Vec<Problem>)> {
+/// Each bound beside the frames; nothing where there is no archive to look at.
+pub fn check(root: &Path) -> Report {
     let archive = root.join(ARCHIVE);
-    if !archive.exists() {
-        return None;
-    }
-    let listing = Command::new("objdump")
-        .args(["-dr", "--no-show-raw-insn"])
-        .arg(archive)
-        .output()
-        .ok()?;
+    let listing = archive.exists().then(|| {
+        Command::new("objdump")
+            .args(["-dr", "--no-show-raw-insn"])
+            .arg(archive)
+            .output()
+    });
+    let Some(Ok(listing)) = listing else {
+        return Report {
+            summary: "stack: no archive or no objdump, so nothing was measured".to_string(),
+            problems: Vec::new(),
+        };
+    };
     let document = std::fs::read_to_string(root.join(DOCUMENT)).unwrap_or_default();
-    Some(compare(
-        &String::from_utf8_lossy(&listing.stdout),
-        &document,
-    ))
+    let (exports, problems) = compare(&String::from_utf8_lossy(&listing.stdout), &document);
+    let summary = format!(
+        "stack: {exports} exports measured, {} beyond the bound that is stated",
+        problems.len()
+    );
+    Report { summary, problems }
 }
 
-/// A listing held to a document's table.
+/// A listing held to a document's table: how many exports there are, and what is wrong.
 pub fn compare(listing: &str, document: &str) -> (usize, Vec<Problem>) {
     let frames = match frames(listing) {
         Ok(frames) => frames,

@@ -2,8 +2,10 @@
 use std::fs;
 use std::path::PathBuf;
 
-use crate::check;
 use crate::document::references;
+use crate::header;
+use crate::lookup::Repository;
+use crate::names::check;
 use crate::stack::compare;
 
 const HEADER: &str = "/* The calls, by number. */
@@ -56,7 +58,7 @@ fn problems(name: &str, trace: &str) -> Vec<String> {
     write(&root, "docs/TRACE.md", trace);
     write(&root, "docs/AUDIT.md", "- `rules`, `sta-tsk`\n");
     write(&root, "docs/BELIEVE.md", "- `rules/specs`\n");
-    let report = check(&root);
+    let report = check(&Repository::at(&root));
     fs::remove_dir_all(&root).unwrap();
     report.problems.iter().map(|p| p.to_string()).collect()
 }
@@ -211,5 +213,37 @@ fn an_export_without_a_bound_a_call_by_pointer_and_one_of_itself() {
     assert_eq!(
         compare(&itself, "| `okrozumba_call` | 99,999 |\n").1.len(),
         1
+    );
+}
+
+#[test]
+fn a_number_of_the_header_that_is_not_the_definitions() {
+    let root = std::env::temp_dir().join(format!("okrozumba_names_{}_header", std::process::id()));
+    write(&root, "include/okrozumba.h", HEADER);
+    write(
+        &root,
+        "crates/rules/specs/Codes.antt",
+        "number OK = pos 0\nnumber E-RLWAI = minus 3413\nnumber E-CTX = minus 2629\n",
+    );
+    write(
+        &root,
+        "crates/rules/specs/Table.antt",
+        "table v me a b c =\n    staTsk v a\n    ∷ extTsk v me\n    ∷ []\n",
+    );
+    let report = header::check(&Repository::at(&root));
+    fs::remove_dir_all(&root).unwrap();
+    let told: Vec<_> = report
+        .problems
+        .iter()
+        .map(|p| p.to_string())
+        .filter(|p| p.contains("rules/specs/Codes") || p.contains("rules/specs/Table"))
+        .collect();
+    assert_eq!(
+        told,
+        [
+            "include/okrozumba.h:8: OKROZUMBA_E_RLWAI is -3414, and -3413 in rules/specs/Codes.antt",
+            "include/okrozumba.h:1: there is no OKROZUMBA_E_CTX, which rules/specs/Codes.antt has",
+            "include/okrozumba.h:1: there is no OKROZUMBA_EXT_TSK, which rules/specs/Table.antt has",
+        ]
     );
 }
