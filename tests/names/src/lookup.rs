@@ -168,10 +168,15 @@ impl Repository {
     fn find_edit(&self, of: &str, edit: &str) -> Result<bool, String> {
         let file = format!("crates/{of}/must-fail/{edit}.edit");
         if self.declared.contains_key(&file) {
-            Ok(true)
-        } else {
-            Err(format!("there is no edit {file}"))
+            return Ok(true);
         }
+        let same = format!("/must-fail/{edit}.edit");
+        let mut moved = self.declared.keys().filter(|f| f.ends_with(&same));
+        let place = moved
+            .next()
+            .map(|f| format!("; there is {f}"))
+            .unwrap_or_default();
+        Err(format!("there is no edit {file}{place}"))
     }
 
     /// A crate, or a name that some file declares.
