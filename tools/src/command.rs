@@ -23,6 +23,7 @@ okrozumba: recorded runs as text, as lists and as pictures
   okrozumba picture RUN.run > RUN.html      a page with a lane for each task, its state over the events
   okrozumba month RUN.run... > MONTH.html   a page with the states and codes of up to 64 runs
   okrozumba compare INPUT > CHANGE.html     a page with what a second setup changes in a run
+  okrozumba compare RUN.run NEW.run         the same of NEW.run's setup in RUN.run
 
 A file named - is standard input.
 
@@ -234,7 +235,7 @@ fn ask(command: &str, options: Options) -> Result<Done, Failure> {
         "list" => list(&options.one(command)?),
         "picture" => picture(&options.one(command)?, &options),
         "month" => month(&options.files),
-        "compare" => compare(&options.one(command)?),
+        "compare" => compare(&options.files),
         _ => Err(Failure::Usage(format!("there is no command {command}"))),
     }
 }
@@ -337,8 +338,27 @@ fn month(files: &[String]) -> Result<Done, Failure> {
     })
 }
 
-fn compare(input: &Input) -> Result<Done, Failure> {
+fn compare(files: &[String]) -> Result<Done, Failure> {
+    let input = match files {
+        [file] => read(file)?,
+        [run, new] => joined(read(run)?, read(new)?)?,
+        _ => return Err(Failure::Usage("compare takes one file or two".to_string())),
+    };
     let page = compare::page(&input.name, &input.bytes);
     page.map(Done::from)
-        .map_err(|bad| Failure::Input(fault(input, bad)))
+        .map_err(|bad| Failure::Input(fault(&input, bad)))
+}
+
+/// The input of a comparison: a run with another run's setup behind its own. Both runs must be accepted.
+fn joined(run: Input, new: Input) -> Result<Input, Failure> {
+    for input in [&run, &new] {
+        if let Some(bad) = run::fault(&input.bytes) {
+            return Err(Failure::Input(fault(input, bad)));
+        }
+    }
+    Ok(Input {
+        path: format!("{} with the setup of {}", run.path, new.path),
+        name: format!("{} with the setup of {}", run.name, new.name),
+        bytes: compare::input(&run.bytes, &new.bytes),
+    })
 }

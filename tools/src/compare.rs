@@ -47,6 +47,13 @@ impl Input<'_> {
     }
 }
 
+/// The input of two accepted runs: the first with the second's setup behind its own.
+pub fn input(run: &[u8], new: &[u8]) -> Vec<u8> {
+    let (setup, events) = run.split_at(Setup::read(run).1);
+    let (second, _) = new.split_at(Setup::read(new).1);
+    [setup, second, events].concat()
+}
+
 /// The page of an input; or its fault.
 pub fn page(name: &str, bytes: &[u8]) -> Result<String, BadRun> {
     let mut text = vec![0; TEXT];
@@ -57,7 +64,7 @@ pub fn page(name: &str, bytes: &[u8]) -> Result<String, BadRun> {
     }
     let input = Input::of(bytes);
     let changes = changes(&input, &text);
-    let title = format!("What the second setup of {name} changes");
+    let title = format!("What the second setup changes: {name}");
     let body = format!(
         "<h1>{}</h1>\n<p>{} of {} events differ</p>\n{}<h2>The setups</h2>\n{}{}{}",
         escaped(&title),
@@ -65,8 +72,8 @@ pub fn page(name: &str, bytes: &[u8]) -> Result<String, BadRun> {
         input.count(),
         strip(&changes, input.count()),
         setups(&Setup::read(input.first).0, &Setup::read(input.second).0),
-        table(&changes),
         pictures(&input),
+        table(&changes),
     );
     Ok(html::page(&title, include_str!("tables.css"), &body))
 }
@@ -199,6 +206,19 @@ mod tests {
             "<tr class=\"changed\"><td class=\"mono\">task 3       priority 1  dormant</td>"
         ));
         assert!(page.contains("<td>3</td><td class=\"mono\">X&gt;sta_tsk(3)</td>"));
+    }
+
+    #[test]
+    fn two_runs_are_an_input() {
+        let whole = shipped("changed_priority.run");
+        let Input {
+            first,
+            second,
+            events,
+        } = Input::of(&whole);
+        let run = [first, events].concat();
+        let new = [second, &[0; WORD]].concat();
+        assert_eq!(input(&run, &new), whole);
     }
 
     #[test]

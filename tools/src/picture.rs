@@ -1,5 +1,9 @@
 //! A picture of a recorded run: a lane for each task, its state after each event.
+pub mod labels;
+pub mod layout;
+pub mod legend;
 pub mod model;
 pub mod page;
 pub mod palette;
+pub mod paths;
 pub mod svg;

@@ -1,4 +1,6 @@
 //! A recorded run, event by event, as the kernel's recorder takes it.
+use std::io;
+
 use okrozumba::recorder::{BadRun, Recorder, Said, LINE};
 use okrozumba::{Answer, Fault, State, EVENT_WORDS};
 
@@ -53,6 +55,16 @@ impl<'a> Player<'a> {
                 Line::Event(number, five(&self.bytes[event..]), answer)
             }),
         }
+    }
+}
+
+/// The fault of a run, if it has one.
+pub fn fault(bytes: &[u8]) -> Option<BadRun> {
+    let mut recorder = Recorder::new();
+    let taken = recorder.take(bytes, &mut io::sink()).ok()?;
+    match (taken, recorder.finish(&mut io::sink()).ok()?) {
+        (Said::Refused(bad), _) | (_, Said::Refused(bad)) => Some(bad),
+        _ => None,
     }
 }
 

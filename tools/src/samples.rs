@@ -2,6 +2,7 @@
 use std::fs;
 use std::path::Path;
 
+use crate::picture::model::{Picture, Range};
 use crate::run::Five;
 
 /// A file with its name.
@@ -104,4 +105,10 @@ pub fn drawn(seed: u64, many: usize) -> (Vec<u8>, Vec<Five>) {
     words.extend(events.iter().flatten().map(|word| *word as u32));
     let bytes = words.iter().flat_map(|word| word.to_le_bytes()).collect();
     (bytes, events)
+}
+
+/// The picture of a random run, with a title that must be escaped.
+pub fn picture(seed: u64) -> Picture {
+    let (bytes, _) = drawn(seed, 60);
+    Picture::of("a <run> & \"more\"", &bytes, Range::default()).expect("it has a picture")
 }

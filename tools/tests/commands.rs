@@ -172,6 +172,32 @@ fn bad_inputs_write_nothing() {
     }
 }
 
+#[test]
+fn two_runs_are_compared() {
+    let run = example("runs/mixed.run").display().to_string();
+    let text = String::from_utf8_lossy(&okrozumba(&["list", &run], &[]).stdout).into_owned();
+    let changed = text.replace("task 3       priority 1", "task 3       priority 3");
+    assert_ne!(changed, text);
+    let new = scratch("new.run").display().to_string();
+    assert_eq!(
+        status(&okrozumba(
+            &["assemble", "-", "-o", &new],
+            changed.as_bytes()
+        )),
+        0
+    );
+    let page = okrozumba(&["compare", &run, &new], &[]);
+    assert_eq!(status(&page), 0);
+    let page = String::from_utf8_lossy(&page.stdout).into_owned();
+    assert!(page.contains(" of 394 events differ"));
+    let same = okrozumba(&["compare", &run, &run], &[]);
+    assert!(String::from_utf8_lossy(&same.stdout).contains("<p>0 of 394 events differ"));
+    let refused = example("runs/refused_2_tasks.run").display().to_string();
+    let output = okrozumba(&["compare", &run, &refused], &[]);
+    assert_eq!(status(&output), 1);
+    assert!(output.stdout.is_empty() && said(&output).contains("refused 2 4"));
+}
+
 /// A browser that opens pages without a screen, if there is one.
 fn chromium() -> Option<&'static str> {
     let is_there = |name: &&str| Command::new(name).arg("--version").output().is_ok();

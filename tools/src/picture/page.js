@@ -70,7 +70,7 @@ function codes() {
   refusals.forEach(([column, code], i) => {
     if (column < view.from || column >= view.to) return;
     const at = x(column + .5) + 4, next = i + 1 < refusals.length ? x(refusals[i + 1][0] + .5) : Infinity;
-    if (at + 8.2 * code.length <= Math.min(next, x(view.to))) out += `<text class="alert" x="${at.toFixed(1)}" y="${run.refusedY}">${code}</text>`;
+    if (at + 8.8 * code.length <= Math.min(next, x(view.to))) out += `<text class="alert" x="${at.toFixed(1)}" y="${run.refusedY}">${code}</text>`;
   });
   return out;
 }

@@ -1,8 +1,11 @@
 //! The page: the drawing in a window that a script moves and zooms, and the event in words where one points.
 use okrozumba::TaskState;
 
+use super::labels::{names, words_height};
+use super::layout::{Rows, Scale, BASE, LANE, LEFT, NUMBER, RIGHT, WORDS};
+use super::legend;
 use super::model::{Column, Picture, Span};
-use super::svg::{self, Rows, Scale};
+use super::paths::paths;
 use crate::html::{self, array, escaped, quoted};
 use crate::run;
 
@@ -19,7 +22,7 @@ pub fn page(picture: &Picture) -> String {
     let body = format!(
         "<h1>{title}</h1>\n<p>{}</p>\n{refusal}{}{}{}<script>\nconst run = {};\n{}</script>\n",
         escaped(&picture.summary()),
-        svg::key_drawing(),
+        legend::drawing(),
         include_str!("bar.html"),
         drawing(picture),
         data(picture),
@@ -38,13 +41,13 @@ fn drawing(picture: &Picture) -> String {
     };
     format!(
         "<div id=\"frame\" tabindex=\"0\">\n<svg id=\"drawing\" role=\"img\" aria-label=\"{}\" width=\"100%\" height=\"{height}\">\n{}\
-         <g id=\"grid\"></g>\n<svg id=\"window\" x=\"{}\" width=\"80%\" height=\"{height}\" viewBox=\"0 0 {columns} {height}\" preserveAspectRatio=\"none\">\n\
+         <svg id=\"window\" x=\"{}\" width=\"80%\" height=\"{height}\" viewBox=\"0 0 {columns} {height}\" preserveAspectRatio=\"none\">\n\
          <rect id=\"pointed\" class=\"ink\" fill-opacity=\"0\" width=\"1\" height=\"{height}\"/>\n{}</svg>\n<g id=\"labels\"></g>\n</svg>\n\
          <div id=\"scroll\"><div></div></div>\n<div id=\"told\" hidden></div>\n</div>\n",
         escaped(&picture.summary()),
-        svg::names(picture),
-        svg::LEFT,
-        svg::paths(picture, whole),
+        names(picture),
+        LEFT,
+        paths(picture, whole),
     )
 }
 
@@ -76,23 +79,20 @@ fn data(picture: &Picture) -> String {
         ),
         format!(
             "left:{},right:{},words:{},number:{}",
-            svg::LEFT,
-            svg::RIGHT,
-            svg::WORDS,
-            svg::NUMBER
+            LEFT, RIGHT, WORDS, NUMBER
         ),
         format!(
             "runningY:{},refusedY:{},numbersY:{},ticksY:{},wordsY:{}",
             Rows::running(),
-            rows.refused() + 4.0,
+            rows.refused() + BASE,
             rows.numbers(),
             rows.times(),
             rows.words()
         ),
         format!(
             "wordsHeight:{},laneHeight:{}",
-            svg::words_height(picture).ceil(),
-            svg::LANE
+            words_height(picture).ceil(),
+            LANE
         ),
         format!(
             "names:{}",

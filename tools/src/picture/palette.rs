@@ -20,7 +20,7 @@ pub const STATE: [Colour; TaskState::ALL.len()] = [
     colour("s3", "#e69f00", "#e69f00"),
     colour("s4", "#cc79a7", "#cc79a7"),
     colour("s5", "#d55e00", "#d55e00"),
-    colour("s6", "#f0e442", "#f0e442"),
+    colour("s6", "#f0e442", "#a59d2f"),
 ];
 
 pub const PAPER: Colour = colour("paper", "#ffffff", "#14181d");
