@@ -4,6 +4,7 @@ pub mod layout;
 pub mod legend;
 pub mod model;
 pub mod page;
+pub mod painter;
 pub mod palette;
 pub mod paths;
 pub mod svg;

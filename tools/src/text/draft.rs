@@ -62,12 +62,35 @@ fn choice(line: &mut Line, zero: &str, one: &str) -> Result<Placed, Wrong> {
     })
 }
 
-/// A section that has no entries of its own.
-fn once(section: &mut Option<Placed>, keyword: &Word, found: Placed) -> Result<(), Wrong> {
+/// A section of one number.
+fn once(
+    section: &mut Option<Placed>,
+    keyword: &Word,
+    line: &mut Line,
+    asked: &'static str,
+) -> Result<(), Wrong> {
     if section.is_some() {
         return Err(keyword.wrong(format!("\"{}\" stands twice", keyword.text)));
     }
-    *section = Some(found);
+    *section = Some(number(line, "their number", asked)?);
+    Ok(())
+}
+
+/// An entry of one number, which has a name.
+fn entry(
+    entries: &mut Entries,
+    keyword: &Word,
+    line: &mut Line,
+    name: &str,
+    asked: &'static str,
+) -> Result<(), Wrong> {
+    due_id(line, keyword.text, entries)?;
+    line.keyword(name)?;
+    entries.push(vec![number(
+        line,
+        &format!("the number behind \"{name}\""),
+        asked,
+    )?]);
     Ok(())
 }
 
@@ -84,9 +107,9 @@ fn due_id(line: &mut Line, name: &str, entries: &Entries) -> Result<(), Wrong> {
     )))
 }
 
-/// The count of entries, which stands at the last one, then the entries.
-fn section(entries: &Entries, end: Place, asked: &'static str) -> Vec<Placed> {
-    let at = entries.last().map_or(end, |entry| entry[0].at);
+/// The count of entries, which stands at the last one or else where it is said, then the entries.
+fn section(entries: &Entries, else_at: Place, asked: &'static str) -> Vec<Placed> {
+    let at = entries.last().map_or(else_at, |entry| entry[0].at);
     let value = entries.len() as u32;
     let mut words = vec![Placed { value, at, asked }];
     words.extend(entries.iter().flatten());
@@ -97,47 +120,43 @@ impl Draft {
     /// A line of the setup.
     pub fn entry(&mut self, keyword: Word, mut line: Line) -> Result<(), Wrong> {
         let rest = &mut line;
+        let key = &keyword;
         match keyword.text {
-            "priorities" => {
-                let count = number(rest, "their count", "there are 1 to 16 priorities")?;
-                once(&mut self.priorities, &keyword, count)?;
-            }
+            "priorities" => once(
+                &mut self.priorities,
+                key,
+                rest,
+                "there are 1 to 16 priorities",
+            )?,
             "task" => self.task(rest)?,
-            "semaphore" => {
-                due_id(rest, "semaphore", &self.semaphores)?;
-                rest.keyword("count")?;
-                self.semaphores.push(vec![number(
-                    rest,
-                    "the count",
-                    "a semaphore's count is 0 to 65535",
-                )?]);
-            }
-            "flag" => {
-                due_id(rest, "flag", &self.flags)?;
-                rest.keyword("pattern")?;
-                self.flags.push(vec![number(rest, "the pattern", "")?]);
-            }
-            "mailboxes" => {
-                let count = number(rest, "their count", "there are 0 to 16 mailboxes")?;
-                once(&mut self.mailboxes, &keyword, count)?;
-            }
-            "messages" => {
-                let count = number(rest, "their count", "there are 0 to 256 messages")?;
-                once(&mut self.messages, &keyword, count)?;
-            }
-            "pool" => {
-                due_id(rest, "pool", &self.pools)?;
-                rest.keyword("blocks")?;
-                self.pools.push(vec![number(
-                    rest,
-                    "their count",
-                    "a pool has 1 to 32 blocks",
-                )?]);
-            }
-            "counter" => {
-                let size = number(rest, "its size", "a counter has 1 to 65535 counts")?;
-                once(&mut self.counter, &keyword, size)?;
-            }
+            "semaphore" => entry(
+                &mut self.semaphores,
+                key,
+                rest,
+                "count",
+                "a semaphore's count is 0 to 65535",
+            )?,
+            "flag" => entry(&mut self.flags, key, rest, "pattern", "")?,
+            "mailboxes" => once(
+                &mut self.mailboxes,
+                key,
+                rest,
+                "there are 0 to 16 mailboxes",
+            )?,
+            "messages" => once(&mut self.messages, key, rest, "there are 0 to 256 messages")?,
+            "pool" => entry(
+                &mut self.pools,
+                key,
+                rest,
+                "blocks",
+                "a pool has 1 to 32 blocks",
+            )?,
+            "counter" => once(
+                &mut self.counter,
+                key,
+                rest,
+                "a counter has 1 to 65535 counts",
+            )?,
             _ => self.alarm(rest)?,
         }
         line.end()
@@ -173,18 +192,16 @@ impl Draft {
         Ok(())
     }
 
-    /// The bytes of the setup and the count of events, which stand at `end`.
-    pub fn bytes(&self, events: usize, end: Place) -> Result<Vec<u8>, Wrong> {
-        let mut words = self.words(end)?;
+    /// The bytes of the setup and the count of events, the last of which stands at `last`.
+    pub fn bytes(&self, events: usize, last: Place) -> Result<Vec<u8>, Wrong> {
+        let mut words = self.words()?;
         words.push(Placed {
             value: events as u32,
-            at: end,
+            at: last,
             asked: "a run has 0 to 1000000 events",
         });
-        let bytes: Vec<u8> = words
-            .iter()
-            .flat_map(|word| word.value.to_le_bytes())
-            .collect();
+        let bytes = words.iter().flat_map(|word| word.value.to_le_bytes());
+        let bytes: Vec<u8> = bytes.collect();
         match Recorder::new().part(&bytes, &mut [0; LINE]).said {
             Said::Refused(bad) => {
                 let Placed { value, at, asked } = words[bad.place / WORD];
@@ -195,52 +212,45 @@ impl Draft {
         }
     }
 
-    /// All eight sections. What does not stand in the text is 0; an alarm that doesn't starts task 1.
-    fn words(&self, end: Place) -> Result<Vec<Placed>, Wrong> {
+    /// All eight sections. What does not stand in the text is 0, and its place is that of the priorities.
+    fn words(&self) -> Result<Vec<Placed>, Wrong> {
         let Some(priorities) = self.priorities else {
-            let what = "\"priorities\" and their count are missing in the setup".to_string();
-            return Err(Wrong { at: end, what });
+            return Err(Wrong {
+                at: Place::FIRST,
+                what: "\"priorities\" and their number are missing in the setup".to_string(),
+            });
         };
-        let none = Placed {
-            value: 0,
-            at: end,
+        let absent = |value| Placed {
+            value,
+            at: priorities.at,
             asked: "",
         };
+        let section = |entries, asked| section(entries, priorities.at, asked);
         let mut words = vec![priorities];
-        words.extend(section(&self.tasks, end, "there are 1 to 32 tasks"));
-        words.extend(section(
-            &self.semaphores,
-            end,
-            "there are 0 to 16 semaphores",
-        ));
-        words.extend(section(&self.flags, end, "there are 0 to 16 flags"));
-        words.extend([
-            self.mailboxes.unwrap_or(none),
-            self.messages.unwrap_or(none),
-        ]);
-        words.extend(section(&self.pools, end, "there are 0 to 8 pools"));
-        words.extend(self.counter_words(end)?);
+        words.extend(section(&self.tasks, "there are 1 to 32 tasks"));
+        words.extend(section(&self.semaphores, "there are 0 to 16 semaphores"));
+        words.extend(section(&self.flags, "there are 0 to 16 flags"));
+        words.push(self.mailboxes.unwrap_or(absent(0)));
+        words.push(self.messages.unwrap_or(absent(0)));
+        words.extend(section(&self.pools, "there are 0 to 8 pools"));
+        words.extend(self.counter_words(absent)?);
         Ok(words)
     }
 
-    fn counter_words(&self, end: Place) -> Result<Vec<Placed>, Wrong> {
-        let number = |value| Placed {
-            value,
-            at: end,
-            asked: "",
-        };
+    /// A counter has all its alarms; one that does not stand in the text starts task 1.
+    fn counter_words(&self, absent: impl Fn(u32) -> Placed) -> Result<Vec<Placed>, Wrong> {
         let Some(size) = self.counter else {
             return match self.alarms.iter().flatten().next() {
-                None => Ok(vec![number(0)]),
+                None => Ok(vec![absent(0)]),
                 Some([task, _]) => Err(Wrong {
                     at: task.at,
                     what: "an alarm needs a counter".to_string(),
                 }),
             };
         };
-        let mut words = vec![number(1), size];
+        let mut words = vec![absent(1), size];
         for alarm in self.alarms {
-            words.extend(alarm.unwrap_or([number(1), number(0)]));
+            words.extend(alarm.unwrap_or([absent(1), absent(0)]));
         }
         Ok(words)
     }

@@ -19,6 +19,15 @@ pub struct Place {
     pub width: usize,
 }
 
+impl Place {
+    /// The first character of a text.
+    pub const FIRST: Place = Place {
+        line: 1,
+        column: 1,
+        width: 1,
+    };
+}
+
 impl fmt::Display for Wrong {
     fn fmt(&self, out: &mut fmt::Formatter) -> fmt::Result {
         let Place { line, column, .. } = self.at;

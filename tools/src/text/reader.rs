@@ -12,16 +12,12 @@ pub fn assemble(text: &str) -> Result<Vec<u8>, Wrong> {
     let mut reader = Reader {
         draft: Draft::default(),
         events: Vec::new(),
-        end: Place {
-            line: 1,
-            column: 1,
-            width: 1,
-        },
+        last: Place::FIRST,
     };
     for (before, line) in text.lines().enumerate() {
         reader.line(Line::new(line, before + 1))?;
     }
-    let mut bytes = reader.draft.bytes(reader.events.len(), reader.end)?;
+    let mut bytes = reader.draft.bytes(reader.events.len(), reader.last)?;
     bytes.extend(
         reader
             .events
@@ -57,18 +53,14 @@ pub fn utf8(bytes: &[u8]) -> Result<&str, Wrong> {
 struct Reader {
     draft: Draft,
     events: Vec<Five>,
-    /// The last word that began a line.
-    end: Place,
+    /// The word that began the last event.
+    last: Place,
 }
 
 impl Reader {
     fn line(&mut self, mut line: Line) -> Result<(), Wrong> {
         let Some(first) = line.take() else {
             return Ok(());
-        };
-        self.end = Place {
-            column: 1,
-            ..first.at
         };
         if KEYWORDS.contains(&first.text) {
             return self.entry(first, line);
@@ -82,6 +74,7 @@ impl Reader {
         let event = event(word, &mut line)?;
         line.end().map_err(too_much)?;
         self.events.push(event);
+        self.last = word.at;
         Ok(())
     }
 
@@ -311,10 +304,10 @@ mod tests {
         let nothing = assemble("").unwrap_err().to_string();
         assert_eq!(
             nothing,
-            "1:1: \"priorities\" and their count are missing in the setup"
+            "1:1: \"priorities\" and their number are missing in the setup"
         );
         let nobody = assemble("priorities 1\n").unwrap_err().to_string();
-        assert_eq!(nobody, "1:1: 0 is out of range: there are 1 to 32 tasks");
+        assert_eq!(nobody, "1:12: 0 is out of range: there are 1 to 32 tasks");
     }
 
     #[test]
