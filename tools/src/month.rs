@@ -103,9 +103,20 @@ fn heat_row(task: usize, row: &[u32]) -> String {
 fn heat_cell(count: u32, share: f64) -> String {
     const PALE: f64 = 0.08;
     let depth = PALE + (1.0 - PALE) * share;
-    let class = if depth > 0.5 { " class=\"strong\"" } else { "" };
+    let class = contrast(depth);
     let percent = 100.0 * share;
-    format!("<td{class} style=\"background:rgba(var(--heat),{depth:.2})\" title=\"{percent:.1} % of the task's events\">{count}</td>")
+    format!(
+        "<td{class} style=\"background:rgba(var(--heat),{depth:.2})\" title=\"{percent:.1} % of the task's events\">{count}</td>"
+    )
+}
+
+/// On a deep ground the number has the paper's colour: earlier in the dark scheme, whose colour is the brighter.
+fn contrast(depth: f64) -> &'static str {
+    match depth {
+        depth if depth > 0.8 => " class=\"deepest\"",
+        depth if depth > 0.65 => " class=\"deep\"",
+        _ => "",
+    }
 }
 
 fn bars(counts: &[u32]) -> String {
