@@ -7,7 +7,7 @@ use crate::html::{self, escaped};
 use crate::picture::model::{spans, Picture, Range};
 use crate::picture::svg;
 use crate::run::{self, Five};
-use crate::setup::{Setup, SECTIONS, WORD};
+use crate::setup::{Section, Setup, WORD};
 use crate::text::{words, writer};
 
 /// An event whose answers differ.
@@ -109,10 +109,10 @@ fn strip(changes: &[Change], count: usize) -> String {
 
 fn setups(first: &Setup, second: &Setup) -> String {
     let mut rows = String::new();
-    for place in 0..SECTIONS.len() {
+    for section in Section::ALL {
         let (left, right) = (
-            writer::section(first, place),
-            writer::section(second, place),
+            writer::section_lines(first, section),
+            writer::section_lines(second, section),
         );
         for line in 0..left.len().max(right.len()) {
             let (left, right) = (left.get(line), right.get(line));

@@ -38,17 +38,45 @@ pub struct Setup {
     pub whole: usize,
 }
 
-/// The sections in the order of the file, as they are called in the text form.
-pub const SECTIONS: [&str; 8] = [
-    "priorities",
-    "tasks",
-    "semaphores",
-    "flags",
-    "mailboxes",
-    "messages",
-    "pools",
-    "counter",
-];
+/// A section of a setup.
+#[derive(Clone, Copy, PartialEq, Eq, Debug)]
+pub enum Section {
+    Priorities,
+    Tasks,
+    Semaphores,
+    Flags,
+    Mailboxes,
+    Messages,
+    Pools,
+    Counter,
+}
+
+impl Section {
+    /// In the order of the file.
+    pub const ALL: [Section; 8] = [
+        Section::Priorities,
+        Section::Tasks,
+        Section::Semaphores,
+        Section::Flags,
+        Section::Mailboxes,
+        Section::Messages,
+        Section::Pools,
+        Section::Counter,
+    ];
+
+    pub fn name(self) -> &'static str {
+        match self {
+            Section::Priorities => "priorities",
+            Section::Tasks => "tasks",
+            Section::Semaphores => "semaphores",
+            Section::Flags => "flags",
+            Section::Mailboxes => "mailboxes",
+            Section::Messages => "messages",
+            Section::Pools => "pools",
+            Section::Counter => "counter",
+        }
+    }
+}
 
 /// The whole words of bytes, one after the other.
 struct Words<'a> {
@@ -77,23 +105,26 @@ impl Setup {
     pub fn read(bytes: &[u8]) -> (Setup, usize) {
         let mut setup = Setup::default();
         let mut words = Words { bytes, at: 0 };
-        while setup.whole < SECTIONS.len() && setup.section(&mut words).is_some() {
+        for section in Section::ALL {
+            if setup.section(section, &mut words).is_none() {
+                break;
+            }
             setup.whole += 1;
         }
         (setup, words.at)
     }
 
-    /// The next section; nothing if the words end in it.
-    fn section(&mut self, words: &mut Words) -> Option<()> {
-        match self.whole {
-            0 => self.priorities = Some(words.next()?),
-            1 => self.tasks(words)?,
-            2 => words.entries(&mut self.semaphores)?,
-            3 => words.entries(&mut self.flags)?,
-            4 => self.mailboxes = Some(words.next()?),
-            5 => self.messages = Some(words.next()?),
-            6 => words.entries(&mut self.pools)?,
-            _ => self.counter(words)?,
+    /// Reads a section; nothing if the words end in it.
+    fn section(&mut self, section: Section, words: &mut Words) -> Option<()> {
+        match section {
+            Section::Priorities => self.priorities = Some(words.next()?),
+            Section::Tasks => self.tasks(words)?,
+            Section::Semaphores => words.entries(&mut self.semaphores)?,
+            Section::Flags => words.entries(&mut self.flags)?,
+            Section::Mailboxes => self.mailboxes = Some(words.next()?),
+            Section::Messages => self.messages = Some(words.next()?),
+            Section::Pools => words.entries(&mut self.pools)?,
+            Section::Counter => self.counter(words)?,
         }
         Some(())
     }
@@ -139,7 +170,10 @@ mod tests {
     #[test]
     fn the_bench_sheet() {
         let (setup, length) = Setup::read(&bytes(&SHEET));
-        assert_eq!((length, setup.whole), (WORD * SHEET.len(), SECTIONS.len()));
+        assert_eq!(
+            (length, setup.whole),
+            (WORD * SHEET.len(), Section::ALL.len())
+        );
         assert_eq!(setup.priorities, Some(4));
         assert_eq!(setup.tasks.len(), 3);
         assert!(!setup.tasks[2].started);

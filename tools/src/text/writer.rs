@@ -2,14 +2,17 @@
 use std::io::{self, Write};
 
 use okrozumba::recorder::BadRun;
+use okrozumba::Answer;
 
 use super::words;
 use crate::run::{self, Five, Line, Player};
-use crate::setup::{Counter, Setup, SECTIONS};
-use okrozumba::Answer;
+use crate::setup::{Counter, Section, Setup};
 
-/// Columns of an event before its answer.
+/// Columns of an event's number, and of the event before its answer.
+const NUMBER: usize = 5;
 const EVENT: usize = 32;
+/// Columns between them.
+const BLANK: usize = 2;
 /// Columns of an entry's kind and id.
 const NAMED: usize = 12;
 
@@ -42,21 +45,22 @@ pub fn list(name: &str, bytes: &[u8], out: &mut impl Write) -> io::Result<Option
 fn event(number: u32, five: Five, answer: Answer, out: &mut impl Write) -> io::Result<()> {
     let event = words::event(five);
     let answer = words::answer(five, answer);
-    writeln!(out, "{number:>5}  {event:<EVENT$}  # {answer}")
+    writeln!(out, "{number:>NUMBER$}  {event:<EVENT$}  # {answer}")
 }
 
 fn refusal(bad: BadRun, out: &mut impl Write) -> io::Result<BadRun> {
+    const LINE: usize = NUMBER + BLANK + EVENT;
     let line = run::refused(bad);
-    writeln!(out, "{line:<39}  # {}", bad.fault)?;
+    writeln!(out, "{line:<LINE$}  # {}", bad.fault)?;
     Ok(bad)
 }
 
 /// Each section in words; an empty one that was read to its end as a comment.
 fn setup(setup: &Setup, out: &mut impl Write) -> io::Result<()> {
-    for (place, name) in SECTIONS.iter().enumerate() {
-        let lines = section(setup, place);
-        if lines.is_empty() && place < setup.whole {
-            writeln!(out, "# no {name}")?;
+    for (before, section) in Section::ALL.into_iter().enumerate() {
+        let lines = section_lines(setup, section);
+        if lines.is_empty() && before < setup.whole {
+            writeln!(out, "# no {}", section.name())?;
         }
         for line in lines {
             writeln!(out, "{line}")?;
@@ -66,24 +70,27 @@ fn setup(setup: &Setup, out: &mut impl Write) -> io::Result<()> {
 }
 
 /// The lines of a section.
-pub fn section(setup: &Setup, place: usize) -> Vec<String> {
-    let count = |count: Option<u32>| count.map(|count| format!("{} {count}", SECTIONS[place]));
-    match place {
-        1 => entries("task", &setup.tasks, |task| {
+pub fn section_lines(setup: &Setup, section: Section) -> Vec<String> {
+    let number = |count: Option<u32>| {
+        let line = count.map(|count| format!("{} {count}", section.name()));
+        line.into_iter().collect()
+    };
+    match section {
+        Section::Priorities => number(setup.priorities),
+        Section::Tasks => entries("task", &setup.tasks, |task| {
             let state = if task.started { "started" } else { "dormant" };
             format!("priority {:<2} {state}", task.priority)
         }),
-        2 => entries("semaphore", &setup.semaphores, |count| {
+        Section::Semaphores => entries("semaphore", &setup.semaphores, |count| {
             format!("count {count}")
         }),
-        3 => entries("flag", &setup.flags, |pattern| {
+        Section::Flags => entries("flag", &setup.flags, |pattern| {
             format!("pattern {pattern:#x}")
         }),
-        6 => entries("pool", &setup.pools, |blocks| format!("blocks {blocks}")),
-        7 => setup.counter.as_ref().map_or(Vec::new(), counter),
-        0 => count(setup.priorities).into_iter().collect(),
-        4 => count(setup.mailboxes).into_iter().collect(),
-        _ => count(setup.messages).into_iter().collect(),
+        Section::Mailboxes => number(setup.mailboxes),
+        Section::Messages => number(setup.messages),
+        Section::Pools => entries("pool", &setup.pools, |blocks| format!("blocks {blocks}")),
+        Section::Counter => setup.counter.as_ref().map_or(Vec::new(), counter),
     }
 }
 
