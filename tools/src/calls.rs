@@ -1,4 +1,6 @@
 //! The calls by name, and how their words are written.
+use std::fmt;
+
 use okrozumba::{call, Code, TaskState};
 
 /// A word that a call takes.
@@ -23,6 +25,21 @@ pub struct Call {
     pub name: &'static str,
     pub takes: &'static [Word],
     pub gives: Gives,
+}
+
+/// Its number, its name, and its words with the names that values have.
+impl fmt::Display for Call {
+    fn fmt(&self, out: &mut fmt::Formatter) -> fmt::Result {
+        write!(out, "{:>2}  {:<8}", self.number, self.name)?;
+        for word in self.takes {
+            write!(out, "  {}", word.name())?;
+            let names: Vec<&str> = word.named().iter().map(|(name, _)| *name).collect();
+            if !names.is_empty() {
+                write!(out, " ({})", names.join(", "))?;
+            }
+        }
+        Ok(())
+    }
 }
 
 /// What the words of an answer with code 0 are.
@@ -247,6 +264,19 @@ mod tests {
                 Some(call.number)
             );
         }
+    }
+
+    #[test]
+    fn a_call_in_a_line() {
+        let line = |name| by_name(name).map(Call::to_string);
+        assert_eq!(
+            line("wai_tsk").as_deref(),
+            Some("10  wai_tsk   ticks (forever)")
+        );
+        assert_eq!(
+            line("chg_pri").as_deref(),
+            Some(" 4  chg_pri   task  priority")
+        );
     }
 
     #[test]

@@ -3,6 +3,7 @@ use std::io::Read;
 
 use okrozumba::recorder::BadRun;
 
+use crate::calls::CALLS;
 use crate::compare;
 use crate::month::{self, Counted};
 use crate::picture::model::{NoPicture, Picture, Range};
@@ -19,6 +20,7 @@ pub const HELP: &str = "\
 okrozumba: recorded runs as text, as lists and as pictures
 
   okrozumba assemble RUN.txt > RUN.run      the file of a run that is written as text
+  okrozumba calls                           the calls by name, with the words that each takes
   okrozumba list RUN.run                    a run in words, each event with its answer; it assembles back
   okrozumba picture RUN.run > RUN.html      a page with a lane for each task, its state over the events
   okrozumba month RUN.run... > MONTH.html   a page with the states and codes of up to 64 runs
@@ -232,12 +234,21 @@ fn ask(command: &str, options: Options) -> Result<Done, Failure> {
     }
     match command {
         "assemble" => assemble(&options.one(command)?),
+        "calls" => calls(&options.files),
         "list" => list(&options.one(command)?),
         "picture" => picture(&options.one(command)?, &options),
         "month" => month(&options.files),
         "compare" => compare(&options.files),
         _ => Err(Failure::Usage(format!("there is no command {command}"))),
     }
+}
+
+fn calls(files: &[String]) -> Result<Done, Failure> {
+    if !files.is_empty() {
+        return Err(Failure::Usage("calls takes no file".to_string()));
+    }
+    let lines: String = CALLS.iter().map(|call| format!("{call}\n")).collect();
+    Ok(Done::from(lines))
 }
 
 fn assemble(input: &Input) -> Result<Done, Failure> {

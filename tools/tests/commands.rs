@@ -126,8 +126,9 @@ fn a_file_stays_as_it_is_when_nothing_comes_out() {
 #[test]
 fn bad_usage() {
     let run = example("runs/bench_sheet.run").display().to_string();
-    let bad: [&[&str]; 10] = [
+    let bad: [&[&str]; 11] = [
         &[],
+        &["calls", &run],
         &["paint"],
         &["list"],
         &["list", &run, &run],
@@ -146,6 +147,14 @@ fn bad_usage() {
             "{words:?}"
         );
     }
+    let calls = okrozumba(&["calls"], &[]);
+    assert_eq!(
+        (
+            status(&calls),
+            calls.stdout.iter().filter(|byte| **byte == b'\n').count()
+        ),
+        (0, 39)
+    );
     let help = okrozumba(&["--help"], &[]);
     assert_eq!(status(&help), 0);
     assert!(help.stdout.starts_with(b"okrozumba: "));
