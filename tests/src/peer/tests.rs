@@ -216,7 +216,7 @@ fn busy() -> Peer {
 #[test]
 fn damage_is_found() {
     type Damage = fn(&mut State);
-    let damages: [(Damage, i32, u32); 51] = [
+    let damages: [(Damage, i32, u32); 59] = [
         (|k| k.priorities = 17, H_NUMBER, 0),
         (|k| k.tasks = 33, H_NUMBER, 0),
         (|k| k.semaphores = 17, H_NUMBER, 0),
@@ -253,6 +253,13 @@ fn damage_is_found() {
         ),
         (|k| k.task[3].node.prev = 0, H_NUMBER, 0),
         (|k| k.task[0].node.prev = 0, H_NUMBER, 0),
+        (|k| k.task[0].node.next = 0, H_NUMBER, 0),
+        (|k| k.ready_queue[16].prev = 0, H_NUMBER, 0),
+        (|k| k.ready_queue[16].next = 0, H_NUMBER, 0),
+        (|k| k.ready_queue[2].prev = 0, H_NUMBER, 0),
+        (|k| k.flag[1].waiters.prev = 0, H_NUMBER, 0),
+        (|k| k.mailbox[0].waiters.prev = 0, H_NUMBER, 0),
+        (|k| k.mailbox[1].waiters.prev = 0, H_NUMBER, 0),
         (|k| k.task[3].node.next = address(&k.task[3]), H_QUEUE, 3),
         (|k| k.task[3].wakeups = 16, H_NUMBER, 0),
         (|k| k.task[3].status = SUSPEND, H_QUEUE, 3),
@@ -269,6 +276,7 @@ fn damage_is_found() {
         (|k| k.present = k.round, H_NUMBER, 0),
         (|k| k.used |= 1 << 8, H_NUMBER, 0),
         (|k| k.until = 3, H_NUMBER, 0),
+        (|k| k.until = 0, H_NUMBER, 0),
         (|k| k.alarm[7].task = 0, H_NUMBER, 0),
         (|k| k.alarm[0].kept = -3, H_NUMBER, 0),
         (|k| k.alarm[0].expiry = k.round, H_NUMBER, 0),
