@@ -2,11 +2,9 @@
 // has failed, so it is plain rather than fast: each id is looked for in every line.
 mod lines;
 
-use crate::lines::all_known;
-use crate::lines::all_right;
-use crate::lines::at_most_once;
 use crate::lines::line_known;
 use crate::lines::stands_right;
+use crate::lines::times_in;
 use check_queues::block_home;
 use check_queues::home;
 use check_queues::ids_in;
@@ -42,9 +40,10 @@ use memory_queues::block_node;
 use memory_queues::free_anchor;
 use memory_queues::links;
 ghost use mathlib.Core.Path.{_≡_};
-ghost use Prim.Native.Nat.{_+_, _≤_};
+ghost use Prim.Native.Nat.{_+_, _≤_, _<_, _^_};
 ghost use Rattle.rules.specs.Codes.{number};
 ghost use Rattle.rules.specs.Breach as Rules;
+ghost use Rattle.memory_rings.specs.Links.{nexts};
 ghost use Rattle.memory_rings.specs.Rings.{lineOf};
 ghost use Rattle.memory_columns.specs.declared.Rings.the-variants.{Tasks};
 ghost use Rattle.memory_columns.specs.Layout as Layout;
@@ -52,7 +51,7 @@ ghost use Rattle.memory_columns.specs.Layout.{maxMessages, nextOf, words as wor
 ghost use Rattle.memory_picture.specs.Picture.{viewShown};
 ghost use Rattle.check_ranges.specs.Ranges.{every};
 ghost use Rattle.check_queues.specs.Queues.{home as homeOf, idsIn};
-ghost use Rattle.check_damage.specs.Lists.{known, standsRight};
+ghost use Rattle.check_damage.specs.Lists.{known, standsRight, atMostOnce};
 ghost use Rattle.check_damage.specs.Damage as Damage;
 ghost use Rattle.check_damage.specs.Judged.{Judged};
 
@@ -102,6 +101,55 @@ fn few(words: &[u32; STATE_WORDS], k: u32) -> u32
     ensures { λ r. ⌜ (r ≡ Damage.few (now (words .entry)) k) × (r ≤ maxMessages) ⌝ }
 {
     at_most(system(words, k), MAX_MESSAGES)
+}
+
+// ---- the lines of the anchors behind `before`, so many
+
+// Each of them lists ids alone.
+fn all_known(links: &[u32], n: u32, before: u32, count: u32) -> bool
+    requires { ⌜ before + count < 2 ^ 32 ⌝ }
+    ensures { λ r. ⌜ r ≡ every count 1 (λ o. known 0 n (lineOf n (nexts (now (links .entry))) (before + o))) ⌝ }
+{
+    let mut o: u32 = 0;
+    while o < count {
+        o += 1;
+        if !line_known(links, n, before + o, 0, n) {
+            return false;
+        }
+    }
+    true
+}
+
+// The id i stands in each of them as often as it belongs there.
+fn all_right(links: &[u32], n: u32, before: u32, count: u32, home: u32, i: u32) -> bool
+    requires { ⌜ before + count < 2 ^ 32 ⌝ }
+    ensures { λ r. ⌜ r ≡ every count 1 (λ o. standsRight n (nexts (now (links .entry))) home i (before + o)) ⌝ }
+{
+    let mut o: u32 = 0;
+    while o < count {
+        o += 1;
+        if !stands_right(links, n, before + o, home, i) {
+            return false;
+        }
+    }
+    true
+}
+
+// The id i stands at most once in all of them together.
+fn at_most_once(links: &[u32], n: u32, before: u32, count: u32, i: u32) -> bool
+    requires { ⌜ before + count < 2 ^ 32 ⌝ }
+    ensures { λ r. ⌜ r ≡ atMostOnce n (nexts (now (links .entry))) i before 0 1 count ⌝ }
+{
+    let mut found: usize = 0;
+    let mut o: u32 = 0;
+    while o < count {
+        o += 1;
+        found += times_in(links, n, before + o, i);
+        if 1 < found {
+            return false;
+        }
+    }
+    true
 }
 
 // ---- numbers

@@ -1,11 +1,11 @@
--- `check_damage::lines::at_most_once` meets its contract. The lines that are left decide as all of them do. Assumes nothing.
+-- `check_damage::at_most_once` meets its contract. The lines that are left decide as all of them do. Assumes nothing.
 use Prim.Native.Nat.{_-_}
 use native.Mathlib.Omega.{arith}
 use borrow.Author.Needs.{needs}
 use Rattle.memory_rings.specs.Links.{nexts}
 use Rattle.check_damage.proofs.Walks.{Summing, summing-starts, sum-done, sum-fails, sum-on}
-use Rattle.check_damage.proofs.lines.at_most_once.Statement.{statement}
-use Rattle.check_damage.proofs.lines.at_most_once.Tie as tie
+use Rattle.check_damage.proofs.at_most_once.Statement.{statement}
+use Rattle.check_damage.proofs.at_most_once.Tie as tie
 
 abbrev Inv-loop : tie.InvT-loop
 Inv-loop links n before count i found₀ o₀ found o = Summing n (nexts links) i before count found o

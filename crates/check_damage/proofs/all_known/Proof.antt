@@ -1,4 +1,4 @@
--- `check_damage::lines::all_known` meets its contract. The lines that have not been looked at decide as all of them do. Assumes nothing.
+-- `check_damage::all_known` meets its contract. The lines that have not been looked at decide as all of them do. Assumes nothing.
 use Prim.Native.Nat.{_+_, _-_}
 use borrow.Author.Needs.{needs}
 use Rattle.memory_rings.specs.Links.{nexts}
@@ -6,8 +6,8 @@ use Rattle.memory_rings.specs.Rings.{lineOf}
 use Rattle.check_ranges.proofs.Steps.{failed, passed}
 use Rattle.check_ranges.proofs.Loops.{Passing, passing-none, passing-all, passing-fail, passing-on}
 use Rattle.check_damage.specs.Lists.{known}
-use Rattle.check_damage.proofs.lines.all_known.Statement.{statement}
-use Rattle.check_damage.proofs.lines.all_known.Tie as tie
+use Rattle.check_damage.proofs.all_known.Statement.{statement}
+use Rattle.check_damage.proofs.all_known.Tie as tie
 
 abbrev Inv-loop : tie.InvT-loop
 Inv-loop links n before count o₀ o = Passing (λ o. known 0 n (lineOf n (nexts links) (before + o))) count o

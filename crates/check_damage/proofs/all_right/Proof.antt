@@ -1,12 +1,12 @@
--- `check_damage::lines::all_right` meets its contract. The lines that have not been looked at decide as all of them do. Assumes nothing.
+-- `check_damage::all_right` meets its contract. The lines that have not been looked at decide as all of them do. Assumes nothing.
 use Prim.Native.Nat.{_+_, _-_}
 use borrow.Author.Needs.{needs}
 use Rattle.memory_rings.specs.Links.{nexts}
 use Rattle.check_ranges.proofs.Steps.{failed, passed}
 use Rattle.check_ranges.proofs.Loops.{Passing, passing-none, passing-all, passing-fail, passing-on}
 use Rattle.check_damage.specs.Lists.{standsRight}
-use Rattle.check_damage.proofs.lines.all_right.Statement.{statement}
-use Rattle.check_damage.proofs.lines.all_right.Tie as tie
+use Rattle.check_damage.proofs.all_right.Statement.{statement}
+use Rattle.check_damage.proofs.all_right.Tie as tie
 
 abbrev Inv-loop : tie.InvT-loop
 Inv-loop links n before count home i o₀ o = Passing (λ o. standsRight n (nexts links) home i (before + o)) count o
