@@ -3,7 +3,7 @@
 use Prim.Native.Nat.{ℕ, zero, suc, pred, _+_, _-_, _%_, _^_, _≤_, _<_}
 use mathlib.Core.Bool.{Bool, true, false}
 use mathlib.Core.List.{List}
-use mathlib.Core.Path.{_≡_, refl, sym, _∙_}
+use mathlib.Core.Path.{_≡_, refl, sym, ap, _∙_}
 use native.Mathlib.Numerals.{sub-one, add-one}
 use native.Mathlib.Omega.{arith}
 use lib.ListN.{getD, set, length, List·getD-eq-default}
@@ -15,7 +15,7 @@ use Rattle.memory_columns.specs.Layout.{maxBlocks, entry}
 use Rattle.memory_columns.specs.Bits.{remasked}
 use Rattle.memory_columns.specs.declared.Rings.the-variants.{Blocks}
 use Rattle.memory_queues.specs.Moves.{freeAnchor, nodeOfBlock, linked, unlinked}
-use Rattle.memory_objects.specs.Moves.{listed, marked, isTimed, aged, agedFrom, clocked, counted}
+use Rattle.memory_objects.specs.Moves.{listed, marked, aged, agedFrom, clocked, counted}
 
 -- ---- tables by id
 
@@ -64,19 +64,9 @@ block-in p (suc k) t b ne h e f g l = l ∙ rw (le-leb 1 (suc k) (omega arith), 
 
 -- ---- time
 
-module _ (t : ℕ) (b : List ℕ) where
-  pub age-yes : {s k n m : ℕ} {y : Bool} {b₁ : List ℕ} → s ≡ entry Layout.status b t → k ≡ entry Layout.kind b t → y ≡ isTimed s k → y ≡ true
-      → n ≡ entry Layout.ticks b t → m ≡ pred n → b₁ ≡ Layout.put Layout.ticks t m b → b₁ ≡ aged t b
-  unfolding aged
-  age-yes e f g h e′ f′ g′ =
-      let z : isTimed (entry Layout.status b t) (entry Layout.kind b t) ≡ true = rw (← e, ← f) (sym g ∙ h) in
-      g′ ∙ rw (f′, e′, z)
-
-  pub age-no : {s k : ℕ} {y : Bool} → s ≡ entry Layout.status b t → k ≡ entry Layout.kind b t → y ≡ isTimed s k → y ≡ false → b ≡ aged t b
-  unfolding aged
-  age-no e f g h =
-      let z : isTimed (entry Layout.status b t) (entry Layout.kind b t) ≡ false = rw (← e, ← f) (sym g ∙ h) in
-      rw z
+pub age-one : (t : ℕ) (b : List ℕ) {n m : ℕ} {b₁ : List ℕ} → n ≡ entry Layout.ticks b t → m ≡ pred n → b₁ ≡ Layout.put Layout.ticks t m b → b₁ ≡ aged t b
+unfolding aged
+age-one t b e f g = g ∙ rw (f, e)
 
 pub age-none : (n t : ℕ) (b : List ℕ) → n ≤ 0 → b ≡ agedFrom n t b
 unfolding agedFrom
@@ -87,6 +77,13 @@ pub age-step : (n t : ℕ) (b : List ℕ) {b₁ : List ℕ} → 0 < n → b₁ �
 unfolding agedFrom
 age-step zero t b h e = absurd (omega arith)
 age-step (suc n) t b h e = rw (sub-one, add-one, e)
+
+-- from the first of n tasks to the last
+pub age-first : (n : ℕ) (b : List ℕ) → agedFrom (n + 1 - 1) 1 b ≡ agedFrom n 1 b
+age-first n b = ap (λ (k : ℕ). agedFrom k 1 b) (omega arith)
+
+pub age-next : (n t : ℕ) (b : List ℕ) {b₁ : List ℕ} → t ≤ n → b₁ ≡ aged t b → agedFrom (n + 1 - (t + 1)) (t + 1) b₁ ≡ agedFrom (n + 1 - t) t b
+age-next n t b {b₁} h e = ap (λ (k : ℕ). agedFrom k (t + 1) b₁) (omega arith) ∙ age-step (n + 1 - t) t b (omega arith) e
 
 module _ (b : List ℕ) {low : ℕ} (e : low ≡ entry Layout.system b Layout.clockLow) where
   pub clock-low : {b₁ : List ℕ} → low < 4294967295 → b₁ ≡ Layout.put Layout.system Layout.clockLow (low + 1) b → b₁ ≡ clocked b

@@ -1,11 +1,11 @@
 -- What each act on blocks, time, handlers and alarms does to the words, for any words.
-use mathlib.Core.Bool.{Bool, cond, _&&_, _||_}
+use mathlib.Core.Bool.{Bool, cond, _&&_}
 use mathlib.Core.List.{List}
 use Prim.Native.Nat.{ℕ, zero, suc, pred, _%_, _^_}
 use lib.Dec.{eqb, leb}
 use Rattle.memory_columns.specs.Layout as Layout
 use Rattle.rules.specs.Acts.{countAfter}
-use Rattle.memory_columns.specs.Layout.{maxTasks, maxBlocks, status, kind, ticks, free, system, handling, counter, alarmCode, alarmDue, alarmPeriod, entry, put, atMost}
+use Rattle.memory_columns.specs.Layout.{maxTasks, maxBlocks, ticks, free, system, handling, counter, alarmCode, alarmDue, alarmPeriod, entry, put, atMost}
 use Rattle.memory_columns.specs.Bits.{masked}
 use Rattle.memory_columns.specs.declared.Rings.the-variants.{Blocks}
 use Rattle.memory_queues.specs.Moves.{freeAnchor, nodeOfBlock, linked, unlinked}
@@ -22,17 +22,18 @@ marked p k t b = cond (leb 1 k && leb k maxBlocks) (listed p k t (put free p (ma
 
 -- ---- time
 
--- a timed wait, suspended or not
-abbrev pub isTimed : ℕ → ℕ → Bool
-isTimed s k = (eqb s 3 || eqb s 5) && eqb k 1
-
+-- a tick less is left of task t, if any is. Of a task that is in no timed wait the word is no part of the state
 unfoldable pub aged : ℕ → List ℕ → List ℕ
-aged t b = cond (isTimed (entry status b t) (entry kind b t)) (put ticks t (pred (entry ticks b t)) b) b
+aged t b = put ticks t (pred (entry ticks b t)) b
 
 -- n tasks from t on
 unfoldable pub agedFrom : ℕ → ℕ → List ℕ → List ℕ
 agedFrom zero t b = b
 agedFrom (suc n) t b = agedFrom n (suc t) (aged t b)
+
+-- all tasks
+unfoldable pub agedAll : List ℕ → List ℕ
+agedAll b = agedFrom (atMost (entry system b Layout.tasks) maxTasks) 1 b
 
 -- the clock's low half, and the high half when the low one comes to 0
 unfoldable pub clocked : List ℕ → List ℕ
@@ -45,7 +46,7 @@ unfoldable pub counted : List ℕ → List ℕ
 counted b = cond (eqb (entry counter b Layout.counterSize) 0) b (put counter Layout.counterNow (countAfter (entry counter b Layout.counterSize) (entry counter b Layout.counterNow)) b)
 
 unfoldable pub elapsed : List ℕ → List ℕ
-elapsed b = counted (clocked (agedFrom (atMost (entry system b Layout.tasks) maxTasks) 1 b))
+elapsed b = counted (clocked (agedAll b))
 
 -- ---- handlers
 

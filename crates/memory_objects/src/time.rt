@@ -1,4 +1,4 @@
-// A tick goes by: each timed wait loses one, and the clock and the counter rise.
+// What a tick changes: each timed wait loses one, and the clock and the counter rise (`elapsed` is the three in this order).
 use memory_columns::CLOCK_HIGH;
 use memory_columns::CLOCK_LOW;
 use memory_columns::COUNTER_NOW;
@@ -6,34 +6,17 @@ use memory_columns::COUNTER_SIZE;
 use memory_columns::MAX_TASKS;
 use memory_columns::STATE_WORDS;
 use memory_columns::TASKS;
-use memory_columns::TIMED;
-use memory_columns::WAIT;
-use memory_columns::WAIT_SUSPEND;
 use memory_columns::at_most;
 use memory_columns::counter;
-use memory_columns::kind;
 use memory_columns::set_counter;
 use memory_columns::set_system;
 use memory_columns::set_ticks;
-use memory_columns::status;
 use memory_columns::system;
 use memory_columns::ticks;
 ghost use mathlib.Core.Path.{_≡_};
 ghost use Prim.Native.Nat.{pred, _≤_};
 ghost use Rattle.memory_columns.specs.Layout.{maxTasks};
-ghost use Rattle.memory_objects.specs.Moves.{isTimed, aged, agedFrom, clocked, counted, elapsed};
-
-fn is_timed(status: u32, kind: u32) -> bool
-    ensures { λ r. ⌜ r ≡ isTimed status kind ⌝ }
-{
-    if status == WAIT {
-        return kind == TIMED;
-    }
-    if status == WAIT_SUSPEND {
-        return kind == TIMED;
-    }
-    false
-}
+ghost use Rattle.memory_objects.specs.Moves.{aged, agedFrom, agedAll, clocked, counted};
 
 fn one_less(n: u32) -> u32
     ensures { λ r. ⌜ r ≡ pred n ⌝ }
@@ -41,32 +24,36 @@ fn one_less(n: u32) -> u32
     if n == 0 { 0 } else { n - 1 }
 }
 
-// The timed wait of task t, suspended or not, loses a tick.
+// A tick less is left of task t, if any is.
 fn age(words: &mut [u32; STATE_WORDS], t: u32)
     ensures { λ _. ⌜ now (words .exit) ≡ aged t (now (words .entry)) ⌝ }
 {
-    if is_timed(status(words, t), kind(words, t)) {
-        let n = one_less(ticks(words, t));
-        set_ticks(words, t, n);
-    }
+    let n = one_less(ticks(words, t));
+    set_ticks(words, t, n);
 }
 
-// The timed waits of tasks 1 to n lose a tick.
-fn age_all(words: &mut [u32; STATE_WORDS], n: u32)
+// A tick less is left of each of the tasks 1 to n.
+fn age_tasks(words: &mut [u32; STATE_WORDS], n: u32)
     requires { ⌜ n ≤ maxTasks ⌝ }
     ensures { λ _. ⌜ now (words .exit) ≡ agedFrom n 1 (now (words .entry)) ⌝ }
 {
     let mut t: u32 = 1;
-    let mut left = n;
-    while 0 < left {
+    while t <= n {
         age(words, t);
         t += 1;
-        left -= 1;
     }
 }
 
+// A tick less is left of each task. No state and no kind is asked, so that the loop is one over a column.
+pub fn age_all(words: &mut [u32; STATE_WORDS])
+    ensures { λ _. ⌜ now (words .exit) ≡ agedAll (now (words .entry)) ⌝ }
+{
+    let n = at_most(system(words, TASKS), MAX_TASKS);
+    age_tasks(words, n);
+}
+
 // The clock rises by one; after 2^48 - 1 comes 0.
-fn step_clock(words: &mut [u32; STATE_WORDS])
+pub fn step_clock(words: &mut [u32; STATE_WORDS])
     ensures { λ _. ⌜ now (words .exit) ≡ clocked (now (words .entry)) ⌝ }
 {
     let low = system(words, CLOCK_LOW);
@@ -80,7 +67,7 @@ fn step_clock(words: &mut [u32; STATE_WORDS])
 }
 
 // The counter rises by one, and after m - 1 comes 0. Where there is no counter nothing is written.
-fn step_counter(words: &mut [u32; STATE_WORDS])
+pub fn step_counter(words: &mut [u32; STATE_WORDS])
     ensures { λ _. ⌜ now (words .exit) ≡ counted (now (words .entry)) ⌝ }
 {
     let size = counter(words, COUNTER_SIZE);
@@ -93,14 +80,4 @@ fn step_counter(words: &mut [u32; STATE_WORDS])
         return;
     }
     set_counter(words, COUNTER_NOW, 0);
-}
-
-// A tick goes by.
-pub fn elapse(words: &mut [u32; STATE_WORDS])
-    ensures { λ _. ⌜ now (words .exit) ≡ elapsed (now (words .entry)) ⌝ }
-{
-    let n = at_most(system(words, TASKS), MAX_TASKS);
-    age_all(words, n);
-    step_clock(words);
-    step_counter(words);
 }

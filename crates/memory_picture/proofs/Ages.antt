@@ -1,5 +1,5 @@
 -- A tick: each timed wait loses one, task by task, and the clock and the counter rise by one.
-use mathlib.Core.Bool.{Bool, true, false, cond, _&&_, _||_}
+use mathlib.Core.Bool.{Bool, true, false, cond}
 use mathlib.Core.List.{List, [], _∷_, _++_, map, map-map}
 use mathlib.Core.Logic.{_⊎_, inl, inr}
 use mathlib.Core.Path.{_≡_, refl, sym, ap, _∙_, subst}
@@ -20,7 +20,7 @@ use Rattle.memory_columns.specs.declared.Rings.the-variants.{Tasks, Messages, B
 use Rattle.memory_columns.specs.Layout as Layout
 use Rattle.memory_columns.specs.Layout.{stateWords, maxTasks, nextOf, prevOf, words, entry, Only}
 use Rattle.memory_columns.proofs.Frame.{words-length, put-only, entry-put, entry-other, only-none, only-both, only-on}
-use Rattle.memory_objects.specs.Moves.{isTimed, aged, agedFrom, clocked, counted, elapsed}
+use Rattle.memory_objects.specs.Moves.{aged, agedFrom, agedAll, clocked, counted, elapsed}
 use Rattle.memory_picture.specs.Picture.{noWait, waitShown, stateShown, taskShown, countShown, counterShown, storeShown, bodyShown, viewShown, Accepted}
 use Rattle.memory_queues.proofs.Relinks.{put-at}
 use Rattle.memory_picture.proofs.Lines.{rest, follows-stay}
@@ -46,48 +46,41 @@ older-both asleep = refl
 older-both (timed t) = refl
 older-both (on k o p m) = refl
 
-shorter-timed : (k o p m n : ℕ) → eqb k 1 ≡ true → waitShown k o p m (pred n) ≡ shorter (waitShown k o p m n)
+shorter-shown : (k o p m n : ℕ) → waitShown k o p m (pred n) ≡ shorter (waitShown k o p m n)
 unfolding waitShown
-shorter-timed k o p m n e = rw (eqb-true k 1 e)
-
-shorter-other : (k o p m n : ℕ) → eqb k 1 ≡ false → waitShown k o p m n ≡ shorter (waitShown k o p m n)
-unfolding waitShown
-shorter-other k o p m n e = rw e (go (eqb k 0) (eqb k 2) (eqb k 3) (eqb k 4) (eqb k 5))
+shorter-shown k o p m n = go (eqb k 0) (eqb k 1) (eqb k 2) (eqb k 3) (eqb k 4) (eqb k 5)
   where
-    W : Bool → Bool → Bool → Bool → Bool → Wait
-    W a c d e f = cond a asleep (cond c (on semaphore o 0 0) (cond d (on flag o p m) (cond e (on mailbox o 0 0) (cond f (on pool o 0 0) noWait))))
+    W : Bool → Bool → Bool → Bool → Bool → Bool → ℕ → Wait
+    W a b c d e f n = cond a asleep (cond b (timed n) (cond c (on semaphore o 0 0) (cond d (on flag o p m) (cond e (on mailbox o 0 0) (cond f (on pool o 0 0) noWait)))))
 
-    go : (a c d e f : Bool) → W a c d e f ≡ shorter (W a c d e f)
-    go true c d e f = refl
-    go false true d e f = refl
-    go false false true e f = refl
-    go false false false true f = refl
-    go false false false false true = refl
-    go false false false false false = refl
+    go : (a b c d e f : Bool) → W a b c d e f (pred n) ≡ shorter (W a b c d e f n)
+    go true b c d e f = refl
+    go false true c d e f = refl
+    go false false true d e f = refl
+    go false false false true e f = refl
+    go false false false false true f = refl
+    go false false false false false true = refl
+    go false false false false false false = refl
 
--- the state of a task with one tick less, where it is timed
-older-shown : (s k o p m n : ℕ) → stateShown s (waitShown k o p m (cond (isTimed s k) (pred n) n)) ≡ older (stateShown s (waitShown k o p m n))
+-- the state of a task with one tick less; where it is in no timed wait it does not show the ticks
+older-shown : (s k o p m n : ℕ) → stateShown s (waitShown k o p m (pred n)) ≡ older (stateShown s (waitShown k o p m n))
 unfolding stateShown
-older-shown s k o p m n = go (eqb s 0) (eqb s 1) (eqb s 3) (eqb s 4) (eqb s 5) (eqb s 6) (eqb k 1) refl
+older-shown s k o p m n = go (eqb s 0) (eqb s 1) (eqb s 3) (eqb s 4) (eqb s 5) (eqb s 6)
   where
     w : ℕ → Wait
     w n = waitShown k o p m n
 
-    now : (t : Bool) → eqb k 1 ≡ t → w (cond t (pred n) n) ≡ shorter (w n)
-    now true e = shorter-timed k o p m n e
-    now false e = shorter-other k o p m n e
-
     S : Bool → Bool → Bool → Bool → Bool → Bool → Wait → State
     S a b c d e f w = cond a dormant (cond b ready (cond c (waiting w) (cond d suspended (cond e (waiting-suspended w) (cond f absent (waiting noWait))))))
 
-    go : (a b c d e f t : Bool) → eqb k 1 ≡ t → S a b c d e f (w (cond ((c || e) && t) (pred n) n)) ≡ older (S a b c d e f (w n))
-    go true b c d e f t h = refl
-    go false true c d e f t h = refl
-    go false false true d e f t h = ap waiting (now t h) ∙ sym (older-waiting (w n))
-    go false false false true e f t h = refl
-    go false false false false true f t h = ap waiting-suspended (now t h) ∙ sym (older-both (w n))
-    go false false false false false true t h = refl
-    go false false false false false false t h = refl
+    go : (a b c d e f : Bool) → S a b c d e f (w (pred n)) ≡ older (S a b c d e f (w n))
+    go true b c d e f = refl
+    go false true c d e f = refl
+    go false false true d e f = ap waiting (shorter-shown k o p m n) ∙ sym (older-waiting (w n))
+    go false false false true e f = refl
+    go false false false false true f = ap waiting-suspended (shorter-shown k o p m n) ∙ sym (older-both (w n))
+    go false false false false false true = refl
+    go false false false false false false = refl
 
 abbrev pub olderTask : Task → Task
 olderTask t = with-state (older (t .state)) t
@@ -95,26 +88,11 @@ olderTask t = with-state (older (t .state)) t
 module _ (b : List ℕ) (size : length b ≡ stateWords) (t : ℕ) (h : t < Layout.status .width) where
   aged-touched : Touched t rest b (aged t b)
   unfolding aged
-  aged-touched = go (isTimed (entry Layout.status b t) (entry Layout.kind b t))
-    where
-      go : (x : Bool) → Touched t rest b (cond x (Layout.put Layout.ticks t (pred (entry Layout.ticks b t)) b) b)
-      go true = touched-put Layout.ticks _ refl (untouched size)
-      go false = untouched size
-
-  -- its state with n ticks left
-  abbrev left : ℕ → State
-  left n = stateShown (entry Layout.status b t) (waitShown (entry Layout.kind b t) (entry Layout.object b t) (entry Layout.wish b t) (entry Layout.mode b t) n)
-
-  state : (x : Bool) → isTimed (entry Layout.status b t) (entry Layout.kind b t) ≡ x → left (cond x (pred (entry Layout.ticks b t)) (entry Layout.ticks b t)) ≡ older (left (entry Layout.ticks b t))
-  state x e = subst (λ (x : Bool). left (cond x (pred (entry Layout.ticks b t)) (entry Layout.ticks b t)) ≡ older (left (entry Layout.ticks b t))) e (older-shown _ _ _ _ _ _)
+  aged-touched = touched-put Layout.ticks _ refl (untouched size)
 
   aged-shown : taskShown (aged t b) t ≡ olderTask (taskShown b t)
   unfolding aged taskShown
-  aged-shown = go (isTimed (entry Layout.status b t) (entry Layout.kind b t)) refl
-    where
-      go : (x : Bool) → isTimed (entry Layout.status b t) (entry Layout.kind b t) ≡ x → taskShown (cond x (Layout.put Layout.ticks t (pred (entry Layout.ticks b t)) b) b) t ≡ olderTask (taskShown b t)
-      go true e = simp (col-store, put-at b size) (λ z. with-state (state true e z) (taskShown b t))
-      go false e = λ z. with-state (state false e z) (taskShown b t)
+  aged-shown = simp (col-store, put-at b size) (λ z. with-state (older-shown (entry Layout.status b t) (entry Layout.kind b t) (entry Layout.object b t) (entry Layout.wish b t) (entry Layout.mode b t) (entry Layout.ticks b t) z) (taskShown b t))
 
 -- ---- n tasks from t on
 
@@ -223,7 +201,7 @@ counted-only c = go (eqb (entry Layout.counter c Layout.counterSize) 0)
     go true = only-none (Layout.counter ∷ []) c
     go false = put-only Layout.counter Layout.counterNow _ c
 
-counted-size : (c : List ℕ) → length (counted c) ≡ length c
+pub counted-size : (c : List ℕ) → length (counted c) ≡ length c
 unfolding counted
 counted-size c = go (eqb (entry Layout.counter c Layout.counterSize) 0)
   where
@@ -239,7 +217,7 @@ module _ (c : List ℕ) (h : length c ≡ stateWords) where
   abbrev n : ℕ
   n = entry Layout.counter c Layout.counterNow
 
-  counted-words : (entry Layout.counter (counted c) Layout.counterSize ≡ m) × (countShown m (entry Layout.counter (counted c) Layout.counterNow) ≡ countAfter m (countShown m n))
+  pub counted-words : (entry Layout.counter (counted c) Layout.counterSize ≡ m) × (countShown m (entry Layout.counter (counted c) Layout.counterNow) ≡ countAfter m (countShown m n))
   unfolding counted
   counted-words = go m refl
     where
@@ -352,7 +330,7 @@ module _ (b msgs : List ℕ) (A : Accepted b msgs) (F : LowClock b) where
     }
 
   pub elapse-done : Done elapse b msgs (elapsed b) msgs
-  unfolding elapsed
+  unfolding elapsed agedAll
   elapse-done =
       let R = aged-from (entry Layout.system b Layout.tasks) 1 b (A .whole .size) (omega (arith, few-tasks)) in
       rw (le-leb (entry Layout.system b Layout.tasks) maxTasks few-tasks) (ticked-done _ _ R (risen-law _ (R .size)))

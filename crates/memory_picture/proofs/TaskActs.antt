@@ -97,7 +97,7 @@ module _ (b msgs : List ℕ) (A : Accepted b msgs) (t : ℕ) (h : In t (length (
   pub retire-done : Done (retire t) b msgs (retired t b) msgs
   unfolding retired after move taskShown stateShown
   retire-done = leave-done b msgs A t h (retire t) Acts.retired refl _
-      (touched-put Layout.wakeups 0 refl (touched-put Layout.priority _ refl (touched-put Layout.status 0 refl (untouched size)))) (simp (col-store, written)) refl
+      (touched-put Layout.ticks 0 refl (touched-put Layout.wakeups 0 refl (touched-put Layout.priority _ refl (touched-put Layout.status 0 refl (untouched size))))) (simp (col-store, written)) refl
 
   pub create-done : (p : ℕ) → Done (create t p) b msgs (created t p b) msgs
   unfolding created ranked after move taskShown stateShown
@@ -196,11 +196,11 @@ module _ (b msgs : List ℕ) (A : Accepted b msgs) (t : ℕ) (h : In t (length (
       go (is-dormant e) = rw e (stay-done b msgs A t h (release t c w) F refl b (untouched size) (simp e) (m 0 e))
       go (is-ready e) = rw e (stay-done b msgs A t h (release t c w) F refl b (untouched size) (simp e) (m 1 e))
       go (is-waiting e) =
-          rw e (ready-done b msgs A t h (release t c w) F refl _ (touched-put Layout.status 1 refl (touched-put Layout.word w refl (touched-put Layout.code _ refl (untouched size))))
+          rw e (ready-done b msgs A t h (release t c w) F refl _ (touched-put Layout.status 1 refl (touched-put Layout.ticks 0 refl (touched-put Layout.word w refl (touched-put Layout.code _ refl (untouched size)))))
           (simp (col-store, written, e, g)) (m 3 e) (simp e) (simp e (sound-before b msgs A t h .priority (simp e))))
       go (is-suspended e) = rw e (stay-done b msgs A t h (release t c w) F refl b (untouched size) (simp e) (m 4 e))
       go (is-both e) =
-          rw e (leave-done b msgs A t h (release t c w) F refl _ (touched-put Layout.status 4 refl (touched-put Layout.word w refl (touched-put Layout.code _ refl (untouched size)))) (simp (col-store, written, e, g)) (m 5 e))
+          rw e (leave-done b msgs A t h (release t c w) F refl _ (touched-put Layout.status 4 refl (touched-put Layout.ticks 0 refl (touched-put Layout.word w refl (touched-put Layout.code _ refl (untouched size))))) (simp (col-store, written, e, g)) (m 5 e))
       go (is-absent e) = rw e (stay-done b msgs A t h (release t c w) F refl b (untouched size) (simp e) (m 6 e))
 
   pub regrade-done : (p : ℕ) → In p (storeShown b msgs .priorities) → Done (regrade t p) b msgs (regraded t p b) msgs

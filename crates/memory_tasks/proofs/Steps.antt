@@ -5,7 +5,16 @@ use mathlib.Core.List.{List}
 use mathlib.Core.Path.{_≡_, _∙_}
 use Rattle.rules.specs.Ids.{put}
 use Rattle.memory_columns.specs.Layout as Layout
-use Rattle.memory_tasks.specs.Moves.{awaiting}
+use Rattle.memory_columns.specs.Layout.{entry}
+use Rattle.memory_queues.specs.Moves.{unqueued}
+use Rattle.memory_tasks.specs.Moves.{retired, awaiting}
+
+-- ---- the end of a task
+
+pub retire-steps : (t : ℕ) (b : List ℕ) {p : ℕ} {b₁ b₂ b₃ b₄ b₅ : List ℕ} → p ≡ entry Layout.start b t → b₁ ≡ Layout.put Layout.status t 0 b → b₂ ≡ Layout.put Layout.priority t p b₁
+    → b₃ ≡ Layout.put Layout.wakeups t 0 b₂ → b₄ ≡ Layout.put Layout.ticks t 0 b₃ → b₅ ≡ unqueued t b₄ → b₅ ≡ retired t b
+unfolding retired
+retire-steps t b e e₁ e₂ e₃ e₄ e₅ = e₅ ∙ rw (e₄, e₃, e₂, e₁, e)
 
 -- ---- waits
 

@@ -12,6 +12,10 @@ use Rattle.memory_queues.specs.Moves.{readyAnchor, waitAnchor, queued, unqueued
 abbrev pub celled : ℕ → ℕ → ℕ → List ℕ → List ℕ
 celled t c w b = put word t w (put code t c b)
 
+-- its wait is over: the cell, and no tick is left of it
+abbrev pub ended : ℕ → ℕ → ℕ → List ℕ → List ℕ
+ended t c w b = put ticks t 0 (celled t c w b)
+
 unfoldable pub rotated : ℕ → List ℕ → List ℕ
 rotated t b = queued (readyAnchor (entry priority b t)) t (unqueued t b)
 
@@ -22,7 +26,7 @@ unfoldable pub started : ℕ → List ℕ → List ℕ
 started t b = readied t (celled t 0 0 (put priority t (entry start b t) b))
 
 unfoldable pub retired : ℕ → List ℕ → List ℕ
-retired t b = unqueued t (put wakeups t 0 (put priority t (entry start b t) (put status t 0 b)))
+retired t b = unqueued t (put ticks t 0 (put wakeups t 0 (put priority t (entry start b t) (put status t 0 b))))
 
 -- status and priority, also as the starting priority; no wake-ups
 unfoldable pub ranked : ℕ → ℕ → ℕ → List ℕ → List ℕ
@@ -45,8 +49,8 @@ resumed t b = cond (eqb (entry status b t) 4) (readied t b) (cond (eqb (entry st
 
 unfoldable pub released : ℕ → ℕ → ℕ → List ℕ → List ℕ
 released t c w b =
-    cond (eqb (entry status b t) 3) (readied t (celled t c w b))
-    (cond (eqb (entry status b t) 5) (unqueued t (put status t 4 (celled t c w b))) b)
+    cond (eqb (entry status b t) 3) (readied t (ended t c w b))
+    (cond (eqb (entry status b t) 5) (unqueued t (put status t 4 (ended t c w b))) b)
 
 -- kind, object, pattern, mode and ticks of the wait
 unfoldable pub awaiting : ℕ → ℕ → ℕ → ℕ → ℕ → ℕ → List ℕ → List ℕ

@@ -26,7 +26,7 @@ use memory_queues::push;
 use memory_queues::ready_anchor;
 use memory_queues::wait_anchor;
 ghost use mathlib.Core.Path.{_≡_};
-ghost use Rattle.memory_tasks.specs.Moves.{celled, rotated, readied, started, retired, ranked, created, deleted, regraded, halted, resumed, released, awaiting, slept, waited};
+ghost use Rattle.memory_tasks.specs.Moves.{celled, ended, rotated, readied, started, retired, ranked, created, deleted, regraded, halted, resumed, released, awaiting, slept, waited};
 
 // Writes the cell of task t.
 fn write_cell(words: &mut [u32; STATE_WORDS], t: u32, code: u32, word: u32)
@@ -34,6 +34,14 @@ fn write_cell(words: &mut [u32; STATE_WORDS], t: u32, code: u32, word: u32)
 {
     set_code(words, t, code);
     set_word(words, t, word);
+}
+
+// The wait of task t is over: its cell is written, and no tick is left of it, so that a tick has nothing to count down.
+fn end_wait(words: &mut [u32; STATE_WORDS], t: u32, code: u32, word: u32)
+    ensures { λ _. ⌜ now (words .exit) ≡ ended t code word (now (words .entry)) ⌝ }
+{
+    write_cell(words, t, code, word);
+    set_ticks(words, t, 0);
 }
 
 // Task t goes last in the ready queue of its priority.
@@ -63,7 +71,7 @@ pub fn begin(words: &mut [u32; STATE_WORDS], t: u32)
     make_ready(words, t);
 }
 
-// Task t goes dormant, with its starting priority and no wake-ups.
+// Task t goes dormant, with its starting priority, no wake-ups and no ticks left.
 pub fn retire(words: &mut [u32; STATE_WORDS], t: u32)
     ensures { λ _. ⌜ now (words .exit) ≡ retired t (now (words .entry)) ⌝ }
 {
@@ -71,6 +79,7 @@ pub fn retire(words: &mut [u32; STATE_WORDS], t: u32)
     set_status(words, t, DORMANT);
     set_priority(words, t, p);
     set_wakeups(words, t, 0);
+    set_ticks(words, t, 0);
     leave(words, t);
 }
 
@@ -147,12 +156,12 @@ pub fn release(words: &mut [u32; STATE_WORDS], t: u32, code: u32, word: u32)
 {
     let s = status(words, t);
     if s == WAIT {
-        write_cell(words, t, code, word);
+        end_wait(words, t, code, word);
         make_ready(words, t);
         return;
     }
     if s == WAIT_SUSPEND {
-        write_cell(words, t, code, word);
+        end_wait(words, t, code, word);
         set_status(words, t, SUSPEND);
         leave(words, t);
     }

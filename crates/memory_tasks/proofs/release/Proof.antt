@@ -7,8 +7,8 @@ use Rattle.memory_tasks.proofs.release.Tie as tie
 status-requires : tie.Need-status-requires
 status-requires c κs = search needs
 
-write-cell-requires : tie.Need-write-cell-requires
-write-cell-requires c κs = search needs
+end-wait-requires : tie.Need-end-wait-requires
+end-wait-requires c κs = search needs
 
 make-ready-requires : tie.Need-make-ready-requires
 make-ready-requires c κs = search needs
@@ -19,8 +19,8 @@ returns c =
     let i = c .before .before .before .before in
     simp (← i .before .status .ensures, eq-eqb _ _ (i .if1 .taken)) (cc)
 
-write-cell-requires-2 : tie.Need-write-cell-requires-2
-write-cell-requires-2 c κs = search needs
+end-wait-requires-2 : tie.Need-end-wait-requires-2
+end-wait-requires-2 c κs = search needs
 
 set-status-requires : tie.Need-set-status-requires
 set-status-requires c κs = search needs
@@ -43,10 +43,10 @@ release-spec =
     tie.close
     (tie.spec
     status-requires
-    write-cell-requires
+    end-wait-requires
     make-ready-requires
     returns
-    write-cell-requires-2
+    end-wait-requires-2
     set-status-requires
     leave-requires
     returns-2

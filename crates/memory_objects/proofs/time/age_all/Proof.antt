@@ -1,42 +1,20 @@
-use Prim.Native.Nat.{_+_}
-use mathlib.Core.Path.{_≡_, refl, _∙_}
-use native.Mathlib.Omega.{arith}
 use borrow.Author.Needs.{needs}
-use Rattle.memory_objects.specs.Moves.{agedFrom}
-use Rattle.memory_objects.proofs.Steps.{age-none, age-step}
+use Rattle.memory_objects.specs.Moves.{agedAll}
 use Rattle.memory_objects.proofs.time.age_all.Statement.{statement}
 use Rattle.memory_objects.proofs.time.age_all.Tie as tie
 
-abbrev Inv-loop : tie.InvT-loop
-Inv-loop words₀ n t₀ left₀ words t left = (agedFrom left t words ≡ agedFrom n 1 words₀) × (t + left ≡ n + 1)
+system-requires : tie.Need-system-requires
+system-requires c κs = search needs
 
-abbrev μ-loop : tie.MeasureT-loop
-μ-loop words₀ n t₀ left₀ words t left = left
+at-most-requires : tie.Need-at-most-requires
+at-most-requires c κs = search needs
 
-loop-holds : tie.Need-loop-holds Inv-loop μ-loop
-loop-holds c = (refl, omega arith)
+age-tasks-requires : tie.Need-age-tasks-requires
+age-tasks-requires c κs = search needs
 
-age-requires : tie.Need-age-requires Inv-loop μ-loop
-age-requires c κs = search needs
-
-add-t : tie.Need-add-t Inv-loop μ-loop
-add-t c = search needs
-
-sub-left : tie.Need-sub-left Inv-loop μ-loop
-sub-left c = search needs
-
-loop-less : tie.Need-loop-less Inv-loop μ-loop
-loop-less c = search needs
-
-loop-again : tie.Need-loop-again Inv-loop μ-loop
-loop-again c =
-    let i = c .before .before in
-    (age-step _ _ _ (i .loop-test .taken) (c .age .ensures) ∙ i .before .loop .inv .0, omega arith)
-
-returns : tie.Need-returns Inv-loop μ-loop
-returns c = age-none _ _ _ (c .loop-test .left) ∙ c .before .loop .inv .0
+returns : tie.Need-returns
+unfolding agedAll
+returns c = cc (c .before .before .at-most .ensures .0)
 
 pub age-all-spec : {M : Type 1} → statement M
-age-all-spec =
-    tie.close
-    (tie.spec Inv-loop μ-loop loop-holds age-requires add-t sub-left loop-less loop-again returns)
+age-all-spec = tie.close (tie.spec system-requires at-most-requires age-tasks-requires returns)
