@@ -1,3 +1,4 @@
 -- Laws of the survey.
+pub mod Counts
 pub mod Surveys
 pub mod Steps

@@ -1,106 +1,166 @@
 -- The loops of the check, step by step: what each way out of a turn gives, and what the next turn starts from. Assumes nothing.
-use Prim.Native.Nat.{ℕ, suc, _+_, _-_, _≤_, _<_}
+use Prim.Native.Nat.{ℕ, zero, suc, _+_, _-_, _≤_, _<_}
 use mathlib.Core.Path.{_≡_, refl, sym, ap, _∙_}
-use mathlib.Core.Bool.{Bool, true, false, cond}
+use mathlib.Core.Bool.{Bool, true, false, cond, not, _&&_, and-false}
 use mathlib.Core.Logic.{_≢_}
-use mathlib.Core.List.{List}
+use mathlib.Core.List.{List, [], _∷_}
 use native.Mathlib.Numerals.{add-one}
 use native.Mathlib.Omega.{arith}
-use lib.ListN.{getD, set, length}
-use borrow.Author.Tests.{eq-eqb, ne-eqb, lt-leb}
-use Rattle.memory_rings.specs.Links.{nexts, prevs}
+use lib.Dec.{eqb, leb}
+use lib.ListN.{getD, length, drop, take, length-drop}
+use lib.Seq.{length-take-le, getD-take}
+use borrow.Author.Tests.{leb-true, eq-eqb, ne-eqb, le-leb, lt-leb, lt-ltb, le-ltb, not-true, not-false}
+use Rattle.rules.specs.Ids.{of, once}
+use Rattle.memory_rings.proofs.Lists.{and-of}
+use Rattle.memory_rings.specs.Links.{half, nexts, prevs}
 use Rattle.memory_rings.specs.Rings.{IsId}
-use Rattle.check_links.specs.Survey.{Survey, passed, failed, unmarked, toured, surveyed, from, ranged, slack, loose}
-use Rattle.check_links.proofs.Surveys.{unmarked-of, ranged-is}
+use Rattle.check_links.specs.Survey.{counted, filled, belongs, toured, surveyed, from, ranged, budget}
+use Rattle.check_links.proofs.Counts.{counted-same}
 
--- a verdict and the marks beside it
-pub told : (t : Bool) (m : List ℕ) (s : Survey) → record { ok = t; marks = m } ≡ s → (t ≡ s .ok) × (m ≡ s .marks)
-told t m s e = (ap (λ (r : Survey). r .ok) e, ap (λ (r : Survey). r .marks) e)
+-- ---- counts
 
--- ---- claim
+pub filled-on : (l : List ℕ) (i : ℕ) {n k : ℕ} → n ≡ filled i l → k ≡ once (not (eqb (getD l i 0) 0)) → n + k ≡ filled (i + 1) l
+unfolding counted
+filled-on l i e d = rw (add-one, e, d)
 
-pub claimed : (n y a : ℕ) (m : List ℕ) (t : Bool) → unmarked n y m ≡ t → (t ≡ unmarked n y m) × (cond t (set m y a) m ≡ cond (unmarked n y m) (set m y a) m)
-claimed n y a m t e = rw e (refl, refl)
+-- ---- homes
 
-pub refused : (n y : ℕ) (m : List ℕ) → (IsId n y → y < length m → getD m y 0 ≡ 0 → ⊥) → unmarked n y m ≡ false
-refused n y m f = go (unmarked n y m) refl
-  where
-    go : (t : Bool) → unmarked n y m ≡ t → t ≡ false
-    go true e = let h = unmarked-of n y m e in absurd (f (h .0) (h .1 .0) (h .1 .1))
-    go false e = refl
+module _ (hs : List ℕ) (v y : ℕ) where
+  pub below-ids : y < 1 → false ≡ belongs hs v y
+  unfolding belongs
+  below-ids h = rw (lt-leb 1 y h)
+
+  pub above-ids : length hs < y → false ≡ belongs hs v y
+  unfolding belongs
+  above-ids h = simp (lt-leb y (length hs) h, and-false)
+
+  pub at-home : 1 ≤ y → y ≤ length hs → {x : ℕ} → x ≡ getD hs (y - 1) 0 → eqb x v ≡ belongs hs v y
+  unfolding belongs
+  at-home h k e =
+      let z : y ≡ suc (y - 1) = omega arith in
+      rw (le-leb 1 y h, le-leb y (length hs) k) (ap (λ (x : ℕ). eqb x v) (e ∙ ap (λ (i : ℕ). of hs i 0) (sym z)))
+
+  -- one that belongs is an id, and so a node
+  pub node : {n : ℕ} {t : Bool} → t ≡ belongs hs v y → not t ≡ false → length hs < n → y < n
+  unfolding belongs
+  node {n} {t} e h k =
+      let p = and-of (leb 1 y) (leb y (length hs) && eqb (of hs y 0) v) (sym e ∙ not-false t h) in
+      omega (arith, leb-true y (length hs) (and-of (leb y (length hs)) (eqb (of hs y 0) v) (p .1) .0))
 
 -- ---- tour
 
-module _ (n : ℕ) (nx pv : List ℕ) (a : ℕ) (k x : ℕ) (m : List ℕ) where
-  pub tour-spent : k ≤ 0 → failed m ≡ toured k n nx pv a x m
+module _ (f : ℕ → Bool) (nx pv : List ℕ) (a k x : ℕ) where
+  pub tour-spent : k ≤ 0 → 0 ≡ toured k f nx pv a x
   unfolding toured
   tour-spent h = let e : k ≡ 0 = omega arith in rw e
 
-  module _ (y p : ℕ) (hk : 0 < k) (ey : y ≡ getD nx x 0) (ep : p ≡ getD pv y 0) where
+  module _ {y : ℕ} {t : Bool} (hk : 0 < k) (ey : y ≡ getD nx x 0) (et : t ≡ f y) where
     less : k ≡ suc (k - 1)
     less = omega arith
 
-    pub tour-turned : p ≢ x → failed m ≡ toured k n nx pv a x m
-    unfolding toured
-    tour-turned h = rw (less, ← ey, ← ep, ne-eqb p x h)
+    -- y does not belong to the ring
+    module _ (ht : not t ≡ true) where
+      other : f y ≡ false
+      other = sym et ∙ not-true t ht
 
-    pub tour-closed : p ≡ x → y ≡ a → passed m ≡ toured k n nx pv a x m
-    unfolding toured
-    tour-closed h e = rw (less, ← ey, ← ep, eq-eqb p x h, eq-eqb y a e)
-
-    module _ (h : p ≡ x) (ne : y ≢ a) (t : Bool) (m₁ : List ℕ) (et : t ≡ unmarked n y m) (em : m₁ ≡ cond (unmarked n y m) (set m y a) m) where
-      pub tour-taken : t ≡ false → failed m₁ ≡ toured k n nx pv a x m
+      pub tour-strays : y ≢ a → 0 ≡ toured k f nx pv a x
       unfolding toured
-      tour-taken e = rw (less, ← ey, ← ep, eq-eqb p x h, ne-eqb y a ne, em, ← et, e)
+      tour-strays h = rw (less, ← ey, other, ne-eqb y a h)
 
-      pub tour-on : t ≡ true → toured (k - 1) n nx pv a y m₁ ≡ toured k n nx pv a x m
+      module _ {p : ℕ} (ea : y ≡ a) (ep : p ≡ getD pv a 0) where
+        pub tour-open : p ≢ x → 0 ≡ toured k f nx pv a x
+        unfolding toured
+        tour-open h = rw (less, ← ey, other, eq-eqb y a ea, ← ep, ne-eqb p x h)
+
+        pub tour-closed : p ≡ x → k ≡ toured k f nx pv a x
+        unfolding toured
+        tour-closed h = rw (less, ← ey, other, eq-eqb y a ea, ← ep, eq-eqb p x h)
+
+    -- it does
+    module _ {p : ℕ} (ht : not t ≡ false) (ep : p ≡ getD pv y 0) where
+      own : f y ≡ true
+      own = sym et ∙ not-false t ht
+
+      pub tour-turned : p ≢ x → 0 ≡ toured k f nx pv a x
       unfolding toured
-      tour-on e = (rw (← ey, ← ep, eq-eqb p x h, ne-eqb y a ne, em, ← et, e)) ∙ ap (λ (j : ℕ). toured j n nx pv a x m) (sym less)
+      tour-turned h = rw (less, ← ey, own, ← ep, ne-eqb p x h)
+
+      pub tour-on : p ≡ x → toured (k - 1) f nx pv a y ≡ toured k f nx pv a x
+      unfolding toured
+      tour-on h = (rw (← ey, own, ← ep, eq-eqb p x h)) ∙ ap (λ (j : ℕ). toured j f nx pv a x) (sym less)
 
 -- ---- survey
 
-module _ (n : ℕ) (nx pv : List ℕ) (b e : ℕ) (m : List ℕ) where
-  pub survey-done : e ≤ b → passed m ≡ surveyed n nx pv (from b (e - b)) m
-  unfolding surveyed from
-  survey-done h = let z : e - b ≡ 0 = omega arith in rw z
+module _ (f : ℕ → ℕ → Bool) (nx pv : List ℕ) where
+  -- a budget of nothing stays nothing
+  pub survey-zero : (qs : List ℕ) → surveyed f nx pv qs 0 ≡ 0
+  unfolding surveyed toured
+  survey-zero [] = refl
+  survey-zero (a ∷ qs) = survey-zero qs
 
-  module _ (h : b < e) (t : Bool) (m₁ : List ℕ) (et : t ≡ toured (suc n) n nx pv b b m .ok) (em : m₁ ≡ toured (suc n) n nx pv b b m .marks) where
-    one : surveyed n nx pv (from b (e - b)) m ≡ cond t (surveyed n nx pv (from (b + 1) (e - (b + 1))) m₁) (record { ok = t; marks = m₁ })
+  module _ (b e k : ℕ) where
+    pub survey-done : e ≤ b → k ≡ surveyed f nx pv (from b (e - b)) k
     unfolding surveyed from
-    one =
-        let z : e - b ≡ suc (e - (b + 1)) = omega arith in
-        rw (z, et, em, add-one)
+    survey-done h = let z : e - b ≡ 0 = omega arith in rw z
 
-    pub survey-stopped : t ≡ false → failed m₁ ≡ surveyed n nx pv (from b (e - b)) m
-    survey-stopped q = sym (rw q at one)
+    module _ (h : b < e) {k₁ : ℕ} (d : k₁ ≡ toured k (f b) nx pv b b) where
+      pub survey-on : surveyed f nx pv (from (b + 1) (e - (b + 1))) k₁ ≡ surveyed f nx pv (from b (e - b)) k
+      unfolding surveyed from
+      survey-on = let z : e - b ≡ suc (e - (b + 1)) = omega arith in rw (z, d, add-one)
 
-    pub survey-on : t ≡ true → surveyed n nx pv (from (b + 1) (e - (b + 1))) m₁ ≡ surveyed n nx pv (from b (e - b)) m
-    survey-on q = sym (rw q at one)
+      pub survey-stopped : k₁ ≡ 0 → 0 ≡ surveyed f nx pv (from b (e - b)) k
+      survey-stopped z = sym (ap (surveyed f nx pv (from (b + 1) (e - (b + 1)))) z ∙ survey-zero (from (b + 1) (e - (b + 1)))) ∙ survey-on
 
-module _ (n : ℕ) (l : List ℕ) (a k : ℕ) (m : List ℕ) where
-  pub range-over : 4294967296 < a + k → failed m ≡ ranged n l a k m
+module _ (l hs : List ℕ) (s a n k : ℕ) where
+  pub range-ids : half l ≤ length hs → 0 ≡ ranged l hs s a n k
   unfolding ranged
-  range-over h = rw (lt-leb (a + k) 4294967296 h)
+  range-ids h = rw (le-ltb (length hs) (half l) h)
 
-  pub range-start : a + k ≤ 4294967296 → surveyed n (nexts l) (prevs l) (from a (a + k - a)) m ≡ ranged n l a k m
-  range-start h = let e : a + k - a ≡ k = omega arith in rw e (sym (ranged-is n l a k m h))
+  pub range-over : half l < a + n → 0 ≡ ranged l hs s a n k
+  unfolding ranged
+  range-over h = simp (lt-leb (a + n) (half l) h, and-false)
 
--- ---- loose
+  pub range-under : a < s → 0 ≡ ranged l hs s a n k
+  unfolding ranged
+  range-under h = simp (lt-leb s a h, and-false)
 
-module _ (nx m : List ℕ) (i : ℕ) where
-  pub loose-done : i ≤ 0 → true ≡ loose i nx m
-  unfolding loose
-  loose-done h = let z : i ≡ 0 = omega arith in rw z
+  module _ (h : length hs < half l) (i : a + n ≤ half l) (j : s ≤ a) where
+    pub ranged-is : ranged l hs s a n k ≡ surveyed (λ a. belongs hs (a - s)) (nexts l) (prevs l) (from a n) k
+    unfolding ranged
+    ranged-is = rw (lt-ltb (length hs) (half l) h, le-leb (a + n) (half l) i, le-leb s a j)
 
-  module _ (h : 0 < i) (t : Bool) (et : t ≡ slack nx m i) where
-    one-id : loose i nx m ≡ cond t (loose (i - 1) nx m) false
-    unfolding loose
-    one-id =
-        let z : i ≡ suc (i - 1) = omega arith in
-        ap (λ (j : ℕ). loose j nx m) z ∙ ap (λ (b : Bool). cond b (loose (i - 1) nx m) false) (ap (slack nx m) (sym z) ∙ sym et)
+    pub range-start : surveyed (λ a. belongs hs (a - s)) (nexts l) (prevs l) (from a (a + n - a)) k ≡ ranged l hs s a n k
+    range-start = let e : a + n - a ≡ n = omega arith in rw e (sym ranged-is)
 
-    pub loose-stopped : t ≡ false → false ≡ loose i nx m
-    loose-stopped q = sym (rw q at one-id)
+-- ---- budget
 
-    pub loose-on : t ≡ true → loose (i - 1) nx m ≡ loose i nx m
-    loose-on q = sym (rw q at one-id)
+module _ (l hs : List ℕ) where
+  pub budget-ids : 4294967295 ≤ length hs → 0 ≡ budget l hs
+  unfolding budget
+  budget-ids h = rw (le-ltb (length hs) 4294967295 h)
+
+  pub budget-short : length l ≤ length hs → 0 ≡ budget l hs
+  unfolding budget
+  budget-short h = simp (le-ltb (length hs) (length l) h, and-false)
+
+  module _ (h : length hs < 4294967295) (k : length hs < length l) where
+    pub budget-of : budget l hs ≡ cond (eqb (filled (length hs) (drop 1 l)) (filled (length hs) hs)) (suc (filled (length hs) hs)) 0
+    unfolding budget
+    budget-of = rw (lt-ltb (length hs) 4294967295 h, lt-ltb (length hs) (length l) k)
+
+  module _ (h : length hs < 4294967295) (k : length hs < length l) {held linked : ℕ} (eh : held ≡ filled (length hs) hs) (el : linked ≡ filled (length (take (length hs + 1 - 1) (drop 1 l))) (take (length hs + 1 - 1) (drop 1 l))) where
+    part : linked ≡ filled (length hs) (drop 1 l)
+    part =
+        let e : length hs + 1 - 1 ≡ length hs = omega arith in
+        let long : length (take (length hs) (drop 1 l)) ≡ length hs = length-take-le (length hs) (drop 1 l) (simp length-drop (omega arith)) in
+        (rw (e, long) at el) ∙ counted-same (length hs) _ _ (λ i h. ap (λ (x : ℕ). not (eqb x 0)) (entry i h))
+      where
+        entry : (i : ℕ) → IsId (length hs) i → of (take (length hs) (drop 1 l)) i 0 ≡ of (drop 1 l) i 0
+        entry zero h = refl
+        entry (suc i) h = getD-take (length hs) (drop 1 l) i 0 (h .1)
+
+    pub budget-is : linked ≡ held → held + 1 ≡ budget l hs
+    budget-is e = sym (budget-of h k ∙ rw (← eh, ← part, eq-eqb linked held e, add-one))
+
+    pub budget-none : linked ≢ held → 0 ≡ budget l hs
+    budget-none e = sym (budget-of h k ∙ rw (← eh, ← part, ne-eqb linked held e))

@@ -1,222 +1,141 @@
--- A survey succeeds just where the rings are sound and their ids unmarked; with the check of the loose ids it decides whether tables
--- hold lines. Assumes nothing.
+-- A survey spends its budget but for one just where the rings hold all that have a home, each in its own ring, and nothing else is linked.
+-- Assumes nothing.
 use Prim.Native.Nat.{ℕ, zero, suc, _+_, _-_, _≤_, _<_}
 use mathlib.Core.Path.{_≡_, refl, sym, ap, _∙_, subst}
-use mathlib.Core.Bool.{Bool, true, false, cond, _&&_, true≢false}
+use mathlib.Core.Bool.{Bool, true, false, cond, not, true≢false}
 use mathlib.Core.Logic.{_≢_, _↔_, _⊎_, inl, inr}
 use mathlib.Core.List.{List, [], _∷_, _++_, reverse, reverse-cons}
 use native.Mathlib.Omega.{arith}
 use native.Mathlib.Decide.{ℕ-discrete, decLe}
 use lib.Dec.{eqb}
-use lib.ListN.{getD, set, length, length-set, List·getD-eq-default}
-use lib.Seq.{getD-set-same, getD-set-other}
-use borrow.Author.Tests.{eqb-true, leb-true, ltb-true, eq-eqb, ne-eqb, le-leb, lt-ltb}
-use Rattle.memory_rings.specs.Links.{nexts, prevs}
+use lib.ListN.{getD, length, length-append, List·getD-eq-default}
+use borrow.Author.Tests.{eqb-true, eqb-false, eq-eqb, ne-eqb, not-true}
 use Rattle.memory_rings.specs.Rings.{IsId, All, Out, Stands, Distinct, headOf, lineOf, Seg, Ring, Linked}
-use Rattle.check_links.specs.Survey.{Survey, passed, failed, unmarked, toured, surveyed, from, ranged, slack, loose, Surveyed, Marks}
-use Rattle.memory_rings.proofs.Lists.{and-of, all-at, all-of, stands-or-out, stands-out, few}
-use Rattle.memory_rings.proofs.Ways.{join, split, head-link, distinct, walk-way}
-use Rattle.memory_rings.proofs.Laws.{ring-apart}
-
--- ---- marks
-
--- the mark a for each of xs
-painted : ℕ → List ℕ → List ℕ → List ℕ
-painted a [] m = m
-painted a (x ∷ xs) m = painted a xs (set m x a)
-
-length-painted : (a : ℕ) (xs m : List ℕ) → length (painted a xs m) ≡ length m
-unfolding painted
-length-painted a [] m = refl
-length-painted a (x ∷ xs) m = length-painted a xs (set m x a) ∙ length-set m x a
-
-painted-out : (a : ℕ) (xs m : List ℕ) (i : ℕ) → Out i xs → getD (painted a xs m) i 0 ≡ getD m i 0
-unfolding painted
-painted-out a [] m i o = refl
-painted-out a (x ∷ xs) m i o = painted-out a xs (set m x a) i (o .1) ∙ getD-set-other m x i a 0 (λ e. o .0 (sym e))
-
-painted-in : (a : ℕ) (xs m : List ℕ) (i : ℕ) → Stands i xs → i < length m → getD (painted a xs m) i 0 ≡ a
-unfolding painted
-painted-in a [] m i s h = absurd s
-painted-in a (x ∷ xs) m i s h = elim (stands-or-out i xs) [
-  | inl t ↦ painted-in a xs (set m x a) i t (simp length-set h)
-  | inr o ↦ painted-out a xs (set m x a) i o ∙ last s o
-]
-  where
-    last : Stands i (x ∷ xs) → Out i xs → getD (set m x a) i 0 ≡ a
-    last (inl e) o = subst (λ (j : ℕ). getD (set m j a) i 0 ≡ a) (sym e) (getD-set-same m i a 0 h)
-    last (inr t) o = absurd (stands-out i xs t o)
-
--- i has a mark, and it is 0
-abbrev pub Open : List ℕ → ℕ → Type 0
-Open m i = (i < length m) × (getD m i 0 ≡ 0)
-
-pub unmarked-of : (n y : ℕ) (m : List ℕ) → unmarked n y m ≡ true → IsId n y × Open m y
-unfolding unmarked
-unmarked-of n y m e =
-    let p = and-of _ _ e in
-    let q = and-of _ _ (p .1) in
-    let r = and-of _ _ (q .1) in
-    ((leb-true 1 y (p .0), leb-true y n (q .0)), (ltb-true y (length m) (r .0), eqb-true (getD m y 0) 0 (r .1)))
-
-pub of-unmarked : (n y : ℕ) (m : List ℕ) → IsId n y → Open m y → unmarked n y m ≡ true
-unfolding unmarked
-of-unmarked n y m h o = rw (le-leb 1 y (h .0), le-leb y n (h .1), lt-ltb y (length m) (o .0), eq-eqb (getD m y 0) 0 (o .1))
+use Rattle.check_links.specs.Survey.{counted, toured, surveyed, from}
+use Rattle.memory_rings.proofs.Lists.{all-at, all-of, stands-or-out, stands-out, stands-left, stands-right, stands-cases, dist-join, few}
+use Rattle.memory_rings.proofs.Ways.{join, split, head-link, never, distinct, walk-way}
+use Rattle.check_links.proofs.Counts.{all-there, as-many}
 
 -- ---- one ring
 
-record Way (n : ℕ) (nx pv : List ℕ) (a x : ℕ) (m m′ : List ℕ) : Type 0 where
+-- the way from x to a over ids that pass f takes a budget of k to c
+record Way (f : ℕ → Bool) (nx pv : List ℕ) (a x k c : ℕ) : Type 0 where
   xs : List ℕ
-  ids : All (IsId n) xs
+  own : All (λ y. f y ≡ true) xs
   forth : Seg nx x xs a
   back : Seg pv a (reverse xs) x
-  open-ids : All (Open m) xs
-  marks : m′ ≡ painted a xs m
+  left : k ≡ length xs + c
 
-module _ (n : ℕ) (nx pv : List ℕ) where
-  tour-way : (k a x : ℕ) (m : List ℕ) → toured k n nx pv a x m .ok ≡ true → Way n nx pv a x m (toured k n nx pv a x m .marks)
-  unfolding toured painted
-  tour-way zero a x m e = absurd (true≢false (sym e))
-  tour-way (suc k) a x m e = go (eqb (getD pv y 0) x) (eqb y a) (unmarked n y m) refl refl refl (tour-way k a y (set m y a)) e
+module _ (f : ℕ → Bool) (nx pv : List ℕ) (a : ℕ) where
+  tour-way : (k x : ℕ) → 1 ≤ toured k f nx pv a x → Way f nx pv a x k (toured k f nx pv a x)
+  unfolding toured
+  tour-way zero x h = absurd (omega arith)
+  tour-way (suc k) x h = go (f y) (eqb (getD pv y 0) x) (eqb y a) (eqb (getD pv a 0) x) refl refl refl refl (tour-way k y) h
     where
       y : ℕ
       y = getD nx x 0
 
-      r : Survey
-      r = toured k n nx pv a y (set m y a)
+      r : ℕ
+      r = toured k f nx pv a y
 
-      go : (s t u : Bool) → eqb (getD pv y 0) x ≡ s → eqb y a ≡ t → unmarked n y m ≡ u → (r .ok ≡ true → Way n nx pv a y (set m y a) (r .marks))
-          → cond s (cond t (passed m) (cond u r (failed m))) (failed m) .ok ≡ true
-          → Way n nx pv a x m (cond s (cond t (passed m) (cond u r (failed m))) (failed m) .marks)
-      go true true u p q w rec z =
-          let j : y ≡ a = eqb-true y a q in
-          record { xs = []; ids = tt; forth = j; back = subst (λ (b : ℕ). getD pv b 0 ≡ x) j (eqb-true (getD pv y 0) x p); open-ids = tt; marks = refl }
-      go true false true p q w rec z =
-          let v = rec z in
-          let h = unmarked-of n y m w in
+      go : (s t u v : Bool) → f y ≡ s → eqb (getD pv y 0) x ≡ t → eqb y a ≡ u → eqb (getD pv a 0) x ≡ v → (1 ≤ r → Way f nx pv a y k r)
+          → 1 ≤ cond s (cond t r 0) (cond u (cond v (suc k) 0) 0) → Way f nx pv a x (suc k) (cond s (cond t r 0) (cond u (cond v (suc k) 0) 0))
+      go true true u v p q i j rec z =
+          let w = rec z in
           record {
-            xs = y ∷ v .xs;
-            ids = (h .0, v .ids);
-            forth = (refl, v .forth);
-            back = rw reverse-cons (join pv a (reverse (v .xs)) y [] x (v .back) (eqb-true (getD pv y 0) x p));
-            open-ids = (h .1, all-of _ (v .xs) (λ i s. let o = all-at _ (v .xs) i s (v .open-ids) in (simp length-set at (o .0), earlier i (h .1 .1) (o .1))));
-            marks = v .marks;
+            xs = y ∷ w .xs;
+            own = (p, w .own);
+            forth = (refl, w .forth);
+            back = rw reverse-cons (join pv a (reverse (w .xs)) y [] x (w .back) (eqb-true (getD pv y 0) x q));
+            left = omega (arith, w .left);
           }
-        where
-          earlier : (i : ℕ) → getD m y 0 ≡ 0 → getD (set m y a) i 0 ≡ 0 → getD m i 0 ≡ 0
-          earlier i hy hi = elim (ℕ-discrete i y) [ yes e ↦ ap (λ (j : ℕ). getD m j 0) e ∙ hy | no ne ↦ sym (getD-set-other m y i a 0 ne) ∙ hi ]
-      go true false false p q w rec z = absurd (true≢false (sym z))
-      go false t u p q w rec z = absurd (true≢false (sym z))
+      go true false u v p q i j rec z = absurd (omega arith)
+      go false t true true p q i j rec z = record { xs = []; own = tt; forth = eqb-true y a i; back = eqb-true (getD pv a 0) x j; left = omega arith }
+      go false t true false p q i j rec z = absurd (omega arith)
+      go false t false v p q i j rec z = absurd (omega arith)
 
-  way-tour : (k a x : ℕ) (m xs : List ℕ) → n < a → length xs < k → All (IsId n) xs → Distinct xs → All (Open m) xs → Seg nx x xs a → Seg pv a (reverse xs) x
-      → toured k n nx pv a x m ≡ passed (painted a xs m)
-  unfolding toured painted
-  way-tour zero a x m xs na h i d o s t = absurd (omega arith)
-  way-tour (suc k) a x m [] na h i d o s t = rw (s, eq-eqb (getD pv a 0) x t, eq-eqb a a refl)
-  way-tour (suc k) a x m (y ∷ ys) na h i d o s t =
+  way-tour : f a ≡ false → (k x : ℕ) (xs : List ℕ) → All (λ y. f y ≡ true) xs → Seg nx x xs a → Seg pv a (reverse xs) x → length xs < k → toured k f nx pv a x ≡ k - length xs
+  unfolding toured
+  way-tour fa zero x xs o s t h = absurd (omega arith)
+  way-tour fa (suc k) x [] o s t h = rw (s, fa, eq-eqb a a refl, eq-eqb (getD pv a 0) x t) (omega arith)
+  way-tour fa (suc k) x (y ∷ ys) o s t h =
       let sp = split pv a (reverse ys) y [] x (rw reverse-cons at t) in
-      rw (s .0, eq-eqb (getD pv y 0) x (sp .1), ne-eqb y a (λ e. omega arith), of-unmarked n y m (i .0) (o .0))
-      (way-tour k a y (set m y a) ys na (omega arith) (i .1) (d .1)
-      (all-of _ ys (λ j w. let q = all-at _ ys j w (o .1) in (simp length-set (q .0), getD-set-other m y j a 0 (all-at (λ z. z ≢ y) ys j w (d .0)) ∙ q .1)))
-      (s .1) (sp .0))
+      rw (s .0, o .0, eq-eqb (getD pv y 0) x (sp .1)) (way-tour fa k y ys (o .1) (s .1) (sp .0) (omega arith) ∙ omega arith)
+
+-- ---- several rings
+
+-- all that stand in the lines of the anchors qs
+lines : ℕ → List ℕ → List ℕ → List ℕ
+lines n nx [] = []
+lines n nx (a ∷ qs) = lineOf n nx a ++ lines n nx qs
+
+in-lines : (n : ℕ) (nx qs : List ℕ) (a i : ℕ) → Stands a qs → Stands i (lineOf n nx a) → Stands i (lines n nx qs)
+unfolding lines
+in-lines n nx [] a i s t = absurd s
+in-lines n nx (b ∷ qs) a i (inl e) t = stands-left i (lineOf n nx b) (lines n nx qs) (subst (λ (c : ℕ). Stands i (lineOf n nx c)) (sym e) t)
+in-lines n nx (b ∷ qs) a i (inr s) t = stands-right i (lineOf n nx b) (lines n nx qs) (in-lines n nx qs a i s t)
+
+of-lines : (n : ℕ) (nx qs : List ℕ) (i : ℕ) → Stands i (lines n nx qs) → (a : ℕ) × Stands a qs × Stands i (lineOf n nx a)
+unfolding lines
+of-lines n nx [] i s = absurd s
+of-lines n nx (b ∷ qs) i s = elim (stands-cases i (lineOf n nx b) (lines n nx qs) s) [
+  | inl t ↦ (b, inl refl, t)
+  | inr t ↦ let r = of-lines n nx qs i t in (r .0, inr (r .1), r .2)
+]
+
+-- What a survey that takes a budget of k to c, above 0, has met: rings, whose ids pass the test of their anchor.
+record Met (n : ℕ) (f : ℕ → ℕ → Bool) (nx pv qs : List ℕ) (k c : ℕ) : Type 0 where
+  ring : (a : ℕ) → Stands a qs → Ring n nx pv a (lineOf n nx a)
+  own : (a i : ℕ) → Stands a qs → Stands i (lineOf n nx a) → f a i ≡ true
+  left : k ≡ length (lines n nx qs) + c
+
+module _ (n : ℕ) (f : ℕ → ℕ → Bool) (nx pv : List ℕ) (ids : (a i : ℕ) → f a i ≡ true → IsId n i) where
+  way-ids : (a : ℕ) (xs : List ℕ) → All (λ y. f a y ≡ true) xs → All (IsId n) xs
+  way-ids a xs o = all-of _ xs (λ i s. ids a i (all-at (λ y. f a y ≡ true) xs i s o))
 
   -- the line that the tour of an anchor has found
-  found : (a : ℕ) (m m′ : List ℕ) → n < a → (w : Way n nx pv a a m m′) → lineOf n nx a ≡ w .xs
+  found : (a k c : ℕ) → n < a → (w : Way (f a) nx pv a a k c) → lineOf n nx a ≡ w .xs
   unfolding lineOf
-  found a m m′ na w = walk-way nx (suc n) n a (w .xs) a (omega (arith, few n (w .xs) (distinct nx n a (w .xs) a na (w .ids) (w .forth)) (w .ids))) na (w .ids) (w .forth)
-
-  tour-ring : (a : ℕ) (m : List ℕ) → n < a → Ring n nx pv a (lineOf n nx a) → All (Open m) (lineOf n nx a)
-      → toured (suc n) n nx pv a a m ≡ passed (painted a (lineOf n nx a) m)
-  tour-ring a m na R o =
-      let d = distinct nx n a (lineOf n nx a) a na (R .ids) (R .forth) in
-      way-tour (suc n) a a m (lineOf n nx a) na (omega (arith, few n (lineOf n nx a) d (R .ids))) (R .ids) d o (R .forth) (R .back)
-
-  -- ---- several rings
+  found a k c na w =
+      let h = way-ids a (w .xs) (w .own) in
+      walk-way nx (suc n) n a (w .xs) a (omega (arith, few n (w .xs) (distinct nx n a (w .xs) a na h (w .forth)) h)) na h (w .forth)
 
   -- one ring, and then those of qs
-  one-more : (a : ℕ) (qs m m₁ m′ : List ℕ) → n < a → Way n nx pv a a m m₁ → Surveyed n nx pv qs m₁ m′ → Surveyed n nx pv (a ∷ qs) m m′
-  one-more a qs m m₁ m′ na w S = record { size = S .size ∙ size₁; ring = rings; before = before; after = after; others = λ i f. S .others i (λ b s. f b (inr s)) ∙ outside i (f a (inl refl)) }
+  one-more : (a : ℕ) (qs : List ℕ) (k t c : ℕ) → n < a → Way (f a) nx pv a a k t → Met n f nx pv qs t c → Met n f nx pv (a ∷ qs) k c
+  unfolding lines
+  one-more a qs k t c na w M = record { ring = ring; own = own; left = simp length-append (omega (arith, w .left, ap length q, M .left)) }
     where
-      line : List ℕ
-      line = lineOf n nx a
+      q : lineOf n nx a ≡ w .xs
+      q = found a k t na w
 
-      q : line ≡ w .xs
-      q = found a m m₁ na w
+      ring : (b : ℕ) → Stands b (a ∷ qs) → Ring n nx pv b (lineOf n nx b)
+      ring b (inl e) = subst (λ (c : ℕ). Ring n nx pv c (lineOf n nx c)) e (record { ids = rw q (way-ids a (w .xs) (w .own)); forth = rw q (w .forth); back = rw q (w .back) })
+      ring b (inr s) = M .ring b s
 
-      size₁ : length m₁ ≡ length m
-      size₁ = ap length (w .marks) ∙ length-painted a (w .xs) m
+      own : (b i : ℕ) → Stands b (a ∷ qs) → Stands i (lineOf n nx b) → f b i ≡ true
+      own b i (inl e) t = subst (λ (c : ℕ). f c i ≡ true) e (all-at (λ y. f a y ≡ true) (w .xs) i (subst (Stands i) q (subst (λ (c : ℕ). Stands i (lineOf n nx c)) (sym e) t)) (w .own))
+      own b i (inr s) t = M .own b i s t
 
-      open-in : (i : ℕ) → Stands i line → Open m i
-      open-in i s = all-at _ (w .xs) i (subst (Stands i) q s) (w .open-ids)
+  survey-met : (qs : List ℕ) (k : ℕ) → ((a : ℕ) → Stands a qs → n < a) → 1 ≤ surveyed f nx pv qs k → Met n f nx pv qs k (surveyed f nx pv qs k)
+  unfolding surveyed lines
+  survey-met [] k na h = record { ring = λ a s. absurd s; own = λ a i s. absurd s; left = omega arith }
+  survey-met (a ∷ qs) k na h =
+      let M = survey-met qs (toured k (f a) nx pv a a) (λ b s. na b (inr s)) h in
+      one-more a qs k (toured k (f a) nx pv a a) _ (na a (inl refl)) (tour-way (f a) nx pv a k a (omega (arith, M .left, h))) M
 
-      inside : (i : ℕ) → Stands i line → getD m₁ i 0 ≡ a
-      inside i s = ap (λ (l : List ℕ). getD l i 0) (w .marks) ∙ painted-in a (w .xs) m i (subst (Stands i) q s) (open-in i s .0)
-
-      outside : (i : ℕ) → Out i line → getD m₁ i 0 ≡ getD m i 0
-      outside i o = ap (λ (l : List ℕ). getD l i 0) (w .marks) ∙ painted-out a (w .xs) m i (subst (Out i) q o)
-
-      rings : (b : ℕ) → Stands b (a ∷ qs) → Ring n nx pv b (lineOf n nx b)
-      rings b (inl e) = subst (λ (c : ℕ). Ring n nx pv c (lineOf n nx c)) e (record { ids = rw q (w .ids); forth = rw q (w .forth); back = rw q (w .back) })
-      rings b (inr s) = S .ring b s
-
-      before : (b i : ℕ) → Stands b (a ∷ qs) → Stands i (lineOf n nx b) → Open m i
-      before b i (inl e) t = open-in i (subst (λ (c : ℕ). Stands i (lineOf n nx c)) (sym e) t)
-      before b i (inr s) t =
-          let o = S .before b i s t in (
-            rw size₁ at (o .0),
-            elim (stands-or-out i line) [ inl r ↦ open-in i r .1 | inr r ↦ sym (outside i r) ∙ o .1 ],
-          )
-
-      after : (b i : ℕ) → Stands b (a ∷ qs) → Stands i (lineOf n nx b) → getD m′ i 0 ≡ b
-      after b i (inl e) t =
-          let r : Stands i line = subst (λ (c : ℕ). Stands i (lineOf n nx c)) (sym e) t in
-          S .others i (λ c s. elim (stands-or-out i (lineOf n nx c)) [ inl z ↦ absurd (omega (arith, inside i r, S .before c i s z .1)) | inr z ↦ z ]) ∙ inside i r ∙ e
-      after b i (inr s) t = S .after b i s t
-
-  pub survey-of : (qs m : List ℕ) → ((a : ℕ) → Stands a qs → n < a) → surveyed n nx pv qs m .ok ≡ true → Surveyed n nx pv qs m (surveyed n nx pv qs m .marks)
-  unfolding surveyed
-  survey-of [] m na e = record { size = refl; ring = λ a s. absurd s; before = λ a i s. absurd s; after = λ a i s. absurd s; others = λ i f. refl }
-  survey-of (a ∷ qs) m na e = go (t .ok) refl (survey-of qs (t .marks) (λ b s. na b (inr s))) e
+  met-survey : (qs : List ℕ) (k : ℕ) → ((a : ℕ) → Stands a qs → n < a) → ((a : ℕ) → Stands a qs → Ring n nx pv a (lineOf n nx a))
+      → ((a i : ℕ) → Stands a qs → Stands i (lineOf n nx a) → f a i ≡ true) → length (lines n nx qs) < k → surveyed f nx pv qs k ≡ k - length (lines n nx qs)
+  unfolding surveyed lines
+  met-survey [] k na R o h = omega arith
+  met-survey (a ∷ qs) k na R o h =
+      let l = length-append (lineOf n nx a) (lines n nx qs) in
+      let r = R a (inl refl) in
+      let t = way-tour (f a) nx pv a (no (f a a) refl) k a (lineOf n nx a) (all-of _ (lineOf n nx a) (λ i s. o a i (inl refl) s)) (r .forth) (r .back) (omega (arith, l)) in
+      rw t (met-survey qs (k - length (lineOf n nx a)) (λ b s. na b (inr s)) (λ b s. R b (inr s)) (λ b i s. o b i (inr s)) (omega (arith, l)) ∙ omega (arith, l))
     where
-      t : Survey
-      t = toured (suc n) n nx pv a a m
-
-      go : (b : Bool) → t .ok ≡ b → (surveyed n nx pv qs (t .marks) .ok ≡ true → Surveyed n nx pv qs (t .marks) (surveyed n nx pv qs (t .marks) .marks))
-          → cond b (surveyed n nx pv qs (t .marks)) t .ok ≡ true → Surveyed n nx pv (a ∷ qs) m (cond b (surveyed n nx pv qs (t .marks)) t .marks)
-      go true p rec z = one-more a qs m (t .marks) _ (na a (inl refl)) (tour-way (suc n) a a m p) (rec z)
-      go false p rec z = absurd (true≢false (sym z ∙ p))
-
-  pub of-survey : (qs m : List ℕ) → ((a : ℕ) → Stands a qs → n < a) → Distinct qs → ((a : ℕ) → Stands a qs → Ring n nx pv a (lineOf n nx a))
-      → ((a i : ℕ) → Stands a qs → Stands i (lineOf n nx a) → (i < length m) × (getD m i 0 ≡ 0)) → surveyed n nx pv qs m .ok ≡ true
-  unfolding surveyed
-  of-survey [] m na d R o = refl
-  of-survey (a ∷ qs) m na d R o =
-      rw (tour-ring a m (na a (inl refl)) (R a (inl refl)) (all-of _ (lineOf n nx a) (λ i s. o a i (inl refl) s)))
-      (of-survey qs (painted a (lineOf n nx a) m) (λ b s. na b (inr s)) (d .1) (λ b s. R b (inr s)) (λ b i s t.
-      let h = o b i (inr s) t in (
-        rw length-painted (h .0),
-        painted-out a (lineOf n nx a) m i (elim (stands-or-out i (lineOf n nx a)) [
-          | inl r ↦ absurd (all-at (λ c. c ≢ a) qs b s (d .0) (ring-apart b a i (na b (inr s)) (na a (inl refl)) (R b (inr s)) (R a (inl refl)) t r))
-          | inr r ↦ r
-        ]) ∙ h .1,
-      )))
-
-  -- one list after another is the two in one
-  pub survey-append : (qs rs m : List ℕ)
-      → surveyed n nx pv (qs ++ rs) m ≡ cond (surveyed n nx pv qs m .ok) (surveyed n nx pv rs (surveyed n nx pv qs m .marks)) (surveyed n nx pv qs m)
-  unfolding surveyed
-  survey-append [] rs m = refl
-  survey-append (a ∷ qs) rs m = go (t .ok) refl (survey-append qs rs (t .marks))
-    where
-      t : Survey
-      t = toured (suc n) n nx pv a a m
-
-      go : (b : Bool) → t .ok ≡ b
-          → surveyed n nx pv (qs ++ rs) (t .marks) ≡ cond (surveyed n nx pv qs (t .marks) .ok) (surveyed n nx pv rs (surveyed n nx pv qs (t .marks) .marks)) (surveyed n nx pv qs (t .marks))
-          → cond b (surveyed n nx pv (qs ++ rs) (t .marks)) t
-          ≡ cond (cond b (surveyed n nx pv qs (t .marks)) t .ok) (surveyed n nx pv rs (cond b (surveyed n nx pv qs (t .marks)) t .marks)) (cond b (surveyed n nx pv qs (t .marks)) t)
-      go true p rec = rec
-      go false p rec = rw p
+      no : (t : Bool) → f a a ≡ t → t ≡ false
+      no true e = absurd (omega (arith, ids a a e .1, na a (inl refl)))
+      no false e = refl
 
   -- an anchor with a ring is a node
   ring-node : (a : ℕ) (xs : List ℕ) → n < a → Ring n nx pv a xs → a < length nx
@@ -226,87 +145,102 @@ module _ (n : ℕ) (nx pv : List ℕ) where
       go [] k e = omega arith
       go (x ∷ xs) k e = omega arith
 
--- ---- the ids without a mark
-
-loose-at : (n : ℕ) (nx m : List ℕ) → loose n nx m ≡ true → (i : ℕ) → IsId n i → getD m i 0 ≡ 0 → getD nx i 0 ≡ 0
-unfolding loose slack
-loose-at zero nx m e i h z = absurd (omega arith)
-loose-at (suc n) nx m e i h z = go (slack nx m (suc n)) refl (loose-at n nx m) e
-  where
-    go : (b : Bool) → slack nx m (suc n) ≡ b → (loose n nx m ≡ true → (i : ℕ) → IsId n i → getD m i 0 ≡ 0 → getD nx i 0 ≡ 0) → cond b (loose n nx m) false ≡ true → getD nx i 0 ≡ 0
-    go true p rec w = elim (ℕ-discrete i (suc n)) [
-      | yes q ↦ eqb-true (getD nx i 0) 0 (rw (← q, eq-eqb (getD m i 0) 0 z) at p)
-      | no q ↦ rec w i (h .0, omega arith) z
-    ]
-    go false p rec w = absurd (true≢false (sym w))
-
-of-loose : (n : ℕ) (nx m : List ℕ) → ((i : ℕ) → IsId n i → getD m i 0 ≡ 0 → getD nx i 0 ≡ 0) → loose n nx m ≡ true
-unfolding loose slack
-of-loose zero nx m f = refl
-of-loose (suc n) nx m f = rw last (of-loose n nx m (λ i h z. f i (h .0, omega arith) z))
-  where
-    last : slack nx m (suc n) ≡ true
-    last = elim (ℕ-discrete (getD m (suc n) 0) 0) [
-      | yes z ↦ rw (eq-eqb (getD m (suc n) 0) 0 z) (eq-eqb (getD nx (suc n) 0) 0 (f (suc n) (omega arith, omega arith) z))
-      | no z ↦ rw (ne-eqb (getD m (suc n) 0) 0 z)
-    ]
-
 -- ---- the whole check
 
--- which of the lines i stands in
-somewhere : (L : ℕ → List ℕ) (i : ℕ) (qs : List ℕ) → ((a : ℕ) × Stands a qs × Stands i (L a)) ⊎ ((a : ℕ) → Stands a qs → Out i (L a))
-somewhere L i [] = inr (λ a s. absurd s)
-somewhere L i (b ∷ qs) = elim (stands-or-out i (L b)) [
-  | inl t ↦ inl (b, inl refl, t)
-  | inr o ↦ elim (somewhere L i qs) [
-    | inl r ↦ inl (r .0, inr (r .1), r .2)
-    | inr f ↦ inr (λ a s. elim s [ inl e ↦ subst (λ (c : ℕ). Out i (L c)) e o | inr t ↦ f a t ])
-  ]
-]
+-- the test that a number is not 0
+some-is : (x : ℕ) → x ≢ 0 → not (eqb x 0) ≡ true
+some-is x h = ap not (ne-eqb x 0 h)
 
-module _ (n : ℕ) (nx pv qs m : List ℕ) (na : (a : ℕ) → Stands a qs → n < a) (clean : (i : ℕ) → IsId n i → (i < length m) × (getD m i 0 ≡ 0)) where
-  -- from clean marks, the marks say who stands where
-  pub marks-law : surveyed n nx pv qs m .ok ≡ true → Marks n nx qs (surveyed n nx pv qs m .marks)
-  marks-law e = record {
-    stands = λ a i s h. (
-      (λ z. elim (place i) [
-        | inl r ↦ subst (λ (b : ℕ). Stands i (lineOf n nx b)) (sym (S .after (r .0) i (r .1) (r .2)) ∙ z) (r .2)
-        | inr f ↦ absurd (omega (arith, na a s, zero-at i h f))
-      ]),
-      S .after a i s,
-    );
-    none = λ i h. ((λ z a s. elim (stands-or-out i (lineOf n nx a)) [ inl t ↦ absurd (omega (arith, na a s, S .after a i s t)) | inr o ↦ o ]), zero-at i h);
-    known = λ i h. elim (place i) [ inl r ↦ inr (subst (λ (b : ℕ). Stands b qs) (sym (S .after (r .0) i (r .1) (r .2))) (r .1)) | inr f ↦ inl (zero-at i h f) ];
-  }
+is-some : (x : ℕ) → not (eqb x 0) ≡ true → x ≢ 0
+is-some x e = eqb-false x 0 (not-true (eqb x 0) e)
+
+-- f a is the test of the ids whose home is the anchor a
+module _ (n : ℕ) (nx pv qs : List ℕ) (na : (a : ℕ) → Stands a qs → n < a) (apart : Distinct qs) (same : length pv ≡ length nx) (f : ℕ → ℕ → Bool) (home : ℕ → ℕ)
+    (ids : (a i : ℕ) → f a i ≡ true → IsId n i) (is : (a i : ℕ) → Stands a qs → IsId n i → (f a i ≡ true) ↔ (home i ≡ a)) (known : (i : ℕ) → IsId n i → home i ≢ 0 → Stands (home i) qs) where
+  abbrev linked : ℕ → Bool
+  linked i = not (eqb (getD nx i 0) 0)
+
+  abbrev homed : ℕ → Bool
+  homed i = not (eqb (home i) 0)
+
+  abbrev AtHome : Type 0
+  AtHome = (a i : ℕ) → Stands a qs → IsId n i → (home i ≡ a) ↔ Stands i (lineOf n nx a)
+
+  module _ (R : (a : ℕ) → Stands a qs → Ring n nx pv a (lineOf n nx a)) (own : (a i : ℕ) → Stands a qs → Stands i (lineOf n nx a) → f a i ≡ true) where
+    owned : (a i : ℕ) → Stands a qs → Stands i (lineOf n nx a) → IsId n i × (home i ≡ a)
+    owned a i s t = let e = own a i s t in (ids a i e, is a i s (ids a i e) .0 e)
+
+    all-distinct : Distinct (lines n nx qs)
+    unfolding lines
+    all-distinct = go qs (λ b s. s) apart
+      where
+        go : (rs : List ℕ) → ((b : ℕ) → Stands b rs → Stands b qs) → Distinct rs → Distinct (lines n nx rs)
+        go [] u d = tt
+        go (a ∷ rs) u d = dist-join (lineOf n nx a) (lines n nx rs) (let r = R a (u a (inl refl)) in distinct nx n a (lineOf n nx a) a (na a (u a (inl refl))) (r .ids) (r .forth))
+            (go rs (λ b s. u b (inr s)) (d .1))
+            (λ i s. elim (stands-or-out i (lines n nx rs)) [
+              | inl t ↦ let r = of-lines n nx rs i t in
+                  absurd (all-at (λ c. c ≢ a) rs (r .0) (r .1) (d .0) (sym (owned (r .0) i (u (r .0) (inr (r .1))) (r .2) .1) ∙ owned a i (u a (inl refl)) s .1))
+              | inr o ↦ o
+            ])
+
+    all-homed : All (λ i. IsId n i × (homed i ≡ true)) (lines n nx qs)
+    all-homed = all-of _ (lines n nx qs) (λ i s. let r = of-lines n nx qs i s in let o = owned (r .0) i (r .1) (r .2) in (o .0, some-is (home i) (λ e. omega (arith, o .1, na (r .0) (r .1)))))
+
+    all-linked : All (λ i. IsId n i × (linked i ≡ true)) (lines n nx qs)
+    all-linked = all-of _ (lines n nx qs) (λ i s. let r = of-lines n nx qs i s in (owned (r .0) i (r .1) (r .2) .0, some-is (getD nx i 0) (λ e. out (r .0) i (r .1) (r .2) e)))
+      where
+        out : (a i : ℕ) → Stands a qs → Stands i (lineOf n nx a) → getD nx i 0 ≡ 0 → ⊥
+        out a i s t e = let r = R a s in stands-out i (lineOf n nx a) t (never nx n i a (lineOf n nx a) a e (omega (arith, na a s)) (r .ids) (r .forth) .1)
+
+  pub check-law : ((counted n linked ≡ counted n homed) × (surveyed f nx pv qs (suc (counted n homed)) ≡ 1)) ↔ (Linked n (λ a. Stands a qs) nx pv (lineOf n nx) × AtHome)
+  check-law = (to, back)
     where
-      S : Surveyed n nx pv qs m (surveyed n nx pv qs m .marks)
-      S = survey-of n nx pv qs m na e
+      to : (counted n linked ≡ counted n homed) × (surveyed f nx pv qs (suc (counted n homed)) ≡ 1) → Linked n (λ a. Stands a qs) nx pv (lineOf n nx) × AtHome
+      to h = (
+        record {
+          anchors = λ a s. (na a s, ring-node n f nx pv ids a (lineOf n nx a) (na a s) (M .ring a s));
+          same = same;
+          ring = M .ring;
+          home = λ i k z. of-lines n nx qs i (all-there n linked (lines n nx qs) d (all-linked (M .ring) (M .own)) (long ∙ sym (h .0)) i k (some-is (getD nx i 0) z));
+        },
+        λ a i s k. (
+          (λ e.
+              let r = of-lines n nx qs i (all-there n homed (lines n nx qs) d (all-homed (M .ring) (M .own)) long i k (some-is (home i) (λ z. omega (arith, e, na a s)))) in
+              subst (λ (b : ℕ). Stands i (lineOf n nx b)) (sym (owned (M .ring) (M .own) (r .0) i (r .1) (r .2) .1) ∙ e) (r .2)),
+          λ t. owned (M .ring) (M .own) a i s t .1,
+        ),
+      )
+        where
+          M : Met n f nx pv qs (suc (counted n homed)) (surveyed f nx pv qs (suc (counted n homed)))
+          M = survey-met n f nx pv ids qs (suc (counted n homed)) na (omega (arith, h .1))
 
-      place : (i : ℕ) → ((a : ℕ) × Stands a qs × Stands i (lineOf n nx a)) ⊎ ((a : ℕ) → Stands a qs → Out i (lineOf n nx a))
-      place i = somewhere (lineOf n nx) i qs
+          d : Distinct (lines n nx qs)
+          d = all-distinct (M .ring) (M .own)
 
-      zero-at : (i : ℕ) → IsId n i → ((a : ℕ) → Stands a qs → Out i (lineOf n nx a)) → getD (surveyed n nx pv qs m .marks) i 0 ≡ 0
-      zero-at i h f = S .others i f ∙ clean i h .1
+          long : length (lines n nx qs) ≡ counted n homed
+          long = omega (arith, M .left, h .1)
 
-  -- a survey from clean marks that leaves no linked id without a mark decides whether the tables hold lines
-  pub check-law : Distinct qs → length pv ≡ length nx
-      → ((surveyed n nx pv qs m .ok ≡ true) × (loose n nx (surveyed n nx pv qs m .marks) ≡ true)) ↔ Linked n (λ a. Stands a qs) nx pv (lineOf n nx)
-  check-law d same = (
-    (λ e. let S = survey-of n nx pv qs m na (e .0) in record {
-      anchors = λ a s. (na a s, ring-node n nx pv a (lineOf n nx a) (na a s) (S .ring a s));
-      same = same;
-      ring = S .ring;
-      home = λ i h z. elim (somewhere (lineOf n nx) i qs) [ inl r ↦ r | inr f ↦ absurd (z (loose-at n nx _ (e .1) i h (S .others i f ∙ clean i h .1))) ];
-    }),
-    (λ M. let ok = of-survey n nx pv qs m na d (M .ring) (λ a i s t. clean i (all-at _ (lineOf n nx a) i t (M .ring a s .ids))) in
-        let S = survey-of n nx pv qs m na ok in (
-          ok,
-          of-loose n nx _ (λ i h z. elim (ℕ-discrete (getD nx i 0) 0) [
-            | yes e ↦ e
-            | no w ↦ let r = M .home i h w in absurd (omega (arith, na (r .0) (r .1), S .after (r .0) i (r .1) (r .2)))
-          ]),
-        )),
-  )
+      back : Linked n (λ a. Stands a qs) nx pv (lineOf n nx) × AtHome → (counted n linked ≡ counted n homed) × (surveyed f nx pv qs (suc (counted n homed)) ≡ 1)
+      back (L, A) = (many ∙ sym some, met-survey n f nx pv ids qs (suc (counted n homed)) na (L .ring) own (omega (arith, some)) ∙ omega (arith, some))
+        where
+          own : (a i : ℕ) → Stands a qs → Stands i (lineOf n nx a) → f a i ≡ true
+          own a i s t = let k = all-at (IsId n) (lineOf n nx a) i t (L .ring a s .ids) in is a i s k .1 (A a i s k .1 t)
+
+          d : Distinct (lines n nx qs)
+          d = all-distinct (L .ring) own
+
+          some : counted n homed ≡ length (lines n nx qs)
+          some = as-many n homed (lines n nx qs) d (all-homed (L .ring) own) (λ i k e. let s = known i k (is-some (home i) e) in in-lines n nx qs (home i) i s (A (home i) i s k .0 refl))
+
+          many : counted n linked ≡ length (lines n nx qs)
+          many = as-many n linked (lines n nx qs) d (all-linked (L .ring) own) (λ i k e. let r = L .home i k (is-some (getD nx i 0) e) in in-lines n nx qs (r .0) i (r .1) (r .2))
+
+-- one list after another is the two in one
+pub survey-append : (f : ℕ → ℕ → Bool) (nx pv qs rs : List ℕ) (k : ℕ) → surveyed f nx pv (qs ++ rs) k ≡ surveyed f nx pv rs (surveyed f nx pv qs k)
+unfolding surveyed
+survey-append f nx pv [] rs k = refl
+survey-append f nx pv (a ∷ qs) rs k = survey-append f nx pv qs rs (toured k (f a) nx pv a a)
 
 -- ---- ranges
 
@@ -328,7 +262,3 @@ pub from-distinct : (a k : ℕ) → Distinct (from a k)
 unfolding from
 from-distinct a zero = tt
 from-distinct a (suc k) = (from-out (suc a) k a (inl (omega arith)), from-distinct (suc a) k)
-
-pub ranged-is : (n : ℕ) (l : List ℕ) (a k : ℕ) (m : List ℕ) → a + k ≤ 4294967296 → ranged n l a k m ≡ surveyed n (nexts l) (prevs l) (from a k) m
-unfolding ranged
-ranged-is n l a k m h = rw (le-leb (a + k) 4294967296 h)

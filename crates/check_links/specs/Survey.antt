@@ -1,72 +1,52 @@
--- The survey of tables that may be damaged: it walks the rings of some anchors and gives each id that it meets the anchor as its mark.
--- It fails at the first link that does not point back, and at an id that has a mark already.
-use Prim.Native.Nat.{ℕ, zero, suc, _+_, _<_}
-use mathlib.Core.Path.{_≡_}
-use mathlib.Core.Bool.{Bool, true, false, cond, _&&_}
-use mathlib.Core.Logic.{_↔_, _⊎_}
+-- The survey of tables that may be damaged: it walks the rings of some anchors. Each id that it meets must belong to the ring's anchor and is
+-- taken off a count; where as many ids have a home as are linked, and each is met, nothing is linked but what should be.
+use Prim.Native.Nat.{ℕ, zero, suc, _+_, _-_}
+use mathlib.Core.Bool.{Bool, cond, not, _&&_}
 use mathlib.Core.List.{List, [], _∷_}
 use lib.Dec.{eqb, leb, ltb}
-use lib.ListN.{length, getD, set}
-use Rattle.memory_rings.specs.Links.{nexts, prevs}
-use Rattle.memory_rings.specs.Rings.{IsId, Out, Stands, Ring, lineOf}
+use lib.ListN.{length, getD, drop}
+use Rattle.rules.specs.Ids.{of, once}
+use Rattle.memory_rings.specs.Links.{half, nexts, prevs}
 
-pub record Survey : Type 0 where
-  pub ok : Bool
-  pub marks : List ℕ
+-- how many of the ids 1 to n pass a test
+unfoldable pub counted : ℕ → (ℕ → Bool) → ℕ
+counted zero f = 0
+counted (suc n) f = counted n f + once (f (suc n))
 
-abbrev pub passed : List ℕ → Survey
-passed m = record { ok = true; marks = m }
+-- how many of the first n entries are not 0
+abbrev pub filled : ℕ → List ℕ → ℕ
+filled n l = counted n (λ i. not (eqb (of l i 0) 0))
 
-abbrev pub failed : List ℕ → Survey
-failed m = record { ok = false; marks = m }
+-- y is an id, and its home is v; the table hs has the home of each id
+unfoldable pub belongs : List ℕ → ℕ → ℕ → Bool
+belongs hs v y = leb 1 y && (leb y (length hs) && eqb (of hs y 0) v)
 
--- y is an id, and has a mark, which is still 0
-unfoldable pub unmarked : ℕ → ℕ → List ℕ → Bool
-unmarked n y m = leb 1 y && (leb y n && (ltb y (length m) && eqb (getD m y 0) 0))
+-- ---- a budget: one more than the ids that are still to be met, 0 once something is wrong
 
--- the ring of anchor a from node x on, at most k steps
-unfoldable pub toured : ℕ → ℕ → List ℕ → List ℕ → ℕ → ℕ → List ℕ → Survey
-toured zero n nx pv a x m = failed m
-toured (suc k) n nx pv a x m =
-    cond (eqb (getD pv (getD nx x 0) 0) x)
-    (cond (eqb (getD nx x 0) a) (passed m)
-    (cond (unmarked n (getD nx x 0) m) (toured k n nx pv a (getD nx x 0) (set m (getD nx x 0) a)) (failed m)))
-    (failed m)
+-- The ring of anchor a from node x on, whose ids pass the test f: what it leaves of a budget. An id takes one, and the last one is kept.
+unfoldable pub toured : ℕ → (ℕ → Bool) → List ℕ → List ℕ → ℕ → ℕ → ℕ
+toured zero f nx pv a x = 0
+toured (suc k) f nx pv a x =
+    cond (f (getD nx x 0)) (cond (eqb (getD pv (getD nx x 0) 0) x) (toured k f nx pv a (getD nx x 0)) 0)
+    (cond (eqb (getD nx x 0) a) (cond (eqb (getD pv a 0) x) (suc k) 0) 0)
 
--- the rings of the anchors qs, one after the other; n + 1 steps are enough for each
-unfoldable pub surveyed : ℕ → List ℕ → List ℕ → List ℕ → List ℕ → Survey
-surveyed n nx pv [] m = passed m
-surveyed n nx pv (a ∷ qs) m =
-    cond (toured (suc n) n nx pv a a m .ok) (surveyed n nx pv qs (toured (suc n) n nx pv a a m .marks)) (toured (suc n) n nx pv a a m)
+-- the rings of the anchors qs, one after the other; those of anchor a pass the test f a
+unfoldable pub surveyed : (ℕ → ℕ → Bool) → List ℕ → List ℕ → List ℕ → ℕ → ℕ
+surveyed f nx pv [] k = k
+surveyed f nx pv (a ∷ qs) k = surveyed f nx pv qs (toured k (f a) nx pv a a)
 
 -- k nodes from a on
 unfoldable pub from : ℕ → ℕ → List ℕ
 from a zero = []
 from a (suc k) = a ∷ from (suc a) k
 
--- the rings of `count` anchors from a on; nodes are numbers of 32 bits
-unfoldable pub ranged : ℕ → List ℕ → ℕ → ℕ → List ℕ → Survey
-ranged n l a count m = cond (leb (a + count) 4294967296) (surveyed n (nexts l) (prevs l) (from a count) m) (failed m)
+-- the rings of `count` anchors from a on, which are nodes, as the ids are; the home s less is that of anchor a
+unfoldable pub ranged : List ℕ → List ℕ → ℕ → ℕ → ℕ → ℕ → ℕ
+ranged l hs s a count k =
+    cond (ltb (length hs) (half l) && (leb (a + count) (half l) && leb s a)) (surveyed (λ a. belongs hs (a - s)) (nexts l) (prevs l) (from a count) k) 0
 
--- an id without a mark has the link 0
-unfoldable pub slack : List ℕ → List ℕ → ℕ → Bool
-slack nx m i = cond (eqb (getD m i 0) 0) (eqb (getD nx i 0) 0) true
-
--- all the ids 1 to n
-unfoldable pub loose : ℕ → List ℕ → List ℕ → Bool
-loose zero nx m = true
-loose (suc k) nx m = cond (slack nx m (suc k)) (loose k nx m) false
-
--- What a survey from the marks m to the marks m′ has found: rings, whose ids had no mark before and have their anchor for one now.
-pub record Surveyed (n : ℕ) (nx pv qs m m′ : List ℕ) : Type 0 where
-  pub size : length m′ ≡ length m
-  pub ring : (a : ℕ) → Stands a qs → Ring n nx pv a (lineOf n nx a)
-  pub before : (a i : ℕ) → Stands a qs → Stands i (lineOf n nx a) → (i < length m) × (getD m i 0 ≡ 0)
-  pub after : (a i : ℕ) → Stands a qs → Stands i (lineOf n nx a) → getD m′ i 0 ≡ a
-  pub others : (i : ℕ) → ((a : ℕ) → Stands a qs → Out i (lineOf n nx a)) → getD m′ i 0 ≡ getD m i 0
-
--- What the marks say of every id once all the rings of the anchors qs were surveyed: in whose line it stands.
-pub record Marks (n : ℕ) (nx qs m : List ℕ) : Type 0 where
-  pub stands : (a i : ℕ) → Stands a qs → IsId n i → (getD m i 0 ≡ a) ↔ Stands i (lineOf n nx a)
-  pub none : (i : ℕ) → IsId n i → (getD m i 0 ≡ 0) ↔ ((a : ℕ) → Stands a qs → Out i (lineOf n nx a))
-  pub known : (i : ℕ) → IsId n i → (getD m i 0 ≡ 0) ⊎ Stands (getD m i 0) qs
+-- the budget of the ids that have a home, where just as many are linked; there are fewer ids than words of 32 bits
+unfoldable pub budget : List ℕ → List ℕ → ℕ
+budget l hs =
+    cond (ltb (length hs) 4294967295 && ltb (length hs) (length l))
+    (cond (eqb (filled (length hs) (drop 1 l)) (filled (length hs) hs)) (suc (filled (length hs) hs)) 0) 0

@@ -1,29 +1,32 @@
--- The check of the queues of one sort: from clean marks, a survey that marks each id with the anchor of its home decides
--- that the links are rings and that each line holds just those that belong to it. Assumes nothing.
-use mathlib.Core.Bool.{Bool, true, false, cond, _&&_, false≢true}
+-- The check of the queues of one sort: a survey that meets every id that has a home, where as many are linked, decides that the links are rings
+-- and that each line holds just those that belong to it. Assumes nothing.
+use mathlib.Core.Bool.{Bool, true, false, cond, not, _&&_, false≢true}
 use mathlib.Core.List.{List, [], _∷_, _++_}
 use mathlib.Core.Logic.{_⊎_, inl, inr, _≢_, _↔_}
 use mathlib.Core.Option.{Option, none, some}
 use mathlib.Core.Path.{_≡_, refl, sym, ap, _∙_, subst}
-use Prim.Native.Nat.{ℕ, _+_, _≤_, _<_}
+use Prim.Native.Nat.{ℕ, zero, suc, _+_, _-_, _≤_, _<_}
 use native.Mathlib.Omega.{arith}
-use lib.Dec.{eqb}
-use lib.ListN.{length, getD, replicate, length-replicate, getD-replicate}
-use borrow.Author.Tests.{eq-eqb, ne-eqb}
-use Rattle.rules.specs.Ids.{In, once, times}
+use lib.Dec.{eqb, leb}
+use lib.ListN.{length, getD, drop}
+use lib.Seq.{getD-drop}
+use borrow.Author.Tests.{leb-true, eqb-true, eqb-false, eq-eqb, ne-eqb, le-leb}
+use Rattle.rules.specs.Ids.{of, In, once, times}
 use Rattle.rules.specs.Places.{Place}
 use Rattle.rules.specs.Sound.{Known}
-use Rattle.memory_rings.specs.Links.{nexts, prevs}
+use Rattle.memory_rings.specs.Links.{half, nexts, prevs}
 use Rattle.memory_rings.specs.Rings.{IsId, All, Out, Stands, Distinct, lineOf, Linked}
-use Rattle.check_links.specs.Survey.{Survey, surveyed, from, ranged, loose, Marks}
-use Rattle.memory_rings.proofs.Lists.{stands-or-out, stands-out, stands-left, stands-right, stands-cases, dist-join, all-of}
+use Rattle.check_links.specs.Survey.{counted, filled, belongs, surveyed, from, ranged, budget}
+use Rattle.memory_rings.proofs.Lists.{and-of, stands-or-out, stands-out, stands-left, stands-right, stands-cases, dist-join, all-of}
+use Rattle.memory_rings.proofs.Halves.{next-at}
 use Rattle.memory_rings.proofs.Laws.{once-law, linked-use}
-use Rattle.check_links.proofs.Surveys.{survey-append, marks-law, check-law, from-stands, from-distinct, ranged-is}
+use Rattle.check_links.proofs.Counts.{counted-same}
+use Rattle.check_links.proofs.Steps.{survey-zero, ranged-is, budget-of}
+use Rattle.check_links.proofs.Surveys.{survey-append, check-law, from-stands, from-distinct}
 use Rattle.memory_picture.specs.Picture.{anchor}
 use Rattle.memory_picture.proofs.Counts.{stands-times, times-stands}
-use Rattle.check_ranges.specs.Ranges.{every}
 use Rattle.check_queues.specs.Queues.{ranges}
-use Rattle.check_ranges.proofs.Decisions.{Decides, decides-as, decides-and, decides-eq, decides-every}
+use Rattle.check_ranges.proofs.Decisions.{Decides, decides-as, decides-no}
 
 -- ---- ranges of anchors, one after the other
 
@@ -45,32 +48,32 @@ range-anchor a [] h = h
 range-anchor a (r ∷ rs) (inl h) = stands-left a (from (r .0) (r .1)) (anchorsOf rs) (from-stands (r .0) (r .1) a .1 h)
 range-anchor a (r ∷ rs) (inr h) = stands-right a (from (r .0) (r .1)) (anchorsOf rs) (range-anchor a rs h)
 
--- the ranges rise, from c on, and their numbers are words
-abbrev pub Rising : ℕ → List (ℕ × ℕ) → Type 0
-Rising c [] = Unit {0}
-Rising c (r ∷ rs) = (c ≤ r .0) × (r .0 + r .1 ≤ 4294967296) × Rising (r .0 + r .1) rs
+-- the ranges rise, from c on, to below `top`
+abbrev pub Rising : ℕ → ℕ → List (ℕ × ℕ) → Type 0
+Rising top c [] = Unit {0}
+Rising top c (r ∷ rs) = (c ≤ r .0) × (r .0 + r .1 ≤ top) × Rising top (r .0 + r .1) rs
 
-pub rising-from : (c : ℕ) (rs : List (ℕ × ℕ)) → Rising c rs → (a : ℕ) → Stands a (anchorsOf rs) → c ≤ a
-rising-from c [] h a s = absurd s
-rising-from c (r ∷ rs) h a s = elim (stands-cases a (from (r .0) (r .1)) (anchorsOf rs) s) [
-  | inl t ↦ omega (arith, h .0, from-stands (r .0) (r .1) a .0 t .0)
-  | inr t ↦ omega (arith, h .0, rising-from (r .0 + r .1) rs (h .2) a t)
-]
+module _ (top : ℕ) where
+  pub rising-from : (c : ℕ) (rs : List (ℕ × ℕ)) → Rising top c rs → (a : ℕ) → Stands a (anchorsOf rs) → c ≤ a
+  rising-from c [] h a s = absurd s
+  rising-from c (r ∷ rs) h a s = elim (stands-cases a (from (r .0) (r .1)) (anchorsOf rs) s) [
+    | inl t ↦ omega (arith, h .0, from-stands (r .0) (r .1) a .0 t .0)
+    | inr t ↦ omega (arith, h .0, rising-from (r .0 + r .1) rs (h .2) a t)
+  ]
 
-pub rising-distinct : (c : ℕ) (rs : List (ℕ × ℕ)) → Rising c rs → Distinct (anchorsOf rs)
-rising-distinct c [] h = tt
-rising-distinct c (r ∷ rs) h = dist-join (from (r .0) (r .1)) (anchorsOf rs) (from-distinct (r .0) (r .1)) (rising-distinct (r .0 + r .1) rs (h .2))
-    (λ i s. all-of (λ x. x ≢ i) (anchorsOf rs) (λ x t e. omega (arith, from-stands (r .0) (r .1) i .0 s .1, rising-from (r .0 + r .1) rs (h .2) x t)))
+  pub rising-distinct : (c : ℕ) (rs : List (ℕ × ℕ)) → Rising top c rs → Distinct (anchorsOf rs)
+  rising-distinct c [] h = tt
+  rising-distinct c (r ∷ rs) h = dist-join (from (r .0) (r .1)) (anchorsOf rs) (from-distinct (r .0) (r .1)) (rising-distinct (r .0 + r .1) rs (h .2))
+      (λ i s. all-of (λ x. x ≢ i) (anchorsOf rs) (λ x t e. omega (arith, from-stands (r .0) (r .1) i .0 s .1, rising-from (r .0 + r .1) rs (h .2) x t)))
 
-pub ranges-is : (n : ℕ) (l : List ℕ) (c : ℕ) (rs : List (ℕ × ℕ)) → Rising c rs → (m : List ℕ) → ranges n l rs m ≡ surveyed n (nexts l) (prevs l) (anchorsOf rs) m
-unfolding ranges surveyed
-ranges-is n l c [] h m = refl
-ranges-is n l c (r ∷ rs) h m =
-    let T : Survey = ranged n l (r .0) (r .1) m in
-    let e : T ≡ surveyed n (nexts l) (prevs l) (from (r .0) (r .1)) m = ranged-is n l (r .0) (r .1) m (h .1) in
-    ap (λ (x : Survey). cond (T .ok) x T) (ranges-is n l (r .0 + r .1) rs (h .2) (T .marks))
-    ∙ ap (λ (x : Survey). cond (x .ok) (surveyed n (nexts l) (prevs l) (anchorsOf rs) (x .marks)) x) e
-    ∙ sym (survey-append n (nexts l) (prevs l) (from (r .0) (r .1)) (anchorsOf rs) m)
+module _ (l hs : List ℕ) (s : ℕ) (room : length hs < half l) where
+  ranges-is : (c : ℕ) (rs : List (ℕ × ℕ)) → s ≤ c → Rising (half l) c rs → (k : ℕ) → ranges l hs s rs k ≡ surveyed (λ a. belongs hs (a - s)) (nexts l) (prevs l) (anchorsOf rs) k
+  unfolding ranges surveyed
+  ranges-is c [] sc h k = refl
+  ranges-is c (r ∷ rs) sc h k =
+      ranges-is (r .0 + r .1) rs (omega (arith, h .0)) (h .2) (ranged l hs s (r .0) (r .1) k)
+      ∙ ap (surveyed (λ a. belongs hs (a - s)) (nexts l) (prevs l) (anchorsOf rs)) (ranged-is l hs s (r .0) (r .1) k room (h .1) (omega (arith, h .0)))
+      ∙ sym (survey-append (λ a. belongs hs (a - s)) (nexts l) (prevs l) (from (r .0) (r .1)) (anchorsOf rs) k)
 
 -- ---- homes
 
@@ -124,88 +127,112 @@ module _ (n : ℕ) (qs : List ℕ) (Q : Place → Type 0) (B : Place → ℕ →
       back none e k z = let o : home i ≡ 0 = is i h ∙ ap anchorOf e in absurd (omega (arith, K .anchored (anchor q) (K .to q u)))
       back (some r) e k z = subst (λ (p : Place). B p i ≡ true) (K .one r q (k .0) u (sym (is i h ∙ ap anchorOf e) ∙ z)) (k .1)
 
-module _ (n : ℕ) (nx pv qs m : List ℕ) (Q : Place → Type 0) (B : Place → ℕ → Bool) (H : ℕ → Option Place) (K : Homes n qs Q B H) (home : ℕ → ℕ)
-    (is : (i : ℕ) → In i n → home i ≡ anchorOf (H i)) (clean : (i : ℕ) → IsId n i → (i < length m) × (getD m i 0 ≡ 0)) (same : length pv ≡ length nx) where
-  belongs : (q : Place) → Q q → (i : ℕ) → In i n → Decides (B q i) (home i ≡ anchor q)
-  belongs = belongs-home n qs Q B H K home is
-
-  abbrev S : Survey
-  S = surveyed n nx pv qs m
+-- each stands in the ring of its home, and there alone, just where each line holds those that belong to it
+module _ (n : ℕ) (nx pv qs : List ℕ) (Q : Place → Type 0) (B : Place → ℕ → Bool) (H : ℕ → Option Place) (K : Homes n qs Q B H) (home : ℕ → ℕ)
+    (is : (i : ℕ) → In i n → home i ≡ anchorOf (H i)) (W : Linked n (λ a. Stands a qs) nx pv (lineOf n nx)) where
+  belongs-in : (q : Place) → Q q → (i : ℕ) → In i n → Decides (B q i) (home i ≡ anchor q)
+  belongs-in = belongs-home n qs Q B H K home is
 
   abbrev L : Place → List ℕ
   L q = lineOf n nx (anchor q)
 
-  lines-law : Marks n nx qs (S .marks) → Linked n (λ a. Stands a qs) nx pv (lineOf n nx)
-      → Decides (every n 1 (λ i. eqb (getD (S .marks) i 0) (home i))) ((q : Place) → Q q → Keeps n (B q) (L q))
-  lines-law M W = decides-as (decides-every n _ {P = λ i. mark i ≡ home i} (λ i h. decides-eq (mark i) (home i)))
-      (λ f q u. (ids-known n (L q) (W .ring (anchor q) (K .to q u) .ids), λ i h. counts f q u i h (B q i) refl))
-      homes
+  lines-kept : ((a i : ℕ) → Stands a qs → IsId n i → (home i ≡ a) ↔ Stands i (lineOf n nx a)) → (q : Place) → Q q → Keeps n (B q) (L q)
+  lines-kept f q u = (ids-known n (L q) (W .ring (anchor q) (K .to q u) .ids), λ i h. counts i h (B q i) refl)
     where
-      mark : ℕ → ℕ
-      mark i = getD (S .marks) i 0
-
-      counts : ((i : ℕ) → In i n → mark i ≡ home i) → (q : Place) → Q q → (i : ℕ) → In i n → (t : Bool) → B q i ≡ t → times i (L q) ≡ once t
-      counts f q u i h true e = times-one i (L q) (once-law W (anchor q) (K .to q u)) (M .stands (anchor q) i (K .to q u) h .0 (f i h ∙ belongs q u i h .0 e))
-      counts f q u i h false e = times-none i (L q) (elim (stands-or-out i (L q)) [
-        | inl s ↦ absurd (false≢true (sym e ∙ belongs q u i h .1 (sym (f i h) ∙ M .stands (anchor q) i (K .to q u) h .1 s)))
+      counts : (i : ℕ) → In i n → (t : Bool) → B q i ≡ t → times i (L q) ≡ once t
+      counts i h true e = times-one i (L q) (once-law W (anchor q) (K .to q u)) (f (anchor q) i (K .to q u) h .0 (belongs-in q u i h .0 e))
+      counts i h false e = times-none i (L q) (elim (stands-or-out i (L q)) [
+        | inl s ↦ absurd (false≢true (sym e ∙ belongs-in q u i h .1 (f (anchor q) i (K .to q u) h .1 s)))
         | inr o ↦ o
       ])
 
-      homes : ((q : Place) → Q q → Keeps n (B q) (L q)) → (i : ℕ) → In i n → mark i ≡ home i
-      homes g i h = elim (M .known i h) [
-        | inl z ↦ z ∙ sym (away z (H i) refl (K .holds i h))
-        | inr s ↦ let r = K .from (mark i) s in
-            sym (belongs (r .0) (r .1) i h .0 (there (r .0) (r .1) (subst (λ (a : ℕ). Stands i (lineOf n nx a)) (sym (r .2)) (M .stands (mark i) i s h .0 refl)) (B (r .0) i) refl) ∙ r .2)
-      ]
-        where
-          there : (q : Place) → Q q → Stands i (L q) → (t : Bool) → B q i ≡ t → t ≡ true
-          there q u s true e = refl
-          there q u s false e = absurd (stands-times i (L q) s (g q u .1 i h ∙ ap once e))
-
-          away : mark i ≡ 0 → (x : Option Place) → H i ≡ x → Belongs Q B i x → home i ≡ 0
-          away z none e k = is i h ∙ ap anchorOf e
-          away z (some q) e k =
-              let s : Stands i (L q) = times-stands i (L q) (g q (k .0) .1 i h ∙ ap once (k .1)) in
-              absurd (omega (arith, z, M .stands (anchor q) i (K .to q (k .0)) h .1 s, K .anchored (anchor q) (K .to q (k .0))))
-
-  pub queues-law : Decides (S .ok && (loose n nx (S .marks) && every n 1 (λ i. eqb (getD (S .marks) i 0) (home i))))
-      (Linked n (λ a. Stands a qs) nx pv (lineOf n nx) × ((q : Place) → Q q → Keeps n (B q) (lineOf n nx (anchor q))))
-  queues-law =
-      decides-as (decides-and {A = S .ok ≡ true} ((λ e. e), (λ e. e)) (λ e. decides-and {A = loose n nx (S .marks) ≡ true} ((λ f. f), (λ f. f)) (λ f. lines-law (marks e) (linked .0 (e, f)))))
-      (λ h. (linked .0 (h .0, h .1 .0), h .1 .1))
-      (λ h. let o = linked .1 (h .0) in (o .0, (o .1, h .1)))
+  kept-lines : ((q : Place) → Q q → Keeps n (B q) (L q)) → (a i : ℕ) → Stands a qs → IsId n i → (home i ≡ a) ↔ Stands i (lineOf n nx a)
+  kept-lines g a i s h = subst (λ (b : ℕ). (home i ≡ b) ↔ Stands i (lineOf n nx b)) (r .2) (there (r .0) (r .1))
     where
-      linked : ((S .ok ≡ true) × (loose n nx (S .marks) ≡ true)) ↔ Linked n (λ a. Stands a qs) nx pv (lineOf n nx)
-      linked = check-law n nx pv qs m (K .anchored) clean (K .apart) same
+      r : (q : Place) × Q q × (anchor q ≡ a)
+      r = K .from a s
 
-      marks : S .ok ≡ true → Marks n nx qs (S .marks)
-      marks e = marks-law n nx pv qs m (K .anchored) clean e
+      there : (q : Place) → Q q → (home i ≡ anchor q) ↔ Stands i (L q)
+      there q u = ((λ e. times-stands i (L q) (g q u .1 i h ∙ ap once (belongs-in q u i h .1 e))), λ t. belongs-in q u i h .0 (held t (B q i) refl))
+        where
+          held : Stands i (L q) → (t : Bool) → B q i ≡ t → B q i ≡ true
+          held s true e = e
+          held s false e = absurd (stands-times i (L q) s (g q u .1 i h ∙ ap once e))
 
--- the same for the ranges of a list of words that holds both directions, from fresh marks, with another name for the anchors in use
-pub queued-law : (n w c : ℕ) (l nx pv : List ℕ) (rs : List (ℕ × ℕ)) → n < w → nexts l ≡ nx → prevs l ≡ pv → length pv ≡ length nx → Rising c rs
-    → (Q : Place → Type 0) (B : Place → ℕ → Bool) (H : ℕ → Option Place) → Homes n (anchorsOf rs) Q B H → (home : ℕ → ℕ) → ((i : ℕ) → In i n → home i ≡ anchorOf (H i))
-    → (U : ℕ → Type 0) → ((a : ℕ) → U a → (q : Place) × Q q × (anchor q ≡ a)) → ((q : Place) → Q q → U (anchor q))
-    → Decides (ranges n l rs (replicate w 0) .ok && (loose n (nexts l) (ranges n l rs (replicate w 0) .marks) && every n 1 (λ i. eqb (getD (ranges n l rs (replicate w 0) .marks) i 0) (home i))))
-    (Linked n U nx pv (lineOf n nx) × ((q : Place) → Q q → Keeps n (B q) (lineOf n nx (anchor q))))
-queued-law n w c l nx pv rs room ns ps same rise Q B H K home is U out into = decides-as
-    (subst (λ (t : Bool). Decides t X) (sym (λ z. test (e z) (ns z))) (queues-law n nx pv (anchorsOf rs) (replicate w 0) Q B H K home is clean same))
-    (λ h. (linked-use (h .0) U (λ a s. let r = K .from a s in subst U (r .2) (into (r .0) (r .1))) used, h .1))
-    (λ h. (linked-use (h .0) (λ a. Stands a (anchorsOf rs)) used (λ a s. let r = K .from a s in subst U (r .2) (into (r .0) (r .1))), h .1))
-  where
-    X : Type 0
-    X = Linked n (λ a. Stands a (anchorsOf rs)) nx pv (lineOf n nx) × ((q : Place) → Q q → Keeps n (B q) (lineOf n nx (anchor q)))
+-- ---- the whole check of a sort
 
-    test : Survey → List ℕ → Bool
-    test s x = s .ok && (loose n x (s .marks) && every n 1 (λ i. eqb (getD (s .marks) i 0) (home i)))
+-- The homes hs of n ids, s less than the anchors, are told by `home`. The anchors in use have another name, U.
+module _ (n c s : ℕ) (l hs nx pv : List ℕ) (rs : List (ℕ × ℕ)) (long : length hs ≡ n) (small : n < 4294967295) (room : n < half l) (shift : s ≤ c) (ns : nexts l ≡ nx) (ps : prevs l ≡ pv)
+    (same : length pv ≡ length nx) (rise : Rising (half l) c rs) (Q : Place → Type 0) (B : Place → ℕ → Bool) (H : ℕ → Option Place) (K : Homes n (anchorsOf rs) Q B H) (home : ℕ → ℕ)
+    (is : (i : ℕ) → In i n → home i ≡ anchorOf (H i)) (none-as : (i : ℕ) → In i n → eqb (of hs i 0) 0 ≡ eqb (home i) 0)
+    (own-as : (a i : ℕ) → Stands a (anchorsOf rs) → In i n → (of hs i 0 ≡ a - s) ↔ (home i ≡ a))
+    (U : ℕ → Type 0) (out : (a : ℕ) → U a → (q : Place) × Q q × (anchor q ≡ a)) (into : (q : Place) → Q q → U (anchor q)) where
+  abbrev own : ℕ → ℕ → Bool
+  own a = belongs hs (a - s)
 
-    e : ranges n l rs (replicate w 0) ≡ surveyed n nx pv (anchorsOf rs) (replicate w 0)
-    e = ranges-is n l c rs rise (replicate w 0) ∙ (λ z. surveyed n (ns z) (ps z) (anchorsOf rs) (replicate w 0))
+  abbrev qs : List ℕ
+  qs = anchorsOf rs
 
-    fresh : List ℕ
-    fresh = replicate w 0
+  own-id : (a i : ℕ) → own a i ≡ true → IsId n i
+  unfolding belongs
+  own-id a i e =
+      let p = and-of (leb 1 i) (leb i (length hs) && eqb (of hs i 0) (a - s)) e in
+      (leb-true 1 i (p .0), omega (arith, long, leb-true i (length hs) (and-of (leb i (length hs)) (eqb (of hs i 0) (a - s)) (p .1) .0)))
 
-    clean : (i : ℕ) → IsId n i → (i < length fresh) × (getD fresh i 0 ≡ 0)
-    clean i h = (rw (length-replicate {A = ℕ} w 0) (omega (arith, h .1)), getD-replicate {A = ℕ} w i 0 0 (omega (arith, h .1)))
+  own-is : (a i : ℕ) → Stands a qs → IsId n i → (own a i ≡ true) ↔ (home i ≡ a)
+  unfolding belongs
+  own-is a i t h = rw (le-leb 1 i (h .0), le-leb i (length hs) (omega (arith, long, h .1))) ((λ e. own-as a i t h .0 (eqb-true (of hs i 0) (a - s) e)), λ e. eq-eqb (of hs i 0) (a - s) (own-as a i t h .1 e))
 
-    used : (a : ℕ) → U a → Stands a (anchorsOf rs)
-    used a v = let r = out a v in subst (λ (x : ℕ). Stands x (anchorsOf rs)) (r .2) (K .to (r .0) (r .1))
+  known : (i : ℕ) → IsId n i → home i ≢ 0 → Stands (home i) qs
+  known i h z = go (H i) refl (K .holds i h)
+    where
+      go : (x : Option Place) → H i ≡ x → Belongs Q B i x → Stands (home i) qs
+      go none e k = absurd (z (is i h ∙ ap anchorOf e))
+      go (some q) e k = subst (λ (a : ℕ). Stands a qs) (sym (is i h ∙ ap anchorOf e)) (K .to q (k .0))
+
+  abbrev linked : ℕ → Bool
+  linked i = not (eqb (getD nx i 0) 0)
+
+  abbrev homed : ℕ → Bool
+  homed i = not (eqb (home i) 0)
+
+  linked-is : filled (length hs) (drop 1 l) ≡ counted n linked
+  linked-is = ap (λ (k : ℕ). filled k (drop 1 l)) long ∙ counted-same n _ _ (λ i h. ap (λ (x : ℕ). not (eqb x 0)) (at i h ∙ ap (λ (m : List ℕ). getD m i 0) ns))
+    where
+      at : (i : ℕ) → IsId n i → of (drop 1 l) i 0 ≡ getD (nexts l) i 0
+      at zero h = absurd (omega (arith, h .0))
+      at (suc i) h = getD-drop 1 l i 0 ∙ ap (λ (k : ℕ). getD l k 0) (omega arith) ∙ next-at l (suc i) (omega (arith, room, h .1))
+
+  homed-is : filled (length hs) hs ≡ counted n homed
+  homed-is = ap (λ (k : ℕ). filled k hs) long ∙ counted-same n _ _ (λ i h. ap not (none-as i h))
+
+  -- the test, step by step
+  test-is : eqb (ranges l hs s rs (budget l hs)) 1 ≡ eqb (surveyed own nx pv qs (cond (eqb (counted n linked) (counted n homed)) (suc (counted n homed)) 0)) 1
+  test-is =
+      ap (λ (k : ℕ). eqb k 1)
+      (ranges-is l hs s (omega (arith, long, room)) c rs shift rise (budget l hs)
+      ∙ (λ z. surveyed own (ns z) (ps z) qs (spent z)))
+    where
+      spent : budget l hs ≡ cond (eqb (counted n linked) (counted n homed)) (suc (counted n homed)) 0
+      spent = budget-of l hs (omega (arith, long, small)) (omega (arith, long, room)) ∙ (λ z. cond (eqb (linked-is z) (homed-is z)) (suc (homed-is z)) 0)
+
+  counts-law : Decides (eqb (surveyed own nx pv qs (cond (eqb (counted n linked) (counted n homed)) (suc (counted n homed)) 0)) 1)
+      ((counted n linked ≡ counted n homed) × (surveyed own nx pv qs (suc (counted n homed)) ≡ 1))
+  counts-law = go (eqb (counted n linked) (counted n homed)) refl
+    where
+      go : (t : Bool) → eqb (counted n linked) (counted n homed) ≡ t → Decides (eqb (surveyed own nx pv qs (cond t (suc (counted n homed)) 0)) 1)
+          ((counted n linked ≡ counted n homed) × (surveyed own nx pv qs (suc (counted n homed)) ≡ 1))
+      go true e = ((λ z. (eqb-true (counted n linked) (counted n homed) e, eqb-true (surveyed own nx pv qs (suc (counted n homed))) 1 z)), λ z. eq-eqb (surveyed own nx pv qs (suc (counted n homed))) 1 (z .1))
+      go false e = rw (survey-zero own nx pv qs) (decides-no (λ z. eqb-false (counted n linked) (counted n homed) e (z .0)))
+
+  pub queued-law : Decides (eqb (ranges l hs s rs (budget l hs)) 1) (Linked n U nx pv (lineOf n nx) × ((q : Place) → Q q → Keeps n (B q) (lineOf n nx (anchor q))))
+  queued-law = subst (λ (t : Bool). Decides t (Linked n U nx pv (lineOf n nx) × ((q : Place) → Q q → Keeps n (B q) (lineOf n nx (anchor q))))) (sym test-is) (decides-as counts-law
+      (λ h. let w = law .0 h in (linked-use (w .0) U (λ a t. let r = K .from a t in subst U (r .2) (into (r .0) (r .1))) used, lines-kept n nx pv qs Q B H K home is (w .0) (w .1)))
+      (λ h. let w = linked-use (h .0) (λ a. Stands a qs) used (λ a t. let r = K .from a t in subst U (r .2) (into (r .0) (r .1))) in law .1 (w, kept-lines n nx pv qs Q B H K home is w (h .1))))
+    where
+      used : (a : ℕ) → U a → Stands a qs
+      used a v = let r = out a v in subst (λ (x : ℕ). Stands x qs) (r .2) (K .to (r .0) (r .1))
+
+      law : ((counted n linked ≡ counted n homed) × (surveyed own nx pv qs (suc (counted n homed)) ≡ 1))
+          ↔ (Linked n (λ a. Stands a qs) nx pv (lineOf n nx) × ((a i : ℕ) → Stands a qs → IsId n i → (home i ≡ a) ↔ Stands i (lineOf n nx a)))
+      law = check-law n nx pv qs (K .anchored) (K .apart) same own home own-id own-is known

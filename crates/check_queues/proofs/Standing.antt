@@ -2,19 +2,20 @@
 -- numbers lie in their ranges. Assumes nothing.
 use mathlib.Core.Bool.{Bool, true, false, cond, _||_, false≢true}
 use mathlib.Core.List.{List, []}
-use mathlib.Core.Logic.{_⊎_, inl, inr}
+use mathlib.Core.Logic.{_⊎_, inl, inr, _↔_}
 use mathlib.Core.Option.{Option, none, some}
 use mathlib.Core.Path.{_≡_, refl, sym, ap, _∙_, subst}
 use Prim.Native.Nat.{ℕ, zero, suc, _+_, _-_, _*_, _/_, _%_, _^_, _≤_, _<_}
 use native.Mathlib.Omega.{arith}
-use lib.Dec.{eqb, lit≤}
-use lib.ListN.{length, replicate}
-use borrow.Author.Tests.{eq-eqb, ne-eqb, le-leb}
+use lib.Dec.{eqb, leb, lit≤}
+use lib.ListN.{length}
+use borrow.Author.Tests.{eqb-true, eq-eqb, ne-eqb, le-leb}
 use Rattle.rules.specs.Ids.{of, In}
 use Rattle.rules.specs.State.{Kind, semaphore, flag, mailbox, pool, Wait, on, Store, Body, task, nobody, objects, waitOf, isAbsent}
 use Rattle.rules.specs.Places.{Place, readyAt, waiters, mail, freeIn, many as manyAt, lies, belongs, Exists, population}
 use Rattle.rules.specs.Sound.{LiesWell, WaitNumbers, SoundTask, Queue}
 use Rattle.rules.proofs.Ids.{of-ids, length-ids, inside}
+use Rattle.memory_rings.specs.Links.{half}
 use Rattle.memory_rings.specs.Rings.{Stands, lineOf}
 use Rattle.memory_columns.specs.declared.Rings.{Rings}
 use Rattle.memory_columns.specs.declared.Rings.the-variants.{Tasks, Messages, Blocks}
@@ -32,7 +33,7 @@ use Rattle.memory_picture.proofs.PoolBits.{pool-at}
 use Rattle.memory_picture.proofs.FormWords.{few-objects}
 use Rattle.memory_picture.proofs.FormHomes.{place-back, ready-home, wait-home, lies-home, block-home, TaskHolds, task-holds}
 use Rattle.check_ranges.specs.Ranges.{many}
-use Rattle.check_queues.specs.Queues.{waitHome, home, markAnchor, blockHome, homeIn, idsIn, rangesOf, atHome, queuedIn}
+use Rattle.check_queues.specs.Queues.{waitHome, home, markAnchor, blockHome, homeIn, idsIn, countIn, ownIn, homesIn, shiftOf, rangesOf, queuedIn}
 use Rattle.check_ranges.proofs.Decisions.{Decides, decides-as}
 use Rattle.memory_picture.proofs.Cases.{asked, kind-cases, status-cases}
 use Rattle.check_ranges.proofs.Ranges.{manyOf, objects-shown, Ranges}
@@ -128,10 +129,16 @@ module _ (b msgs : List ℕ) (size : length b ≡ stateWords) (R : Ranges b msgs
   ids-are Messages = refl
   ids-are Blocks = rw (le-leb (poolsShown b) maxPools pools-few)
 
-  ids-few : (r : Rings) → idsShown b r < suc maxMessages
-  ids-few Tasks = omega (arith, tasks-few)
-  ids-few Messages = omega (arith, messages-few)
-  ids-few Blocks = omega (arith, pools-few)
+  count-is : (r : Rings) → countIn b r ≡ idsShown b r
+  count-is Tasks = rw (le-leb (tasksShown b) maxTasks tasks-few)
+  count-is Messages = rw (le-leb (messagesShown b) maxMessages messages-few)
+  count-is Blocks = ids-are Blocks
+
+  homes-many : (r : Rings) → length (homesIn b msgs r) ≡ idsShown b r
+  homes-many r = length-ids (ownIn b msgs r) (countIn b r) ∙ count-is r
+
+  homes-at : (r : Rings) (i : ℕ) → In i (idsShown b r) → of (homesIn b msgs r) i 0 ≡ ownIn b msgs r i
+  homes-at r i h = of-ids (ownIn b msgs r) (countIn b r) i 0 (subst (In i) (sym (count-is r)) h)
 
   there : (k : Kind) (o : ℕ) → In o (objects (storeShown b msgs) k) → In o (manyOf b k)
   there k o h = subst (In o) (objects-shown b msgs k) h
@@ -147,12 +154,33 @@ module _ (b msgs : List ℕ) (size : length b ≡ stateWords) (R : Ranges b msgs
   first Messages = mailNode 1
   first Blocks = freeNode 1
 
+  -- the nodes are half as many as the links
+  nodes-are : (r : Rings) → half (words (linksOf r) b) ≡ nextOf r .width
+  nodes-are Tasks = rw (words-length (linksOf Tasks) b size refl)
+  nodes-are Messages = rw (words-length (linksOf Messages) b size refl)
+  nodes-are Blocks = rw (words-length (linksOf Blocks) b size refl)
+
+  ids-small : (r : Rings) → idsShown b r ≤ maxMessages
+  ids-small Tasks = omega (arith, tasks-few)
+  ids-small Messages = messages-few
+  ids-small Blocks = omega (arith, pools-few)
+
+  ids-nodes : (r : Rings) → idsShown b r < nextOf r .width
+  ids-nodes Tasks = omega (arith, tasks-few)
+  ids-nodes Messages = omega (arith, messages-few)
+  ids-nodes Blocks = omega (arith, pools-few)
+
+  shift-small : (r : Rings) → shiftOf r ≤ first r
+  shift-small Tasks = lit≤ tt
+  shift-small Messages = lit≤ tt
+  shift-small Blocks = lit≤ tt
+
   first-behind : (r : Rings) → idsShown b r < first r
   first-behind Tasks = omega (arith, tasks-few)
   first-behind Messages = omega (arith, messages-few)
   first-behind Blocks = omega (arith, pools-few)
 
-  rising : (r : Rings) → Rising (first r) (rangesOf b r)
+  rising : (r : Rings) → Rising (nextOf r .width) (first r) (rangesOf b r)
   rising Tasks = (
     lit≤ tt,
     omega (arith, priorities-few),
@@ -162,7 +190,7 @@ module _ (b msgs : List ℕ) (size : length b ≡ stateWords) (R : Ranges b msgs
       (
         omega (arith, objects-few semaphore),
         omega (arith, objects-few flag),
-        (omega (arith, objects-few flag), omega (arith, objects-few mailbox), (omega (arith, objects-few mailbox), omega (arith, objects-few pool), tt)),
+        (omega (arith, objects-few flag), omega (arith, objects-few mailbox), (omega (arith, objects-few mailbox), omega (arith, pools-few), tt)),
       ),
     ),
   )
@@ -256,8 +284,8 @@ module _ (b msgs : List ℕ) (size : length b ≡ stateWords) (R : Ranges b msgs
   homes : (r : Rings) → Homes (idsShown b r) (anchorsOf (rangesOf b r)) (InRings (storeShown b msgs) r) (belongsAt (bodyShown b msgs)) (homeOf (bodyShown b msgs) r)
   unfolding bodyShown
   homes r = record {
-    anchored = λ a s. omega (arith, first-behind r, rising-from (first r) (rangesOf b r) (rising r) a s);
-    apart = rising-distinct (first r) (rangesOf b r) (rising r);
+    anchored = λ a s. omega (arith, first-behind r, rising-from (nextOf r .width) (first r) (rangesOf b r) (rising r) a s);
+    apart = rising-distinct (nextOf r .width) (first r) (rangesOf b r) (rising r);
     to = λ q h. subst (λ (x : Rings). Stands (anchor q) (anchorsOf (rangesOf b x))) (h .1) (to-anchor q (h .0));
     from = from-anchor r;
     one = λ q p h k e.
@@ -311,11 +339,42 @@ module _ (b msgs : List ℕ) (size : length b ≡ stateWords) (R : Ranges b msgs
   columns-long Messages = words-length (prevOf Messages) b size refl ∙ sym (words-length (nextOf Messages) b size refl)
   columns-long Blocks = words-length (prevOf Blocks) b size refl ∙ sym (words-length (nextOf Blocks) b size refl)
 
+  -- one that has no home has none as the survey is told it, and one that has one has the same
+  none-is : (r : Rings) (i : ℕ) → In i (idsShown b r) → eqb (ownIn b msgs r i) 0 ≡ eqb (homeIn b msgs r i) 0
+  none-is Tasks i h = refl
+  none-is Messages j h = go (eqb (of msgs j 0) 0) refl (subst (LiesWell (many b Layout.mailboxes)) (message-is b msgs j h) (message-well j h))
+    where
+      go : (t : Bool) → eqb (of msgs j 0) 0 ≡ t → LiesWell (many b Layout.mailboxes) (cond t none (some (of msgs j 0))) → t ≡ eqb (cond t 0 (mailAnchor (of msgs j 0))) 0
+      go true e k = refl
+      go false e k = rw (le-leb (of msgs j 0) maxObjects (omega (arith, k .1, objects-few mailbox))) (sym (ne-eqb (mailNode (of msgs j 0)) 0 (λ z. omega (arith, z))))
+  none-is Blocks x h = refl
+
+  own-is : (r : Rings) (a i : ℕ) → Stands a (anchorsOf (rangesOf b r)) → In i (idsShown b r) → (ownIn b msgs r i ≡ a - shiftOf r) ↔ (homeIn b msgs r i ≡ a)
+  own-is Tasks a i s h = ((λ e. omega (arith, e)), λ e. omega (arith, e))
+  own-is Messages a j s h = go (eqb (of msgs j 0) 0) refl (anchor-range a (rangesOf b Messages) s)
+    where
+      go : (t : Bool) → eqb (of msgs j 0) 0 ≡ t → InRange a (rangesOf b Messages) → (of msgs j 0 ≡ a - mailNode 0) ↔ (cond t 0 (mailAnchor (of msgs j 0)) ≡ a)
+      go true e (inl k) = ((λ z. absurd (omega (arith, z, eqb-true (of msgs j 0) 0 e, k .0))), λ z. absurd (omega (arith, z, k .0)))
+      go false e (inl k) = (
+        (λ z. rw (le-leb (of msgs j 0) maxObjects (omega (arith, z, k .1, objects-few mailbox))) (omega (arith, z, k .0))),
+        λ z. back (leb (of msgs j 0) maxObjects) z,
+      )
+        where
+          back : (t : Bool) → cond t (mailNode (of msgs j 0)) 0 ≡ a → of msgs j 0 ≡ a - mailNode 0
+          back true z = omega (arith, z)
+          back false z = absurd (omega (arith, z, k .0))
+      go t e (inr k) = absurd k
+  own-is Blocks a x s h = ((λ e. omega (arith, e)), λ e. omega (arith, e))
+
   nodes-law : (r : Rings) → Decides (queuedIn b msgs r) (WholeRings b msgs r × NodesKept r)
-  unfolding queuedIn atHome
-  nodes-law r = rw (ids-are r) (Laws.queued-law (idsShown b r) (suc maxMessages) (first r) (words (linksOf r) b) (words (nextOf r) b) (words (prevOf r) b) (rangesOf b r) (ids-few r) (nexts-links b size r) (prevs-links b size r)
-      (columns-long r) (rising r) (InRings (storeShown b msgs) r) (belongsAt (bodyShown b msgs)) (homeOf (bodyShown b msgs) r) (homes r) (homeIn b msgs r) (home-is r)
-      (Used (storeShown b msgs) r) (λ a u. (u .place, (u .there, u .among), u .here)) (λ q u. record { place = q; there = u .0; among = u .1; here = refl }))
+  unfolding queuedIn
+  nodes-law r = Laws.queued-law (idsShown b r) (first r) (shiftOf r) (words (linksOf r) b) (homesIn b msgs r) (words (nextOf r) b) (words (prevOf r) b) (rangesOf b r)
+      (homes-many r) (omega (arith, ids-small r)) (rw (nodes-are r) (ids-nodes r)) (shift-small r) (nexts-links b size r) (prevs-links b size r) (columns-long r)
+      (subst (λ (top : ℕ). Rising top (first r) (rangesOf b r)) (sym (nodes-are r)) (rising r))
+      (InRings (storeShown b msgs) r) (belongsAt (bodyShown b msgs)) (homeOf (bodyShown b msgs) r) (homes r) (homeIn b msgs r) (home-is r)
+      (λ i h. ap (λ (x : ℕ). eqb x 0) (homes-at r i h) ∙ none-is r i h)
+      (λ a i s h. let k = own-is r a i s h in ((λ e. k .0 (sym (homes-at r i h) ∙ e)), λ e. homes-at r i h ∙ k .1 e))
+      (Used (storeShown b msgs) r) (λ a u. (u .place, (u .there, u .among), u .here)) (λ q u. record { place = q; there = u .0; among = u .1; here = refl })
 
   -- ---- the lines shown
 

@@ -1,18 +1,18 @@
 -- Queues: each task, message and free block stands where it belongs, once, and nowhere else, for any words.
-use mathlib.Core.Bool.{Bool, cond, _&&_, _||_}
-use mathlib.Core.List.{List, [], _∷_}
-use Prim.Native.Nat.{ℕ, suc, pred, _*_, _/_, _%_, _^_}
+use mathlib.Core.Bool.{Bool, cond, _||_}
+use mathlib.Core.List.{List, [], _∷_, map}
+use mathlib.Core.Path.{_≡_}
+use Prim.Native.Nat.{ℕ, suc, pred, _+_, _*_, _/_, _%_, _^_, _<_}
 use lib.Dec.{eqb, leb}
-use lib.ListN.{getD, replicate}
-use Rattle.rules.specs.Ids.{of}
-use Rattle.memory_rings.specs.Links.{nexts}
-use Rattle.check_links.specs.Survey.{Survey, passed, ranged, loose}
+use lib.ListN.{getD}
+use Rattle.rules.specs.Ids.{of, ids}
+use Rattle.check_links.specs.Survey.{ranged, budget}
 use Rattle.memory_columns.specs.declared.Rings.{Rings}
 use Rattle.memory_columns.specs.declared.Rings.the-variants.{Tasks, Messages, Blocks}
 use Rattle.memory_columns.specs.Layout as Layout
-use Rattle.memory_columns.specs.Layout.{maxMessages, maxPools, maxBlocks, readyNode, waitNode, mailNode, freeNode, linksOf, words, entry, atMost}
+use Rattle.memory_columns.specs.Layout.{maxTasks, maxMessages, maxPools, maxBlocks, readyNode, waitNode, mailNode, freeNode, linksOf, words, entry, atMost}
 use Rattle.memory_queues.specs.Moves.{readyAnchor, waitAnchor, mailAnchor, freeAnchor}
-use Rattle.check_ranges.specs.Ranges.{every, many}
+use Rattle.check_ranges.specs.Ranges.{many}
 
 -- ---- homes: the anchor of the queue to which one belongs, 0 if to none; numbers out of range have been refused
 
@@ -48,10 +48,44 @@ idsIn b Tasks = many b Layout.tasks
 idsIn b Messages = many b Layout.messages
 idsIn b Blocks = maxBlocks * atMost (many b Layout.pools) maxPools
 
--- the ranges of anchors (the first, and how many) surveyed one after the other
-unfoldable pub ranges : ℕ → List ℕ → List (ℕ × ℕ) → List ℕ → Survey
-ranges n l [] m = passed m
-ranges n l (r ∷ rs) m = cond (ranged n l (r .0) (r .1) m .ok) (ranges n l rs (ranged n l (r .0) (r .1) m .marks)) (ranged n l (r .0) (r .1) m)
+-- those whose homes are known; a count out of range gives none
+abbrev pub countIn : List ℕ → Rings → ℕ
+countIn b Tasks = atMost (idsIn b Tasks) maxTasks
+countIn b Messages = atMost (idsIn b Messages) maxMessages
+countIn b Blocks = idsIn b Blocks
+
+-- the home as the survey is told it: of a message it is the number of its mailbox
+abbrev pub ownIn : List ℕ → List ℕ → Rings → ℕ → ℕ
+ownIn b msgs Tasks i = home b i
+ownIn b msgs Messages j = of msgs j 0
+ownIn b msgs Blocks x = blockHome b x
+
+abbrev pub homesIn : List ℕ → List ℕ → Rings → List ℕ
+homesIn b msgs r = map (ownIn b msgs r) (ids (countIn b r))
+
+-- l has the homes of the ids 1 to n
+pub record Laid (f : ℕ → ℕ) (n : ℕ) (l : List ℕ) : Type 0 where
+  pub home : (j : ℕ) → j < n → getD l j 0 ≡ f (suc j)
+
+-- of the block of a bit of a pool's mask
+abbrev pub bitHome : ℕ → ℕ → ℕ → ℕ
+bitHome mask a k = cond (eqb ((mask / 2 ^ k) % 2) 1) a 0
+
+-- l′ is l with the homes of the blocks of one pool, from p on
+pub record PoolLaid (mask a p : ℕ) (l l′ : List ℕ) : Type 0 where
+  pub new : (k : ℕ) → k < maxBlocks → getD l′ (p + k) 0 ≡ bitHome mask a k
+  pub old : (j : ℕ) → j < p → getD l′ j 0 ≡ getD l j 0
+
+-- by how much the anchor is larger
+abbrev pub shiftOf : Rings → ℕ
+shiftOf Tasks = 0
+shiftOf Messages = mailNode 0
+shiftOf Blocks = 0
+
+-- the ranges of anchors (the first, and how many) surveyed one after the other: what they leave of a budget
+unfoldable pub ranges : List ℕ → List ℕ → ℕ → List (ℕ × ℕ) → ℕ → ℕ
+ranges l hs s [] k = k
+ranges l hs s (r ∷ rs) k = ranges l hs s rs (ranged l hs s (r .0) (r .1) k)
 
 -- ready queues, and wait queues by kind; mailboxes; pools
 abbrev pub rangesOf : List ℕ → Rings → List (ℕ × ℕ)
@@ -61,16 +95,12 @@ rangesOf b Tasks =
 rangesOf b Messages = (mailNode 1, many b Layout.mailboxes) ∷ []
 rangesOf b Blocks = (freeNode 1, many b Layout.pools) ∷ []
 
-abbrev pub rangesIn : List ℕ → Rings → List ℕ → Survey
-rangesIn b r m = ranges (idsIn b r) (words (linksOf r) b) (rangesOf b r) m
+abbrev pub rangesIn : List ℕ → Rings → List ℕ → ℕ → ℕ
+rangesIn b r hs k = ranges (words (linksOf r) b) hs (shiftOf r) (rangesOf b r) k
 
--- from fresh marks, one for each id of a sort and one unused
-abbrev pub surveyIn : List ℕ → Rings → Survey
-surveyIn b r = rangesIn b r (replicate (suc maxMessages) 0)
-
--- id i is marked with the anchor of the queue to which it belongs
-unfoldable pub atHome : List ℕ → List ℕ → Rings → List ℕ → ℕ → Bool
-atHome b msgs r m i = eqb (getD m i 0) (homeIn b msgs r i)
+-- the survey meets every id that has a home, and as many are linked
+abbrev pub settled : List ℕ → Rings → List ℕ → Bool
+settled b r hs = eqb (rangesIn b r hs (budget (words (linksOf r) b) hs)) 1
 
 unfoldable pub queuedIn : List ℕ → List ℕ → Rings → Bool
-queuedIn b msgs r = surveyIn b r .ok && (loose (idsIn b r) (nexts (words (linksOf r) b)) (surveyIn b r .marks) && every (idsIn b r) 1 (atHome b msgs r (surveyIn b r .marks)))
+queuedIn b msgs r = settled b r (homesIn b msgs r)

@@ -1,5 +1,6 @@
 // The second part of the check of a memory: each task, message and free block stands where it belongs, once, and nowhere else. Each ring is walked
-// once. One set of functions serves the rings of every sort.
+// once. One set of functions serves the rings of every sort, told the home of each id.
+use check_links::budget;
 use memory_columns::FIRST_FLAG;
 use memory_columns::FIRST_FREE;
 use memory_columns::FIRST_MAIL;
@@ -10,7 +11,9 @@ use memory_columns::FIRST_SEMAPHORE;
 use memory_columns::FLAGS;
 use memory_columns::MAILBOXES;
 use memory_columns::MAX_BLOCKS;
+use memory_columns::MAX_MESSAGES;
 use memory_columns::MAX_POOLS;
+use memory_columns::MAX_TASKS;
 use memory_columns::MESSAGE_WORDS;
 use memory_columns::MESSAGES;
 use memory_columns::POOLS;
@@ -30,23 +33,25 @@ use memory_columns::object;
 use memory_columns::priority;
 use memory_columns::status;
 use memory_columns::system;
-use memory_objects::marks::mark_of;
 use memory_queues::free_anchor;
 use memory_queues::links;
-use memory_queues::mail_anchor;
 use memory_queues::ready_anchor;
 use memory_queues::wait_anchor;
 ghost use mathlib.Core.Path.{_≡_};
-ghost use lib.ListN.{getD};
-ghost use Rattle.memory_columns.specs.declared.Rings.the-variants.{Tasks};
+ghost use mathlib.Core.List.{[]};
+ghost use Prim.Native.Nat.{_+_, _*_, _≤_, _<_};
+ghost use lib.ListN.{length};
+ghost use Rattle.memory_columns.specs.declared.Rings.the-variants.{Tasks, Messages, Blocks};
 ghost use Rattle.check_links.specs.Survey.{ranged};
-ghost use Rattle.memory_columns.specs.Layout.{linksOf};
+ghost use Rattle.memory_columns.specs.Layout.{maxPools, maxBlocks, linksOf};
 ghost use Rattle.memory_columns.specs.Layout.{words as wordsOf};
-ghost use Rattle.check_ranges.specs.Ranges.{every, many};
+ghost use Rattle.check_ranges.specs.Ranges.{many};
 ghost use Rattle.check_queues.specs.Queues as Queues;
 
-// A mark for each id of a sort; entry 0 is unused.
-const MARKS: usize = 257;
+// The most tasks, and the most blocks of all pools.
+const TASK_HOMES: usize = 32;
+
+const BLOCK_HOMES: usize = 256;
 
 // ---- homes: the anchor of the queue to which one belongs, 0 if to none
 
@@ -78,13 +83,6 @@ pub fn home(words: &[u32; STATE_WORDS], t: u32) -> u32
     0
 }
 
-// Of a message, by its mark, the number of a mailbox.
-fn mail_home(mark: u32) -> u32
-    ensures { λ r. ⌜ r ≡ Queues.markAnchor mark ⌝ }
-{
-    if mark == 0 { 0 } else { mail_anchor(mark) }
-}
-
 // Of the block of a node, by its mark: it is free.
 pub fn block_home(words: &[u32; STATE_WORDS], x: u32) -> u32
     ensures { λ r. ⌜ r ≡ Queues.blockHome (now (words .entry)) x ⌝ }
@@ -97,17 +95,6 @@ pub fn block_home(words: &[u32; STATE_WORDS], x: u32) -> u32
         return free_anchor(p);
     }
     0
-}
-
-// Of an id of a sort.
-fn home_of(words: &[u32; STATE_WORDS], messages: &[u32; MESSAGE_WORDS], rings: Rings, i: u32) -> u32
-    ensures { λ r. ⌜ r ≡ Queues.homeIn (now (words .entry)) (now (messages .entry)) rings i ⌝ }
-{
-    match rings {
-        Rings::Tasks => home(words, i),
-        Rings::Messages => mail_home(mark_of(messages, i)),
-        Rings::Blocks => block_home(words, i),
-    }
 }
 
 // ---- the rings of a sort
@@ -123,107 +110,162 @@ pub fn ids_in(words: &[u32; STATE_WORDS], rings: Rings) -> u32
     }
 }
 
-// Walks the rings of the anchors from `anchor` on, as many as the count k says, and marks each id with its ring's anchor.
+// ---- the home of each id, one after the other
+
+fn task_homes(words: &[u32; STATE_WORDS], n: u32, homes: &mut [u32])
+    requires { ⌜ n ≤ length (now homes) ⌝ }
+    ensures { λ _. ⌜ Queues.Laid (Queues.home (now (words .entry))) n (now (homes .exit)) ⌝ }
+{
+    let mut i: u32 = 0;
+    while i < n {
+        homes[i as usize] = home(words, i + 1);
+        i += 1;
+    }
+}
+
+// Of the block of a bit.
+fn bit_home(mask: u32, bit: u32, anchor: u32) -> u32
+    requires { ⌜ bit < maxBlocks ⌝ }
+    ensures { λ r. ⌜ r ≡ Queues.bitHome mask anchor bit ⌝ }
+{
+    if (mask >> bit) % 2 == 1 { anchor } else { 0 }
+}
+
+// Of the blocks of one pool, by its mask, from `at` on.
+fn pool_homes(mask: u32, anchor: u32, at: usize, homes: &mut [u32])
+    requires { ⌜ at + maxBlocks ≤ length (now homes) ⌝ }
+    ensures { λ _. ⌜ Queues.PoolLaid mask anchor at (now (homes .entry)) (now (homes .exit)) ⌝ }
+{
+    let mut k: u32 = 0;
+    while k < MAX_BLOCKS {
+        homes[at + k as usize] = bit_home(mask, k, anchor);
+        k += 1;
+    }
+}
+
+fn block_homes(words: &[u32; STATE_WORDS], pools: u32, homes: &mut [u32])
+    requires { ⌜ (pools ≤ maxPools) × (maxBlocks * pools ≤ length (now homes)) ⌝ }
+    ensures { λ _. ⌜ Queues.Laid (Queues.blockHome (now (words .entry))) (maxBlocks * pools) (now (homes .exit)) ⌝ }
+{
+    let mut p: u32 = 0;
+    while p < pools {
+        let at = (MAX_BLOCKS * p) as usize;
+        p += 1;
+        pool_homes(free(words, p), free_anchor(p), at, homes);
+    }
+}
+
+// ---- surveys; what is left of a budget
+
+// By how much the anchor is larger than the home.
+fn shift_of(rings: Rings) -> u32
+    ensures { λ r. ⌜ r ≡ Queues.shiftOf rings ⌝ }
+{
+    match rings {
+        Rings::Tasks => 0,
+        Rings::Messages => FIRST_MAIL - 1,
+        Rings::Blocks => 0,
+    }
+}
+
+// The rings of the anchors from `anchor` on, as many as the count k says.
 fn survey_queues(
     words: &[u32; STATE_WORDS],
     rings: Rings,
+    homes: &[u32],
     anchor: u32,
     k: u32,
-    marks: &mut [u32],
-) -> bool
-    ensures { λ r. ⌜ r ≡ ranged (Queues.idsIn (now (words .entry)) rings) (wordsOf (linksOf rings) (now (words .entry))) anchor (many (now (words .entry)) k) (now (marks .entry)) .ok ⌝ }
-    ensures { λ _. ⌜ now (marks .exit) ≡ ranged (Queues.idsIn (now (words .entry)) rings) (wordsOf (linksOf rings) (now (words .entry))) anchor (many (now (words .entry)) k) (now (marks .entry)) .marks ⌝ }
+    budget: u32,
+) -> u32
+    ensures { λ r. ⌜ r ≡ ranged (wordsOf (linksOf rings) (now (words .entry))) (now (homes .entry)) (Queues.shiftOf rings) anchor (many (now (words .entry)) k) budget ⌝ }
 {
     check_links::survey(
         links(words, rings),
-        ids_in(words, rings),
+        homes,
+        shift_of(rings),
         anchor,
         system(words, k),
-        marks,
+        budget,
     )
 }
 
 // All ready queues and wait queues in use.
-fn survey_tasks(words: &[u32; STATE_WORDS], marks: &mut [u32]) -> bool
-    ensures { λ r. ⌜ r ≡ Queues.rangesIn (now (words .entry)) Tasks (now (marks .entry)) .ok ⌝ }
-    ensures { λ _. ⌜ now (marks .exit) ≡ Queues.rangesIn (now (words .entry)) Tasks (now (marks .entry)) .marks ⌝ }
+fn survey_tasks(words: &[u32; STATE_WORDS], homes: &[u32], budget: u32) -> u32
+    ensures { λ r. ⌜ r ≡ Queues.rangesIn (now (words .entry)) Tasks (now (homes .entry)) budget ⌝ }
 {
-    if !survey_queues(words, Rings::Tasks, FIRST_READY, PRIORITIES, marks) {
-        return false;
-    }
-    if !survey_queues(words, Rings::Tasks, FIRST_SEMAPHORE, SEMAPHORES, marks) {
-        return false;
-    }
-    if !survey_queues(words, Rings::Tasks, FIRST_FLAG, FLAGS, marks) {
-        return false;
-    }
-    if !survey_queues(words, Rings::Tasks, FIRST_MAILBOX, MAILBOXES, marks) {
-        return false;
-    }
-    survey_queues(words, Rings::Tasks, FIRST_POOL, POOLS, marks)
+    let ready = survey_queues(words, Rings::Tasks, homes, FIRST_READY, PRIORITIES, budget);
+    let semaphores = survey_queues(
+        words,
+        Rings::Tasks,
+        homes,
+        FIRST_SEMAPHORE,
+        SEMAPHORES,
+        ready,
+    );
+    let flags = survey_queues(words, Rings::Tasks, homes, FIRST_FLAG, FLAGS, semaphores);
+    let mailboxes = survey_queues(words, Rings::Tasks, homes, FIRST_MAILBOX, MAILBOXES, flags);
+    survey_queues(words, Rings::Tasks, homes, FIRST_POOL, POOLS, mailboxes)
 }
 
-// All queues of a sort.
-fn survey_all(words: &[u32; STATE_WORDS], rings: Rings, marks: &mut [u32]) -> bool
-    ensures { λ r. ⌜ r ≡ Queues.rangesIn (now (words .entry)) rings (now (marks .entry)) .ok ⌝ }
-    ensures { λ _. ⌜ now (marks .exit) ≡ Queues.rangesIn (now (words .entry)) rings (now (marks .entry)) .marks ⌝ }
+// ---- the sorts
+
+// Whether as many are linked as have one of these homes, and all of those stand at home.
+fn tasks_settled(words: &[u32; STATE_WORDS], homes: &[u32]) -> bool
+    ensures { λ r. ⌜ r ≡ Queues.settled (now (words .entry)) Tasks (now (homes .entry)) ⌝ }
 {
-    match rings {
-        Rings::Tasks => survey_tasks(words, marks),
-        Rings::Messages => survey_queues(words, Rings::Messages, FIRST_MAIL, MAILBOXES, marks),
-        Rings::Blocks => survey_queues(words, Rings::Blocks, FIRST_FREE, POOLS, marks),
-    }
+    let all = budget(links(words, Rings::Tasks), homes);
+    survey_tasks(words, homes, all) == 1
 }
 
-fn mark_at(marks: &[u32], i: u32) -> u32
-    ensures { λ r. ⌜ r ≡ getD (now (marks .entry)) i 0 ⌝ }
+fn mail_settled(words: &[u32; STATE_WORDS], homes: &[u32]) -> bool
+    ensures { λ r. ⌜ r ≡ Queues.settled (now (words .entry)) Messages (now (homes .entry)) ⌝ }
 {
-    let k = i as usize;
-    if k < marks.len() { marks[k] } else { 0 }
+    let all = budget(links(words, Rings::Messages), homes);
+    survey_queues(words, Rings::Messages, homes, FIRST_MAIL, MAILBOXES, all) == 1
 }
 
-// Id i is marked with the anchor of the queue to which it belongs.
-fn home_ok(
-    words: &[u32; STATE_WORDS],
-    messages: &[u32; MESSAGE_WORDS],
-    rings: Rings,
-    marks: &[u32],
-    i: u32,
-) -> bool
-    ensures { λ r. ⌜ r ≡ Queues.atHome (now (words .entry)) (now (messages .entry)) rings (now (marks .entry)) i ⌝ }
+fn blocks_settled(words: &[u32; STATE_WORDS], homes: &[u32]) -> bool
+    ensures { λ r. ⌜ r ≡ Queues.settled (now (words .entry)) Blocks (now (homes .entry)) ⌝ }
 {
-    mark_at(marks, i) == home_of(words, messages, rings, i)
+    let all = budget(links(words, Rings::Blocks), homes);
+    survey_queues(words, Rings::Blocks, homes, FIRST_FREE, POOLS, all) == 1
 }
 
-fn homes_ok(
-    words: &[u32; STATE_WORDS],
-    messages: &[u32; MESSAGE_WORDS],
-    rings: Rings,
-    marks: &[u32],
-    n: u32,
-) -> bool
-    ensures { λ r. ⌜ r ≡ every n 1 (Queues.atHome (now (words .entry)) (now (messages .entry)) rings (now (marks .entry))) ⌝ }
+fn tasks_queued(words: &[u32; STATE_WORDS]) -> bool
+    ensures { λ r. ⌜ r ≡ Queues.queuedIn (now (words .entry)) [] Tasks ⌝ }
 {
-    let mut i: u32 = 0;
-    while i < n {
-        i += 1;
-        if !home_ok(words, messages, rings, marks, i) {
-            return false;
-        }
-    }
-    true
+    let mut homes = [0u32; TASK_HOMES];
+    let n = at_most(ids_in(words, Rings::Tasks), MAX_TASKS);
+    task_homes(words, n, &mut homes);
+    let e = n as usize;
+    tasks_settled(words, &homes[..e])
+}
+
+fn mail_queued(words: &[u32; STATE_WORDS], messages: &[u32; MESSAGE_WORDS]) -> bool
+    ensures { λ r. ⌜ r ≡ Queues.queuedIn (now (words .entry)) (now (messages .entry)) Messages ⌝ }
+{
+    let all = &messages[..];
+    let n = at_most(ids_in(words, Rings::Messages), MAX_MESSAGES) as usize;
+    mail_settled(words, &all[..n])
+}
+
+fn blocks_queued(words: &[u32; STATE_WORDS]) -> bool
+    ensures { λ r. ⌜ r ≡ Queues.queuedIn (now (words .entry)) [] Blocks ⌝ }
+{
+    let mut homes = [0u32; BLOCK_HOMES];
+    let pools = at_most(system(words, POOLS), MAX_POOLS);
+    block_homes(words, pools, &mut homes);
+    let e = (MAX_BLOCKS * pools) as usize;
+    blocks_settled(words, &homes[..e])
 }
 
 // Whether each of a sort stands where it belongs, once, and nowhere else.
 pub fn queued(words: &[u32; STATE_WORDS], messages: &[u32; MESSAGE_WORDS], rings: Rings) -> bool
     ensures { λ r. ⌜ r ≡ Queues.queuedIn (now (words .entry)) (now (messages .entry)) rings ⌝ }
 {
-    let mut marks = [0u32; MARKS];
-    if !survey_all(words, rings, &mut marks) {
-        return false;
+    match rings {
+        Rings::Tasks => tasks_queued(words),
+        Rings::Messages => mail_queued(words, messages),
+        Rings::Blocks => blocks_queued(words),
     }
-    if !check_links::loose(links(words, rings), ids_in(words, rings), &marks) {
-        return false;
-    }
-    homes_ok(words, messages, rings, &marks, ids_in(words, rings))
 }

@@ -1,6 +1,6 @@
 -- A memory with another clock written is accepted still, and shows what it showed but for the clock. Assumes nothing.
 use mathlib.Core.Bool.{true, cond}
-use mathlib.Core.List.{List}
+use mathlib.Core.List.{List, map}
 use mathlib.Core.Path.{_≡_, refl, ap, _∙_}
 use Prim.Native.Nat.{ℕ, zero, suc, pred, _/_, _%_, _^_, _<_}
 use native.Mathlib.Omega.{arith}
@@ -9,19 +9,23 @@ use lib.Dec.{eqb, ltb}
 use lib.ListN.{length, getD, set, length-set}
 use lib.Seq.{getD-set-same, getD-set-other}
 use borrow.Author.Tests.{ltb-true, lt-ltb}
+use Rattle.rules.specs.Ids.{of, ids}
 use Rattle.rules.specs.Places.{tabulate}
 use Rattle.rules_examples.specs.BenchSheet.{at-clock}
 use Rattle.memory_rings.specs.Links.{firstOf}
 use Rattle.memory_rings.proofs.Columns.{col-store, length-store}
+use Rattle.memory_columns.specs.declared.Rings.{Rings}
+use Rattle.memory_columns.specs.declared.Rings.the-variants.{Tasks, Messages, Blocks}
 use Rattle.memory_columns.specs.Layout as Layout
-use Rattle.memory_columns.specs.Layout.{words, entry}
+use Rattle.memory_columns.specs.Layout.{linksOf, words, entry}
 use Rattle.memory_columns.proofs.Frame.{words-length}
 use Rattle.memory_queues.specs.Moves.{readyAnchor}
 use Rattle.memory_running.specs.Running.{headAt, marksOf, readyMarks}
 use Rattle.memory_picture.specs.Picture.{taskShown, storeShown, handlersShown, alarmShown, counterShown, bodyShown, lineShown, viewShown, Accepted}
 use Rattle.memory_picture.proofs.FormWords.{back-clock}
 use Rattle.check_ranges.specs.Ranges.{sizesOk, presentOk, vacantOk, taskOk, waitOk, stateOk, semaphoreOk, flagOk, poolOk, messageOk, openOk, interruptedOk, alarmOk, countOk, rangesOk}
-use Rattle.check_queues.specs.Queues.{home, blockHome, atHome, queuedIn}
+use Rattle.check_links.specs.Survey.{budget}
+use Rattle.check_queues.specs.Queues.{home, blockHome, countIn, homesIn, shiftOf, ranges, rangesOf, queuedIn}
 use Rattle.check_state.specs.Unserved.{waitFree, unservedOk, accepts}
 use Rattle.check_state.proofs.Accepted.{accepts-law}
 use Rattle.kernel_demands.specs.Demands.{clockSet}
@@ -77,10 +81,43 @@ module _ {b m : List ℕ} (A : Accepted b m) (t : ℕ) where
     unfolding readyMarks
     ready = simp (marks-kept, col-store, counts)
 
+    -- nor do the homes and the queues move
+    home-kept : (i : ℕ) → home (clockSet t b) i ≡ home b i
+    unfolding home
+    home-kept i = simp col-store
+
+    block-kept : (x : ℕ) → blockHome (clockSet t b) x ≡ blockHome b x
+    unfolding blockHome
+    block-kept x = simp col-store
+
+    count-kept : (r : Rings) → countIn (clockSet t b) r ≡ countIn b r
+    count-kept Tasks = simp (col-store, counts)
+    count-kept Messages = simp (col-store, counts)
+    count-kept Blocks = simp (col-store, counts)
+
+    homes-kept : (r : Rings) → homesIn (clockSet t b) m r ≡ homesIn b m r
+    homes-kept Tasks = λ z. map (λ i. home-kept i z) (ids (count-kept Tasks z))
+    homes-kept Messages = λ z. map (λ j. of m j 0) (ids (count-kept Messages z))
+    homes-kept Blocks = λ z. map (λ x. block-kept x z) (ids (count-kept Blocks z))
+
+    links-kept : (r : Rings) → words (linksOf r) (clockSet t b) ≡ words (linksOf r) b
+    links-kept Tasks = simp col-store
+    links-kept Messages = simp col-store
+    links-kept Blocks = simp col-store
+
+    ranges-kept : (r : Rings) → rangesOf (clockSet t b) r ≡ rangesOf b r
+    ranges-kept Tasks = simp (col-store, counts)
+    ranges-kept Messages = simp (col-store, counts)
+    ranges-kept Blocks = simp (col-store, counts)
+
+    queues-kept : (r : Rings) → queuedIn (clockSet t b) m r ≡ queuedIn b m r
+    unfolding queuedIn
+    queues-kept r = λ z. eqb (ranges (links-kept r z) (homes-kept r z) (shiftOf r) (ranges-kept r z) (budget (links-kept r z) (homes-kept r z))) 1
+
     -- no other test reads the clock
     tests : accepts (clockSet t b) m ≡ accepts b m
-    unfolding accepts rangesOk queuedIn presentOk vacantOk taskOk stateOk waitOk poolOk openOk interruptedOk alarmOk countOk atHome home blockHome unservedOk waitFree
-    tests = simp (sizes, ready, col-store, counts, presentOk, vacantOk, taskOk, semaphoreOk, flagOk, poolOk, messageOk, alarmOk, atHome, unservedOk)
+    unfolding accepts rangesOk presentOk vacantOk taskOk stateOk waitOk poolOk openOk interruptedOk alarmOk countOk unservedOk waitFree
+    tests = simp (sizes, ready, queues-kept, col-store, counts, presentOk, vacantOk, taskOk, semaphoreOk, flagOk, poolOk, messageOk, alarmOk, unservedOk)
 
     pub clock-accepted : Accepted (clockSet t b) m
     clock-accepted = accepts-law (clockSet t b) m (simp length-store (A .whole .size)) (A .whole .marks) .0 (tests ∙ accepts-law b m (A .whole .size) (A .whole .marks) .1 A)

@@ -1,69 +1,64 @@
 -- `check_links::tour` meets its contract. The invariant: what is left of the tour from here is the whole tour. Assumes nothing.
 use mathlib.Core.Path.{_≡_, refl, _∙_}
-use lib.ListN.{length}
-use Prim.Native.Nat.{suc}
-use borrow.Author.Tests.{not-true, not-false}
-use native.Mathlib.Numerals.{add-one}
-use Rattle.check_links.proofs.Steps.{told, tour-turned, tour-closed, tour-taken, tour-on, tour-spent}
-use Rattle.check_links.specs.Survey.{toured}
-use Rattle.memory_rings.specs.Links.{nexts, prevs}
+use Prim.Native.Nat.{_<_}
+use native.Mathlib.Omega.{arith}
+use Rattle.check_links.proofs.Steps.{node, tour-strays, tour-open, tour-closed, tour-turned, tour-on, tour-spent}
+use Rattle.check_links.specs.Survey.{belongs, toured}
+use Rattle.memory_rings.specs.Links.{half, nexts, prevs}
 use borrow.Author.Needs.{needs}
 use Rattle.check_links.proofs.tour.Statement.{statement}
 use Rattle.check_links.proofs.tour.Tie as tie
 
 abbrev Inv-loop : tie.InvT-loop
-Inv-loop links n a marks₀ x₀ k₀ marks x k =
-    (toured k n (nexts links) (prevs links) a x marks ≡ toured (suc n) n (nexts links) (prevs links) a a marks₀)
-    × (length marks ≡ length marks₀)
+Inv-loop links homes v a budget x₀ k₀ x k =
+    (toured k (belongs homes v) (nexts links) (prevs links) a x ≡ toured budget (belongs homes v) (nexts links) (prevs links) a a)
+    × (x < half links)
 
 abbrev μ-loop : tie.MeasureT-loop
-μ-loop links n a marks₀ x₀ k₀ marks x k = k
-
-add-k : tie.Need-add-k Inv-loop μ-loop
-add-k c = search needs
+μ-loop links homes v a budget x₀ k₀ x k = k
 
 loop-holds : tie.Need-loop-holds Inv-loop μ-loop
-loop-holds c = (rw add-one, refl)
+loop-holds c = (refl, c .before .before .pre .1)
 
 next-requires : tie.Need-next-requires Inv-loop μ-loop
 next-requires c κs = search needs
 
-prev-requires : tie.Need-prev-requires Inv-loop μ-loop
-prev-requires c κs = search needs
-
-same-length : tie.Need-same-length Inv-loop μ-loop
-same-length c = search needs
+homed-requires : tie.Need-homed-requires Inv-loop μ-loop
+homed-requires c κs = search needs
 
 returns : tie.Need-returns Inv-loop μ-loop
 returns c =
-    let r = c .before in
-    let l = r .before .before in
-    told _ _ _ (tour-turned _ _ _ _ _ _ _ _ _ (l .loop-test .taken) (r .before .next .ensures) (r .prev .ensures) (c .if1 .taken) ∙ l .before .loop .inv .0)
+    let i = c .before in
+    let h = i .before in
+    let l = h .before .before in
+    tour-strays _ _ _ _ _ _ (l .loop-test .taken) (h .before .next .ensures) (h .homed .ensures) (i .if1 .taken) (c .if2 .taken) ∙ l .before .loop .inv .0
 
-same-length-2 : tie.Need-same-length-2 Inv-loop μ-loop
-same-length-2 c = search needs
+prev-requires : tie.Need-prev-requires Inv-loop μ-loop
+prev-requires c κs = search needs
 
 returns-2 : tie.Need-returns-2 Inv-loop μ-loop
 returns-2 c =
-    let r = c .before .before in
-    let l = r .before .before in
-    told _ _ _ (tour-closed _ _ _ _ _ _ _ _ _ (l .loop-test .taken) (r .before .next .ensures) (r .prev .ensures) (c .before .if1 .left) (c .if2 .taken) ∙ l .before .loop .inv .0)
-
-claim-requires : tie.Need-claim-requires Inv-loop μ-loop
-claim-requires c κs = search needs
-
-same-length-3 : tie.Need-same-length-3 Inv-loop μ-loop
-same-length-3 c = search needs
+    let i = c .before .before .before in
+    let h = i .before in
+    let l = h .before .before in
+    tour-open _ _ _ _ _ _ (l .loop-test .taken) (h .before .next .ensures) (h .homed .ensures) (i .if1 .taken) (c .before .before .if2 .left) (c .before .prev .ensures) (c .if3 .taken) ∙ l .before .loop .inv .0
 
 returns-3 : tie.Need-returns-3 Inv-loop μ-loop
 returns-3 c =
-    let d = c .before .before .before in
-    let e = d .before .before in
-    let r = e .before .before in
-    let l = r .before .before in
-    told _ _ _
-    (tour-taken _ _ _ _ _ _ _ _ _ (l .loop-test .taken) (r .before .next .ensures) (r .prev .ensures) (e .before .if1 .left) (e .if2 .left) _ _ (d .claim .ensures .0) (d .claim .ensures .1) (not-true _ (c .if3 .taken))
-    ∙ l .before .loop .inv .0)
+    let i = c .before .before .before in
+    let h = i .before in
+    let l = h .before .before in
+    tour-closed _ _ _ _ _ _ (l .loop-test .taken) (h .before .next .ensures) (h .homed .ensures) (i .if1 .taken) (c .before .before .if2 .left) (c .before .prev .ensures) (c .if3 .left) ∙ l .before .loop .inv .0
+
+prev-requires-2 : tie.Need-prev-requires-2 Inv-loop μ-loop
+prev-requires-2 c κs = node _ _ _ (c .before .homed .ensures) (c .if1 .left) (c .before .before .before .before .before .before .before .pre .0)
+
+returns-4 : tie.Need-returns-4 Inv-loop μ-loop
+returns-4 c =
+    let i = c .before .before in
+    let h = i .before in
+    let l = h .before .before in
+    tour-turned _ _ _ _ _ _ (l .loop-test .taken) (h .before .next .ensures) (h .homed .ensures) (i .if1 .left) (c .before .prev2 .ensures) (c .if4 .taken) ∙ l .before .loop .inv .0
 
 sub-k : tie.Need-sub-k Inv-loop μ-loop
 sub-k c = search needs
@@ -73,20 +68,15 @@ loop-less c = search needs
 
 loop-again : tie.Need-loop-again Inv-loop μ-loop
 loop-again c =
-    let d = c .before .before .before in
-    let e = d .before .before in
-    let r = e .before .before in
-    let l = r .before .before in (
-      tour-on _ _ _ _ _ _ _ _ _ (l .loop-test .taken) (r .before .next .ensures) (r .prev .ensures) (e .before .if1 .left) (e .if2 .left) _ _ (d .claim .ensures .0) (d .claim .ensures .1) (not-false _ (c .if3 .left))
-          ∙ l .before .loop .inv .0,
-      search needs,
+    let i = c .before .before in
+    let h = i .before in
+    let l = h .before .before in (
+      tour-on _ _ _ _ _ _ (l .loop-test .taken) (h .before .next .ensures) (h .homed .ensures) (i .if1 .left) (c .before .prev2 .ensures) (c .if4 .left) ∙ l .before .loop .inv .0,
+      node _ _ _ (h .homed .ensures) (i .if1 .left) (l .before .before .before .before .pre .0),
     )
 
-same-length-4 : tie.Need-same-length-4 Inv-loop μ-loop
-same-length-4 c = search needs
-
-returns-4 : tie.Need-returns-4 Inv-loop μ-loop
-returns-4 c = told _ _ _ (tour-spent _ _ _ _ _ _ _ (c .loop-test .left) ∙ c .before .loop .inv .0)
+returns-5 : tie.Need-returns-5 Inv-loop μ-loop
+returns-5 c = tour-spent _ _ _ _ _ _ (c .loop-test .left) ∙ c .before .loop .inv .0
 
 pub tour-spec : {M : Type 1} → statement M
 tour-spec =
@@ -94,19 +84,16 @@ tour-spec =
     (tie.spec
     Inv-loop
     μ-loop
-    add-k
     loop-holds
     next-requires
-    prev-requires
-    same-length
+    homed-requires
     returns
-    same-length-2
+    prev-requires
     returns-2
-    claim-requires
-    same-length-3
     returns-3
+    prev-requires-2
+    returns-4
     sub-k
     loop-less
     loop-again
-    same-length-4
-    returns-4)
+    returns-5)

@@ -1,0 +1,66 @@
+-- `check_queues::blocks_queued` meets its contract. The homes laid are those of the definition. Assumes nothing.
+use mathlib.Core.Path.{sym, ap, _∙_}
+use mathlib.Core.List.{map}
+use Prim.Native.Nat.{ℕ, _*_}
+use denote.Ref.{now}
+use lib.Seq.{length-take-le}
+use Rattle.rules.specs.Ids.{ids}
+use Rattle.memory_columns.specs.declared.Rings.the-variants.{Blocks}
+use Rattle.memory_columns.specs.Layout.{maxPools, maxBlocks, atMost}
+use Rattle.check_queues.specs.Queues.{blockHome, settled, queuedIn}
+use Rattle.check_queues.proofs.Steps.{laid-is}
+use borrow.Author.Needs.{needs}
+use Rattle.check_queues.proofs.blocks_queued.Statement.{statement}
+use Rattle.check_queues.proofs.blocks_queued.Tie as tie
+
+system-requires : tie.Need-system-requires
+system-requires c κs = search needs
+
+at-most-requires : tie.Need-at-most-requires
+at-most-requires c κs = search needs
+
+slice-aggregate-block-homes : tie.Need-slice-aggregate-block-homes
+slice-aggregate-block-homes c = search needs
+
+block-homes-requires : tie.Need-block-homes-requires
+block-homes-requires c κs = search needs
+
+mul-e : tie.Need-mul-e
+mul-e c = search needs
+
+cast-e : tie.Need-cast-e
+cast-e c = search needs
+
+array-share-prefix-homes : tie.Need-array-share-prefix-homes
+array-share-prefix-homes c = search needs
+
+slice-aggregate-blocks-settled : tie.Need-slice-aggregate-blocks-settled
+slice-aggregate-blocks-settled c = sym (length-take-le _ _ (search needs))
+
+blocks-settled-requires : tie.Need-blocks-settled-requires
+blocks-settled-requires c κs = search needs
+
+returns : tie.Need-returns
+unfolding queuedIn
+returns c =
+    let h = c .before .before .before in
+    let n = h .before .before in
+    let b = now (n .before .before .args .words) in
+    c .blocks-settled .ensures
+    ∙ ap (settled b Blocks)
+    (laid-is _ _ _ (search needs) (h .block-homes .ensures) ∙ ap (λ (k : ℕ). map (blockHome b) (ids (maxBlocks * k))) (n .at-most .ensures .0 ∙ ap (λ (k : ℕ). atMost k maxPools) (n .before .system .ensures)))
+
+pub blocks-queued-spec : {M : Type 1} → statement M
+blocks-queued-spec =
+    tie.close
+    (tie.spec
+    system-requires
+    at-most-requires
+    slice-aggregate-block-homes
+    block-homes-requires
+    mul-e
+    cast-e
+    array-share-prefix-homes
+    slice-aggregate-blocks-settled
+    blocks-settled-requires
+    returns)

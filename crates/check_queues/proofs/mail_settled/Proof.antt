@@ -1,0 +1,28 @@
+-- `check_queues::mail_settled` meets its contract. The survey from the budget of all. Assumes nothing.
+use denote.Ref.{now}
+use Rattle.memory_columns.specs.declared.Rings.the-variants.{Messages}
+use Rattle.check_queues.specs.Queues.{ranges, rangesIn}
+use Rattle.check_queues.proofs.Steps.{settled-by}
+use borrow.Author.Needs.{needs}
+use Rattle.check_queues.proofs.mail_settled.Statement.{statement}
+use Rattle.check_queues.proofs.mail_settled.Tie as tie
+
+links-requires : tie.Need-links-requires
+links-requires c κs = search needs
+
+budget-requires : tie.Need-budget-requires
+budget-requires c κs = search needs
+
+survey-queues-requires : tie.Need-survey-queues-requires
+survey-queues-requires c κs = search needs
+
+returns : tie.Need-returns
+unfolding ranges
+returns c =
+    let g = c .before in
+    let a = g .before .before .before .args in
+    settled-by _ (λ k. rangesIn (now (a .words)) Messages (now (a .homes)) k) (c .survey-queues .ensures) (g .budget .ensures) (g .before .links .ensures .0)
+
+pub mail-settled-spec : {M : Type 1} → statement M
+mail-settled-spec =
+    tie.close (tie.spec links-requires budget-requires survey-queues-requires returns)
