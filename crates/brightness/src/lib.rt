@@ -1,9 +1,11 @@
-// Brightness over the kernel: a task asks for a reading by rcv_msg (`receive`), and takes the one that its cell holds once it runs again (`resumed`).
+// Brightness over the kernel: a task asks for a reading by rcv_msg (`receive`), and takes the one that its cell holds
+// once it runs again (`resumed`).
 //
-// The kernel is used only through what its calls promise: `Step` of `call`, `Reads` of `cell` and `Runs` of `running`. A reader sees it in two
-// places. crates.txt names, of the kernel, `rules`, `kernel_events` and `kernel_cells`, which promise, and besides `memory_columns` for the
-// memory's size in the functions' types and `memory_picture` for `viewShown` and `Accepted`, the names in which `Step` speaks of a state. And
-// `grep -rho 'Rattle·[a-z_]*' crates/brightness/specs crates/brightness/proofs | sort -u` lists every crate that a statement or a proof here cites.
+// The kernel is used only through what its calls promise: `Step` of `call`, `Reads` of `cell` and `Runs` of `running`.
+// A reader sees it in two places. crates.txt names, of the kernel, `rules`, `kernel_events` and `kernel_cells`, which
+// promise, and besides `memory_columns` for the memory's size in the functions' types and `memory_picture` for
+// `viewShown` and `Accepted`, the names in which `Step` speaks of a state. And `grep -rho 'Rattle·[a-z_]*'
+// crates/brightness/specs crates/brightness/proofs | sort -u` lists every crate that a statement or a proof here cites.
 use brightness_curve::Curve;
 use brightness_curve::Judged;
 use brightness_curve::judge;
@@ -48,7 +50,8 @@ pub fn receive(
     light: Light,
     mailbox: i32,
 ) -> Shown
-    ensures { λ r. ⌜ Receives curve (now (slots .entry)) light mailbox (now (words .entry)) (now (messages .entry)) r (now (words .exit)) (now (messages .exit)) ⌝ }
+    ensures { λ r. ⌜ Receives curve (now (slots .entry)) light mailbox (now (words .entry)) (now (messages .entry)) r
+        (now (words .exit)) (now (messages .exit)) ⌝ }
 {
     match judge(curve) {
         Judged::BadPoint(point) => Shown {
@@ -63,7 +66,8 @@ pub fn receive(
     }
 }
 
-// Once the task that waits for a reading runs again: what its cell holds is taken, and the wait is over. As long as another task runs, nothing is.
+// Once the task that waits for a reading runs again: what its cell holds is taken, and the wait is over. As long as
+// another task runs, nothing is.
 pub fn resumed(
     words: &[u32; STATE_WORDS],
     messages: &[u32; 256],

@@ -1,6 +1,6 @@
-// A light: the level that a display shows, and the task that waits for a reading. What an arrival makes of it, by its code and its word: at once,
-// or in the cell at release. Any curve, any slots, any light, any code and any word are taken. This crate knows nothing of the kernel but
-// what its codes 0 and 1 mean.
+// A light: the level that a display shows, and the task that waits for a reading. What an arrival makes of it, by its
+// code and its word: at once, or in the cell at release. Any curve, any slots, any light, any code and any word are
+// taken. This crate knows nothing of the kernel but what its codes 0 and 1 mean.
 use brightness_curve::Curve;
 use brightness_curve::Leveled;
 use brightness_curve::first_level;

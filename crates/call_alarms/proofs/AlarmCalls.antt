@@ -1,17 +1,16 @@
 -- The calls on alarms: at each return of the code the rule's verdict is what was answered and done. Assumes nothing.
-use mathlib.Core.Bool.{Bool, true, false, not}
+use mathlib.Core.Bool.{true, false, not}
 use mathlib.Core.List.{List}
-use mathlib.Core.Path.{_≡_, refl, sym, ap, _∙_}
+use mathlib.Core.Path.{_≡_, refl, ap, _∙_}
 use Prim.Native.Nat.{ℕ, zero, suc, _+_, _%_}
 use native.Mathlib.Omega.{arith}
 use lib.Dec.{eqb}
 use lib.IntN.{pos}
-use borrow.Author.Tests.{eq-eqb, ne-eqb}
-use Rattle.rules.specs.Ids.{once}
+use borrow.Author.Tests.{ne-eqb}
 use Rattle.rules.specs.Codes.{number, H-USED, H-IDLE}
 use Rattle.rules.specs.State.{unset, due, inUse, Alarm, alarmOf}
 use Rattle.rules.specs.Acts.{alarm}
-use Rattle.rules.specs.Alarms.{countFrom, set-alm, set-abs, set-rel, can-alm, alm-sts}
+use Rattle.rules.specs.Alarms.{set-alm, set-abs, set-rel, can-alm, alm-sts}
 use Rattle.memory_columns.specs.Layout as Layout
 use Rattle.memory_columns.specs.Layout.{counter, alarmCode, alarmDue, alarmPeriod, entry}
 use Rattle.memory_objects.specs.Moves.{alarmed}

@@ -1,5 +1,5 @@
 -- One alarm that fires: whether it is due, what it does to its task, and what it is set to. Assumes nothing.
-use mathlib.Core.Bool.{Bool, true, false, not, cond}
+use mathlib.Core.Bool.{Bool, true, false, not}
 use mathlib.Core.List.{List, [], _∷_, _++_}
 use mathlib.Core.Path.{_≡_, refl, sym, ap, _∙_, subst}
 use Prim.Native.Nat.{ℕ, zero, suc, _+_, _-_, _%_, _^_, _≤_, _<_}
@@ -7,24 +7,23 @@ use native.Mathlib.Numerals.{sub-one}
 use native.Mathlib.Nat.{mod-lt}
 use native.Mathlib.Omega.{arith}
 use lib.Dec.{eqb, eqb·zero-suc, eqb·suc-suc}
-use lib.IntN.{pos, natAbs}
+use lib.IntN.{natAbs}
 use lib.ListN.{length}
 use mir.Syntax.{w32}
 use mir.Val.{Fits}
 use borrow.Author.Tests.{eqb-true, eq-eqb, ne-eqb, le-leb, not-true, not-false}
 use Rattle.rules.specs.Ids.{In}
 use Rattle.rules.specs.Codes.{number, E-NOEXS, E-DMT}
-use Rattle.rules.specs.State.{Setting, unset, due, Alarm, Counter, alarmOf, Body, task, isDormant, isAbsent}
-use Rattle.rules.specs.Acts.{Act, alarm}
+use Rattle.rules.specs.State.{Alarm, Counter, alarmOf, Body, task, isDormant, isAbsent}
+use Rattle.rules.specs.Acts.{alarm}
 use Rattle.rules.specs.Releases.{releases}
-use Rattle.rules.specs.Verdicts.{Verdict, check, choose}
 use Rattle.rules.specs.Tasks.{starting, waking}
-use Rattle.rules.specs.Alarms.{fires, countFrom, again, fired, firing, rings}
+use Rattle.rules.specs.Alarms.{fires, again, fired, firing, rings}
 use Rattle.rules.proofs.Judge.{OnActs, on-acts, acts-check, acts-choose}
 use Rattle.memory_columns.specs.Layout as Layout
 use Rattle.memory_columns.specs.Layout.{counter, alarmTask, alarmWakes, alarmDue, alarmPeriod, entry, atMost}
 use Rattle.memory_objects.specs.Moves.{alarmed}
-use Rattle.memory_picture.specs.Picture.{tasksShown, settingShown, alarmShown, viewShown, Accepted}
+use Rattle.memory_picture.specs.Picture.{settingShown, alarmShown, viewShown, Accepted}
 use Rattle.memory_picture.specs.Perform.{keptNumber, dueKept, periodKept, performed}
 use Rattle.call_words.specs.declared.Outcome.{Outcome}
 use Rattle.call_words.specs.Outcomes.{outcome}
@@ -34,7 +33,7 @@ use Rattle.call_words.proofs.Verdicts.{check-stops, check-passes, choose-first,
 use Rattle.call_words.proofs.Tasks.{tasks-count, dormant-read, absent-read}
 use Rattle.call_words.proofs.Alarms.{size-shown, alarm-shown, some-size, now-shown, told-which, alarm-task, task-there}
 use Rattle.call_words.proofs.Performing.{performs-append, releases-append}
-use Rattle.call_alarms.specs.Ringing.{dueAfter, dueAgain, dueAt, Performs, PerformsOnWords}
+use Rattle.call_alarms.specs.Ringing.{dueAfter, dueAgain, dueAt, PerformsOnWords}
 
 -- ---- what it does to its task
 

@@ -6,7 +6,6 @@ use Prim.Native.Nat.{ℕ, zero, suc, _+_, _-_, _≤_, _<_}
 use native.Mathlib.Numerals.{sub-one, add-one}
 use native.Mathlib.Omega.{arith}
 use lib.ListN.{length}
-use Rattle.rules.specs.Ids.{In}
 use Rattle.rules.specs.State.{alarmOf, Body}
 use Rattle.rules.specs.Acts.{Act, afters}
 use Rattle.rules.specs.Releases.{releases}

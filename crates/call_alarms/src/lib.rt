@@ -90,7 +90,8 @@ fn set_alm(words: &mut [u32; STATE_WORDS], k: u32, due: u32, period: u32) -> Out
 
 // 36 set_abs: it is due at an absolute count.
 pub fn set_abs(words: &mut [u32; STATE_WORDS], k: u32, count: u32, period: u32) -> Outcome
-    ensures { λ r. ⌜ DoesOnWords (NamesAlarm k) (λ v. set-abs v (pos k) (pos count) (pos period)) r (now (words .entry)) (now (words .exit)) ⌝ }
+    ensures { λ r. ⌜ DoesOnWords (NamesAlarm k) (λ v. set-abs v (pos k) (pos count) (pos period)) r (now (words .entry))
+        (now (words .exit)) ⌝ }
 {
     let size = counter(words, COUNTER_SIZE);
     let due = due_after(0, count, size);
@@ -99,7 +100,8 @@ pub fn set_abs(words: &mut [u32; STATE_WORDS], k: u32, count: u32, period: u32) 
 
 // 37 set_rel: it is due so many ticks after the present count.
 pub fn set_rel(words: &mut [u32; STATE_WORDS], k: u32, count: u32, period: u32) -> Outcome
-    ensures { λ r. ⌜ DoesOnWords (NamesAlarm k) (λ v. set-rel v (pos k) (pos count) (pos period)) r (now (words .entry)) (now (words .exit)) ⌝ }
+    ensures { λ r. ⌜ DoesOnWords (NamesAlarm k) (λ v. set-rel v (pos k) (pos count) (pos period)) r (now (words .entry))
+        (now (words .exit)) ⌝ }
 {
     let present = counter(words, COUNTER_NOW);
     let size = counter(words, COUNTER_SIZE);
@@ -134,7 +136,8 @@ pub fn alm_sts(words: &[u32; STATE_WORDS], k: u32) -> Outcome
 
 // Alarm k starts or wakes its task as a handler would.
 fn strike(words: &mut [u32; STATE_WORDS], k: u32) -> Outcome
-    ensures { λ r. ⌜ DoesOnWords (NamesAlarm k) (λ v. fired (v .body) (alarmOf (v .body .counter) k)) r (now (words .entry)) (now (words .exit)) ⌝ }
+    ensures { λ r. ⌜ DoesOnWords (NamesAlarm k) (λ v. fired (v .body) (alarmOf (v .body .counter) k)) r
+        (now (words .entry)) (now (words .exit)) ⌝ }
 {
     let i = alarm_task(words, k);
     let s = status(words, i);

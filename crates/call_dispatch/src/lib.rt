@@ -1,5 +1,6 @@
-// A call by its number, on a memory that is known to be sound (`Dispatches`): what is judged of any call, then the call's own rule. `handler` says
-// that an open handler calls, `me` is the task that calls, 0 if none does. Each arm is a row of the paper's table.
+// A call by its number, on a memory that is known to be sound (`Dispatches`): what is judged of any call, then the
+// call's own rule. `handler` says that an open handler calls, `me` is the task that calls, 0 if none does. Each arm is
+// a row of the paper's table.
 pub mod numbers;
 
 use crate::numbers::ALM_STS;
@@ -118,7 +119,8 @@ pub fn dispatch(
     b: i32,
     c: i32,
 ) -> Outcome
-    ensures { λ r. ⌜ Dispatches handler me n a b c r (now (words .entry)) (now (messages .entry)) (now (words .exit)) (now (messages .exit)) ⌝ }
+    ensures { λ r. ⌜ Dispatches handler me n a b c r (now (words .entry)) (now (messages .entry)) (now (words .exit))
+        (now (messages .exit)) ⌝ }
 {
     let i = named(a);
     let j = named(b);

@@ -10,13 +10,12 @@ use native.Mathlib.Nat.{add-zero, zero-add}
 use native.Mathlib.Omega.{arith}
 use lib.Bits.{bitOr, or-lt}
 use lib.Dec.{leb}
-use lib.IntN.{ℤ, pos}
+use lib.IntN.{pos}
 use lib.ListN.{length}
 use lib.Seq.{append-snoc}
 use borrow.Author.Tests.{ne-eqb, le-leb, lt-leb}
 use Rattle.rules.specs.Ids.{In, keep, times}
 use Rattle.rules.specs.Codes.{Code, OK}
-use Rattle.rules.specs.Events.{nat, bits}
 use Rattle.rules.specs.State.{Kind, semaphore, flag, mailbox, pool, Wait, on, State, dormant, ready, suspended, absent, waiting, waiting-suspended, Body, task, nobody, objects, waitOf, wish}
 use Rattle.rules.specs.Places.{waiters, aTask, waitsOn, awaits, belongs, population}
 use Rattle.rules.specs.Acts.{Act, release, pattern, after, move, releasedMove}

@@ -1,6 +1,6 @@
-// The calls on flags: what is left of each once the common refusals are out of the way (crate `call_judging`). `i` is the flag that the call
-// names, `me` the caller. The contracts speak of an accepted memory, where what is named is there
-// (`DoesOnWords`).
+// The calls on flags: what is left of each once the common refusals are out of the way (crate `call_judging`). `i` is
+// the flag that the call names, `me` the caller. The contracts speak of an accepted memory, where what is named is
+// there (`DoesOnWords`).
 use call_objects::first_waiter;
 use call_words::Outcome;
 use call_words::codes::H_POLL;
@@ -60,7 +60,8 @@ struct Walked {
 // Task x is released if the pattern meets what it asks for.
 fn look(words: &mut [u32; STATE_WORDS], x: u32, pattern: u32, count: u32, looked: u32) -> Walked
     requires { ⌜ (count ≤ 32) × (looked ≤ 32) ⌝ }
-    ensures { λ r. ⌜ made (now (words .exit)) (r .released) (r .looked) (r .cleared) ≡ lookedAt pattern x (made (now (words .entry)) count looked false) ⌝ }
+    ensures { λ r. ⌜ made (now (words .exit)) (r .released) (r .looked) (r .cleared) ≡ lookedAt pattern x
+        (made (now (words .entry)) count looked false) ⌝ }
     ensures { λ r. ⌜ (r .released ≤ count + 1) × (r .looked ≤ looked + 1) ⌝ }
 {
     let want = wish(words, x);
@@ -80,7 +81,8 @@ fn look(words: &mut [u32; STATE_WORDS], x: u32, pattern: u32, count: u32, looked
     }
 }
 
-// The waiters on flag i, in order. Behind a clearing nobody would be released. More steps than there are tasks only a damaged memory would take.
+// The waiters on flag i, in order. Behind a clearing nobody would be released. More steps than there are tasks only a
+// damaged memory would take.
 fn serve(words: &mut [u32; STATE_WORDS], i: u32, pattern: u32) -> Walked
     ensures { λ r. ⌜ made (now (words .exit)) (r .released) (r .looked) (r .cleared) ≡ served i pattern (now (words .entry)) ⌝ }
 {
@@ -122,8 +124,8 @@ fn left_by(pattern: u32, cleared: bool) -> u32
     if cleared { 0 } else { pattern }
 }
 
-// 16 set_flg: p is ORed in, then each waiter whose condition holds is released, in order. The pattern is written last; w1 is how many were looked
-// at.
+// 16 set_flg: p is ORed in, then each waiter whose condition holds is released, in order. The pattern is written last;
+// w1 is how many were looked at.
 pub fn set_flg(words: &mut [u32; STATE_WORDS], i: u32, p: u32) -> Outcome
     ensures { λ r. ⌜ DoesOnWords (NamesObject Kind.flag i) (λ v. set-flg v (pos i) (pos p)) r (now (words .entry)) (now (words .exit)) ⌝ }
 {
@@ -146,7 +148,9 @@ pub fn clr_flg(words: &mut [u32; STATE_WORDS], i: u32, p: u32) -> Outcome
 
 // 18 wai_flg: the caller takes the pattern p that it asks for in mode t, or waits.
 pub fn wai_flg(words: &mut [u32; STATE_WORDS], me: u32, i: u32, p: u32, t: u32) -> Outcome
-    ensures { λ r. ⌜ DoesOnWords (NamesObject Kind.flag i) (λ v. take-flg v (pos i) (pos p) (pos t) (Verdicts.waits me (on Kind.flag i p t))) r (now (words .entry)) (now (words .exit)) ⌝ }
+    ensures { λ r. ⌜ DoesOnWords (NamesObject Kind.flag i)
+        (λ v. take-flg v (pos i) (pos p) (pos t) (Verdicts.waits me (on Kind.flag i p t))) r (now (words .entry))
+        (now (words .exit)) ⌝ }
 {
     let n = flag(words, i);
     if !meets(n, p, t) {
@@ -159,7 +163,8 @@ pub fn wai_flg(words: &mut [u32; STATE_WORDS], me: u32, i: u32, p: u32, t: u32) 
 
 // 19 pol_flg: the pattern is taken, if it meets what is asked for.
 pub fn pol_flg(words: &mut [u32; STATE_WORDS], i: u32, p: u32, t: u32) -> Outcome
-    ensures { λ r. ⌜ DoesOnWords (NamesObject Kind.flag i) (λ v. take-flg v (pos i) (pos p) (pos t) polls) r (now (words .entry)) (now (words .exit)) ⌝ }
+    ensures { λ r. ⌜ DoesOnWords (NamesObject Kind.flag i) (λ v. take-flg v (pos i) (pos p) (pos t) polls) r
+        (now (words .entry)) (now (words .exit)) ⌝ }
 {
     let n = flag(words, i);
     if !meets(n, p, t) {
@@ -171,7 +176,8 @@ pub fn pol_flg(words: &mut [u32; STATE_WORDS], i: u32, p: u32, t: u32) -> Outcom
 
 // 29 flg_sts: the first waiter, and the pattern.
 pub fn flg_sts(words: &[u32; STATE_WORDS], i: u32) -> Outcome
-    ensures { λ r. ⌜ DoesOnWords (NamesObject Kind.flag i) (λ v. obj-sts v Kind.flag (pos i) (patternOf v (pos i))) r (now (words .entry)) (now (words .entry)) ⌝ }
+    ensures { λ r. ⌜ DoesOnWords (NamesObject Kind.flag i) (λ v. obj-sts v Kind.flag (pos i) (patternOf v (pos i))) r
+        (now (words .entry)) (now (words .entry)) ⌝ }
 {
     let x = first_waiter(words, FLAG, i);
     let n = flag(words, i);

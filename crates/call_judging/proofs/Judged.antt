@@ -1,15 +1,14 @@
 -- The words of a call, judged by the columns as the view judges them. Assumes nothing.
-use mathlib.Core.Bool.{Bool, false, true≢false}
+use mathlib.Core.Bool.{Bool, false}
 use mathlib.Core.List.{List, [], _∷_}
-use mathlib.Core.Path.{_≡_, refl, sym, ap, _∙_, subst}
+use mathlib.Core.Path.{_≡_, sym, _∙_, subst}
 use Prim.Native.Nat.{ℕ}
-use lib.Dec.{eqb}
 use lib.IntN.{ℤ, pos}
 use lib.ListN.{length}
 use Rattle.rules.specs.Ids.{In}
 use Rattle.rules.specs.Events.{outside, above}
 use Rattle.rules.specs.State.{Kind, objects, alarmCount}
-use Rattle.rules.specs.Rows.{Context, both, task-id}
+use Rattle.rules.specs.Rows.{Context, task-id}
 use Rattle.rules.proofs.Waits.{in-by}
 use Rattle.memory_columns.specs.Layout as Layout
 use Rattle.memory_columns.specs.Layout.{entry}

@@ -1,5 +1,5 @@
-// What of a call is judged before its own rule: the words, then E_CTX, E_NOEXS of a task that is not there, E_SELF and E_DMT. A refusal is its code, none is 0. The
-// contracts speak of an accepted memory (`Judges`).
+// What of a call is judged before its own rule: the words, then E_CTX, E_NOEXS of a task that is not there, E_SELF and
+// E_DMT. A refusal is its code, none is 0. The contracts speak of an accepted memory (`Judges`).
 use call_words::codes::E_CTX;
 use call_words::codes::E_DMT;
 use call_words::codes::E_ILTIME;
@@ -40,7 +40,8 @@ pub const TASK_ONLY: bool = true;
 
 pub const BOTH: bool = false;
 
-// Which task the call names: none (or one that is not to be there), one that is there, one that is not dormant either, one that is not oneself either.
+// Which task the call names: none (or one that is not to be there), one that is there, one that is not dormant either,
+// one that is not oneself either.
 pub const UNNAMED: u32 = 0;
 
 pub const ANYONE: u32 = 1;
@@ -175,7 +176,8 @@ pub fn on_priority(
     i: u32,
     p: u32,
 ) -> i32
-    ensures { λ r. ⌜ Judges (λ v. task-id v (pos i) ∷ priority v (pos p) ∷ []) (contextOf strict) (targetOf target i) handler me r (now (words .entry)) ⌝ }
+    ensures { λ r. ⌜ Judges (λ v. task-id v (pos i) ∷ priority v (pos p) ∷ []) (contextOf strict) (targetOf target i)
+        handler me r (now (words .entry)) ⌝ }
 {
     if is_outside(i, system(words, TASKS)) {
         return E_NOEXS;
@@ -233,7 +235,8 @@ pub fn on_flag(
     p: u32,
     c: i32,
 ) -> i32
-    ensures { λ r. ⌜ Judges (λ v. object-id v Kind.flag (pos i) ∷ asked (pos p) ∷ mode c ∷ []) (contextOf strict) unnamed handler me r (now (words .entry)) ⌝ }
+    ensures { λ r. ⌜ Judges (λ v. object-id v Kind.flag (pos i) ∷ asked (pos p) ∷ mode c ∷ []) (contextOf strict)
+        unnamed handler me r (now (words .entry)) ⌝ }
 {
     if is_outside(i, system(words, FLAGS)) {
         return E_NOEXS;
@@ -249,7 +252,8 @@ pub fn on_flag(
 
 // Mailbox i and message j.
 pub fn on_message(words: &[u32; STATE_WORDS], handler: bool, me: u32, i: u32, j: u32) -> i32
-    ensures { λ r. ⌜ Judges (λ v. object-id v Kind.mailbox (pos i) ∷ message v (pos j) ∷ []) both unnamed handler me r (now (words .entry)) ⌝ }
+    ensures { λ r. ⌜ Judges (λ v. object-id v Kind.mailbox (pos i) ∷ message v (pos j) ∷ []) both unnamed handler me r
+        (now (words .entry)) ⌝ }
 {
     if is_outside(i, system(words, MAILBOXES)) {
         return E_NOEXS;

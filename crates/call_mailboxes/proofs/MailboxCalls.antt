@@ -1,12 +1,10 @@
 -- The calls on mailboxes: at each return of the code the rule's verdict is what was answered and done. Assumes nothing.
-use mathlib.Core.Bool.{true, false}
 use mathlib.Core.List.{List}
 use mathlib.Core.Option.{none}
-use mathlib.Core.Path.{_≡_, refl, sym, ap, _∙_, subst}
+use mathlib.Core.Path.{_≡_, sym, ap, _∙_, subst}
 use Prim.Native.Nat.{ℕ, _≤_}
 use native.Mathlib.Omega.{arith}
 use lib.IntN.{pos}
-use lib.ListN.{length}
 use borrow.Author.Tests.{le-leb, ne-eqb}
 use Rattle.rules.specs.Ids.{of, In, put, first}
 use Rattle.rules.specs.Codes.{number, H-POLL, H-MSG}

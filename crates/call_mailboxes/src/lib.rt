@@ -1,5 +1,6 @@
-// The calls on mailboxes: what is left of each once the common refusals are out of the way (crate `call_judging`). `i` is the object that the
-// call names, `me` the caller. The contracts speak of an accepted memory, where what is named is there (`DoesOnWords`).
+// The calls on mailboxes: what is left of each once the common refusals are out of the way (crate `call_judging`). `i`
+// is the object that the call names, `me` the caller. The contracts speak of an accepted memory, where what is named is
+// there (`DoesOnWords`).
 use call_objects::first_waiter;
 use call_words::Outcome;
 use call_words::codes::H_MSG;
@@ -31,7 +32,8 @@ ghost use Rattle.call_words.specs.Naming.{NamesObject, NamesMessage};
 
 // 20 snd_msg: message j goes to the first waiter, else last in the mailbox.
 pub fn snd_msg(words: &mut [u32; STATE_WORDS], messages: &mut [u32; 256], i: u32, j: u32) -> Outcome
-    ensures { λ r. ⌜ DoesOnBoth (λ v. NamesObject mailbox i v × NamesMessage j v) (λ v. snd-msg v (pos i) (pos j)) r (now (words .entry)) (now (messages .entry)) (now (words .exit)) (now (messages .exit)) ⌝ }
+    ensures { λ r. ⌜ DoesOnBoth (λ v. NamesObject mailbox i v × NamesMessage j v) (λ v. snd-msg v (pos i) (pos j)) r
+        (now (words .entry)) (now (messages .entry)) (now (words .exit)) (now (messages .exit)) ⌝ }
 {
     if mark_of(messages, j) != 0 {
         return refuse(H_MSG);
@@ -52,7 +54,8 @@ pub fn rcv_msg(
     me: u32,
     i: u32,
 ) -> Outcome
-    ensures { λ r. ⌜ DoesOnBoth (NamesObject mailbox i) (λ v. take-msg v (pos i) (waits-on me mailbox (pos i))) r (now (words .entry)) (now (messages .entry)) (now (words .exit)) (now (messages .exit)) ⌝ }
+    ensures { λ r. ⌜ DoesOnBoth (NamesObject mailbox i) (λ v. take-msg v (pos i) (waits-on me mailbox (pos i))) r
+        (now (words .entry)) (now (messages .entry)) (now (words .exit)) (now (messages .exit)) ⌝ }
 {
     let j = first(words, Rings::Messages, mail_anchor(i));
     if j == 0 {
@@ -65,7 +68,8 @@ pub fn rcv_msg(
 
 // 22 prcv_msg: the first message is taken, if there is one.
 pub fn prcv_msg(words: &mut [u32; STATE_WORDS], messages: &mut [u32; 256], i: u32) -> Outcome
-    ensures { λ r. ⌜ DoesOnBoth (NamesObject mailbox i) (λ v. take-msg v (pos i) polls) r (now (words .entry)) (now (messages .entry)) (now (words .exit)) (now (messages .exit)) ⌝ }
+    ensures { λ r. ⌜ DoesOnBoth (NamesObject mailbox i) (λ v. take-msg v (pos i) polls) r (now (words .entry))
+        (now (messages .entry)) (now (words .exit)) (now (messages .exit)) ⌝ }
 {
     let j = first(words, Rings::Messages, mail_anchor(i));
     if j == 0 {
@@ -77,7 +81,8 @@ pub fn prcv_msg(words: &mut [u32; STATE_WORDS], messages: &mut [u32; 256], i: u3
 
 // 30 mbx_sts: the first waiter, and the first message.
 pub fn mbx_sts(words: &[u32; STATE_WORDS], i: u32) -> Outcome
-    ensures { λ r. ⌜ DoesOnWords (NamesObject mailbox i) (λ v. obj-sts v mailbox (pos i) (Ids.first (line v (mail i)))) r (now (words .entry)) (now (words .entry)) ⌝ }
+    ensures { λ r. ⌜ DoesOnWords (NamesObject mailbox i) (λ v. obj-sts v mailbox (pos i) (Ids.first (line v (mail i))))
+        r (now (words .entry)) (now (words .entry)) ⌝ }
 {
     let x = first_waiter(words, MAILBOX, i);
     let j = first(words, Rings::Messages, mail_anchor(i));

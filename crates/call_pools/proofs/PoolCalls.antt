@@ -11,7 +11,7 @@ use Rattle.rules.specs.Codes.{number, H-POLL, H-ILBLK}
 use Rattle.rules.specs.State.{pool, on}
 use Rattle.rules.specs.Places.{freeIn, many as manyAt, Exists}
 use Rattle.rules.specs.View.{line}
-use Rattle.rules.specs.Verdicts.{Verdict, gives}
+use Rattle.rules.specs.Verdicts.{Verdict}
 use Rattle.rules.specs.Objects.{polls, waits-on, obj-sts, blocksOf, free, take-blk, rel-blk}
 use Rattle.rules.specs.Sound.{Known}
 use Rattle.rules.proofs.Lines.{line-tabulate}

@@ -74,7 +74,8 @@ fn is_not_out(words: &[u32; STATE_WORDS], pool: u32, k: u32) -> bool
 
 // 23 get_blk: the caller takes the block longest free, or waits.
 pub fn get_blk(words: &mut [u32; STATE_WORDS], me: u32, i: u32) -> Outcome
-    ensures { λ r. ⌜ DoesOnWords (NamesObject pool i) (λ v. take-blk v (pos i) (waits-on me pool (pos i))) r (now (words .entry)) (now (words .exit)) ⌝ }
+    ensures { λ r. ⌜ DoesOnWords (NamesObject pool i) (λ v. take-blk v (pos i) (waits-on me pool (pos i))) r
+        (now (words .entry)) (now (words .exit)) ⌝ }
 {
     let k = first_block(words, i);
     if k == 0 {
@@ -115,7 +116,8 @@ pub fn rel_blk(words: &mut [u32; STATE_WORDS], i: u32, k: u32) -> Outcome
 
 // 31 mpl_sts: the first waiter, and the number of free blocks.
 pub fn mpl_sts(words: &[u32; STATE_WORDS], i: u32) -> Outcome
-    ensures { λ r. ⌜ DoesOnWords (NamesObject pool i) (λ v. obj-sts v pool (pos i) (Objects.free (blocksOf v (pos i)))) r (now (words .entry)) (now (words .entry)) ⌝ }
+    ensures { λ r. ⌜ DoesOnWords (NamesObject pool i) (λ v. obj-sts v pool (pos i) (Objects.free (blocksOf v (pos i))))
+        r (now (words .entry)) (now (words .entry)) ⌝ }
 {
     let x = first_waiter(words, POOL, i);
     let n = count_blocks(free(words, i));

@@ -7,10 +7,10 @@ use Prim.Native.Nat.{ℕ, zero, suc, _<_}
 use native.Mathlib.Decide.{decLe}
 use native.Mathlib.Omega.{arith}
 use lib.Dec.{eqb, leb}
-use lib.ListN.{length, List·getD-eq-default}
+use lib.ListN.{List·getD-eq-default}
 use borrow.Author.Tests.{eq-eqb, ne-eqb, le-leb, lt-leb}
 use Rattle.rules.specs.Ids.{In}
-use Rattle.rules.specs.State.{Kind, semaphore, flag, mailbox, pool, Wait, Store, dormant, ready, suspended, waiting, waiting-suspended, task, nobody, waitOf, isDormant, isAbsent, isSuspended, isWaiting, sleeps}
+use Rattle.rules.specs.State.{Kind, semaphore, flag, mailbox, pool, Wait, Store, task, nobody, waitOf, isDormant, isAbsent, isSuspended, isWaiting, sleeps}
 use Rattle.rules.specs.Tasks.{stateNumber}
 use Rattle.rules.specs.View.{running}
 use Rattle.memory_running.proofs.Running.{running-law}
@@ -19,10 +19,9 @@ use Rattle.memory_picture.proofs.Cases.{kind-cases, status-cases}
 use Rattle.call_words.specs.Naming.{NamesTask}
 use Rattle.call_words.proofs.Tasks.{tasks-count, task-shown, absent-read, dormant-read}
 use Rattle.call_reading.specs.Reading.{waitsAt, haltedAt, sleepsAt, wakeupsAt, numberAt}
-use Rattle.rules.proofs.Ids.{of-ids, length-ids}
 use Rattle.memory_columns.specs.Layout as Layout
 use Rattle.memory_columns.specs.Layout.{entry}
-use Rattle.memory_picture.specs.Picture.{noWait, kindNumber, waitShown, stateShown, taskShown, tasksShown, bodyShown, viewShown, Accepted}
+use Rattle.memory_picture.specs.Picture.{kindNumber, waitShown, stateShown, taskShown, tasksShown, viewShown, Accepted}
 
 past : (b m : List ℕ) (i : ℕ) → (i ≡ 0 → ⊥) → tasksShown b < i → task (viewShown b m .body) i ≡ nobody
 past b m zero ne h = absurd (ne refl)

@@ -1,5 +1,6 @@
-// The calls on semaphores: what is left of each once the common refusals are out of the way (crate `call_judging`). `i` is the object that the
-// call names, `me` the caller. The contracts speak of an accepted memory, where what is named is there (`DoesOnWords`).
+// The calls on semaphores: what is left of each once the common refusals are out of the way (crate `call_judging`). `i`
+// is the object that the call names, `me` the caller. The contracts speak of an accepted memory, where what is named is
+// there (`DoesOnWords`).
 use call_objects::first_waiter;
 use call_words::Outcome;
 use call_words::codes::E_QOVR;
@@ -44,7 +45,8 @@ pub fn sig_sem(words: &mut [u32; STATE_WORDS], i: u32) -> Outcome
 
 // 14 wai_sem: the caller takes one, or waits.
 pub fn wai_sem(words: &mut [u32; STATE_WORDS], me: u32, i: u32) -> Outcome
-    ensures { λ r. ⌜ DoesOnWords (NamesObject Kind.semaphore i) (λ v. take-sem v (pos i) (waits-on me Kind.semaphore (pos i))) r (now (words .entry)) (now (words .exit)) ⌝ }
+    ensures { λ r. ⌜ DoesOnWords (NamesObject Kind.semaphore i)
+        (λ v. take-sem v (pos i) (waits-on me Kind.semaphore (pos i))) r (now (words .entry)) (now (words .exit)) ⌝ }
 {
     let n = semaphore(words, i);
     if n == 0 {
@@ -57,7 +59,8 @@ pub fn wai_sem(words: &mut [u32; STATE_WORDS], me: u32, i: u32) -> Outcome
 
 // 15 preq_sem: one is taken, if there is one.
 pub fn preq_sem(words: &mut [u32; STATE_WORDS], i: u32) -> Outcome
-    ensures { λ r. ⌜ DoesOnWords (NamesObject Kind.semaphore i) (λ v. take-sem v (pos i) polls) r (now (words .entry)) (now (words .exit)) ⌝ }
+    ensures { λ r. ⌜ DoesOnWords (NamesObject Kind.semaphore i) (λ v. take-sem v (pos i) polls) r (now (words .entry))
+        (now (words .exit)) ⌝ }
 {
     let n = semaphore(words, i);
     if n == 0 {
@@ -69,7 +72,8 @@ pub fn preq_sem(words: &mut [u32; STATE_WORDS], i: u32) -> Outcome
 
 // 28 sem_sts: the first waiter, and the count.
 pub fn sem_sts(words: &[u32; STATE_WORDS], i: u32) -> Outcome
-    ensures { λ r. ⌜ DoesOnWords (NamesObject Kind.semaphore i) (λ v. obj-sts v Kind.semaphore (pos i) (countOf v (pos i))) r (now (words .entry)) (now (words .entry)) ⌝ }
+    ensures { λ r. ⌜ DoesOnWords (NamesObject Kind.semaphore i)
+        (λ v. obj-sts v Kind.semaphore (pos i) (countOf v (pos i))) r (now (words .entry)) (now (words .entry)) ⌝ }
 {
     let x = first_waiter(words, SEMAPHORE, i);
     let n = semaphore(words, i);

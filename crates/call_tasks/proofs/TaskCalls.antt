@@ -5,8 +5,6 @@ use mathlib.Core.Path.{_≡_, refl, sym, ap, _∙_}
 use Prim.Native.Nat.{ℕ, _+_, _*_, _/_, _%_, _^_, _<_}
 use native.Mathlib.Omega.{arith}
 use lib.IntN.{pos}
-use lib.ListN.{length}
-use Rattle.rules.specs.Ids.{In}
 use Rattle.rules.specs.Acts.{start, retire, create, delete, rotate, regrade, release, suspend, resume}
 use Rattle.rules.specs.Codes.{number, H-NODMT, H-EXIST, E-NOWAI, E-RLWAI, H-SUS, E-NOSUS}
 use Rattle.rules.specs.Tasks.{starting, ext-tsk, chg-pri, rot-rdq, rel-wai, sus-tsk, rsm-tsk, get-tid, tsk-sts, cre-tsk, del-tsk, exd-tsk}
@@ -14,7 +12,7 @@ use Rattle.rules.specs.Time.{get-tim}
 use Rattle.memory_columns.specs.Layout as Layout
 use Rattle.memory_columns.specs.Layout.{entry}
 use Rattle.memory_tasks.specs.Moves.{started, retired, created, deleted, rotated, regraded, released, halted, resumed}
-use Rattle.memory_picture.specs.Picture.{tasksShown, storeShown, bodyShown, viewShown}
+use Rattle.memory_picture.specs.Picture.{storeShown, bodyShown, viewShown}
 use Rattle.memory_picture.specs.Perform.{performed, performedMarks}
 use Rattle.memory_running.specs.Running.{runningOf}
 use Rattle.memory_running.proofs.Running.{running-law}

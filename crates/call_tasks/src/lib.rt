@@ -1,6 +1,6 @@
-// The calls on tasks and the clock: what is left of each once the common refusals are out of the way (crate `call_judging`). `i` is the task
-// that the call names, `me` the caller. The contracts speak of an accepted memory, where what is named is there
-// (`DoesOnWords`).
+// The calls on tasks and the clock: what is left of each once the common refusals are out of the way (crate
+// `call_judging`). `i` is the task that the call names, `me` the caller. The contracts speak of an accepted memory,
+// where what is named is there (`DoesOnWords`).
 use call_reading::is_suspended;
 use call_reading::is_waiting;
 use call_reading::ready_head;
@@ -35,7 +35,8 @@ use memory_tasks::retire;
 use memory_tasks::rotate;
 use memory_tasks::suspend;
 ghost use lib.IntN.{pos};
-ghost use Rattle.rules.specs.Tasks.{starting, ext-tsk, chg-pri, rot-rdq, rel-wai, sus-tsk, rsm-tsk, get-tid, tsk-sts, cre-tsk, del-tsk, exd-tsk};
+ghost use Rattle.rules.specs.Tasks.{starting, ext-tsk, chg-pri, rot-rdq, rel-wai, sus-tsk, rsm-tsk, get-tid, tsk-sts};
+ghost use Rattle.rules.specs.Tasks.{cre-tsk, del-tsk, exd-tsk};
 ghost use Rattle.rules.specs.Time.{get-tim};
 ghost use Rattle.call_words.specs.Doing.{Anything, DoesOnWords};
 ghost use Rattle.call_words.specs.Naming.{NamesTask, NamesQueue};

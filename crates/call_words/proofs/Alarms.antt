@@ -1,23 +1,22 @@
 -- The counter and the alarms that the view shows, as the columns say. Assumes nothing.
-use mathlib.Core.Bool.{Bool, true, false, cond, true≢false}
+use mathlib.Core.Bool.{Bool, true, false, cond}
 use mathlib.Core.List.{List}
-use mathlib.Core.Path.{_≡_, refl, sym, ap, _∙_, subst}
+use mathlib.Core.Path.{_≡_, refl, ap, _∙_, subst}
 use Prim.Native.Nat.{ℕ, zero, suc, _≤_}
 use native.Mathlib.Omega.{arith}
-use lib.Dec.{eqb, leb}
+use lib.Dec.{leb}
 use lib.ListN.{length}
 use borrow.Author.Tests.{leb-true, le-leb}
 use Rattle.rules.specs.Ids.{In}
 use Rattle.rules.specs.State.{Alarm, noAlarm, alarmOf, alarmCount}
-use Rattle.rules.specs.Sound.{KeptFits, AlarmFits}
+use Rattle.rules.specs.Sound.{AlarmFits}
 use Rattle.rules.proofs.Ids.{of-ids, length-ids}
 use Rattle.memory_columns.specs.Layout as Layout
 use Rattle.memory_columns.specs.Layout.{entry}
-use Rattle.memory_picture.specs.Picture.{tasksShown, keptOf, settingShown, countShown, alarmShown, counterShown, bodyShown, viewShown, Accepted}
+use Rattle.memory_picture.specs.Picture.{countShown, alarmShown, counterShown, bodyShown, viewShown, Accepted}
 use Rattle.memory_picture.specs.Perform.{keptNumber}
 use Rattle.memory_picture.proofs.FormWords.{kept-number}
 use Rattle.call_words.specs.Naming.{NamesAlarm}
-use Rattle.call_words.proofs.Tasks.{tasks-count}
 
 module _ (b m : List ℕ) where
   pub alarms-count : length (viewShown b m .body .counter .alarms) ≡ alarmCount (entry Layout.counter b Layout.counterSize)

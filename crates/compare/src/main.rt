@@ -1,5 +1,6 @@
-// What would the second setup have done in the run of the first? Reads two setups and one run from standard input, and writes what differs to standard output.
-// The memory is fixed: no more bytes are read than decide, and the output has room for any text.
+// What would the second setup have done in the run of the first? Reads two setups and one run from standard input, and
+// writes what differs to standard output. The memory is fixed: no more bytes are read than decide, and the output has
+// room for any text.
 use libc::STDIN_FILENO;
 use libc::STDOUT_FILENO;
 use run_compare_reading::INPUT;

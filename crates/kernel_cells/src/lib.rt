@@ -51,7 +51,8 @@ fn code_of(kept: u32) -> i32
     }
 }
 
-// The cell of a task: the code of what is broken if the state is damaged, then E_NOEXS for a bad id or a task that is not there, each with word 0.
+// The cell of a task: the code of what is broken if the state is damaged, then E_NOEXS for a bad id or a task that is
+// not there, each with word 0.
 pub fn cell(words: &[u32; STATE_WORDS], messages: &[u32; 256], task: i32) -> Reading
     ensures { λ r. ⌜ Reads (now (words .entry)) (now (messages .entry)) task (r .code) (r .word) ⌝ }
 {

@@ -1,11 +1,10 @@
 -- The code's steps put together: each law takes what the calls of a function give and ends in what the function writes. Assumes nothing.
-use Prim.Native.Nat.{ℕ, zero, suc, _+_, _-_, _*_, _%_, _^_, _≤_, _<_}
+use Prim.Native.Nat.{ℕ, zero, suc, _+_, _-_, _≤_, _<_}
 use mathlib.Core.List.{List}
 use mathlib.Core.Path.{_≡_, refl, _∙_}
 use native.Mathlib.Numerals.{sub-one, add-one}
 use native.Mathlib.Omega.{arith}
 use lib.ListN.{length, getD, replicate, List·getD-eq-default}
-use borrow.Author.Tests.{lt-ltb, le-ltb}
 use Rattle.rules.specs.Setup.{wordAt}
 use Rattle.setup.specs.declared.Plan.{Plan}
 use Rattle.setup.specs.Layout.{planOf, PlanFits}

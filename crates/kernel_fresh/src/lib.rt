@@ -1,4 +1,5 @@
-// A plan laid into the memory: the counts, the entries that the bytes of a setup have, and empty queues. No block is free and no task started yet.
+// A plan laid into the memory: the counts, the entries that the bytes of a setup have, and empty queues. No block is
+// free and no task started yet.
 use memory_columns::COUNTER_SIZE;
 use memory_columns::FIRST_FLAG;
 use memory_columns::FIRST_FREE;
@@ -37,7 +38,8 @@ ghost use Rattle.rules.specs.Setup.{wordAt};
 ghost use Rattle.setup.specs.Layout.{planOf, PlanFits};
 ghost use Rattle.memory_columns.specs.Layout.{maxPriorities, maxTasks, maxObjects, maxPools, maxAlarms};
 ghost use Rattle.memory_queues.specs.Moves.{emptied as emptiedAt};
-ghost use Rattle.kernel_fresh.specs.Laying.{inTurn, counted, laidTask, laidSemaphore, laidFlag, laidPool, laidAlarm, laidCounter, entered, emptied, laid};
+ghost use Rattle.kernel_fresh.specs.Laying.{inTurn, counted, laidTask, laidSemaphore, laidFlag, laidPool};
+ghost use Rattle.kernel_fresh.specs.Laying.{laidAlarm, laidCounter, entered, emptied, laid};
 
 // The word `k` bytes behind an offset, 0 past the end. The two are not added before it is known that their sum is within the bytes.
 pub fn word_at(bytes: &[u8], at: usize, k: usize) -> u32
@@ -213,7 +215,8 @@ fn empty_queues(words: &mut [u32; STATE_WORDS], rings: Rings, first: u32, n: u32
 }
 
 fn empty_all(words: &mut [u32; STATE_WORDS], p: Plan)
-    requires { ⌜ (p .priorities ≤ maxPriorities) × (p .semaphores ≤ maxObjects) × (p .flags ≤ maxObjects) × (p .mailboxes ≤ maxObjects) × (p .pools ≤ maxPools) ⌝ }
+    requires { ⌜ (p .priorities ≤ maxPriorities) × (p .semaphores ≤ maxObjects) × (p .flags ≤ maxObjects) ×
+        (p .mailboxes ≤ maxObjects) × (p .pools ≤ maxPools) ⌝ }
     ensures { λ _. ⌜ now (words .exit) ≡ emptied p (now (words .entry)) ⌝ }
 {
     empty_queues(words, Rings::Tasks, FIRST_READY, p.priorities);
@@ -229,7 +232,8 @@ fn empty_all(words: &mut [u32; STATE_WORDS], p: Plan)
 
 // The plan of a setup's bytes in a memory of zeros, whatever it held. Gives the plan.
 pub fn lay_plan(bytes: &[u8], words: &mut [u32; STATE_WORDS]) -> Plan
-    ensures { λ r. ⌜ (r ≡ planOf (now (bytes .entry)) 0) × (now (words .exit) ≡ laid (now (bytes .entry)) (planOf (now (bytes .entry)) 0)) ⌝ }
+    ensures { λ r. ⌜ (r ≡ planOf (now (bytes .entry)) 0) ×
+        (now (words .exit) ≡ laid (now (bytes .entry)) (planOf (now (bytes .entry)) 0)) ⌝ }
 {
     *words = [0; STATE_WORDS];
     let p = setup::plan_of(bytes, 0);

@@ -150,8 +150,8 @@ pub const MAILBOX: u32 = 4;
 
 pub const POOL: u32 = 5;
 
-// Anchors: that of priority p is READY_ANCHORS + p, of object o of kind k WAIT_ANCHORS + (MAX_OBJECTS * k + o), of mailbox m MAIL_ANCHORS + m,
-// of the free blocks of pool p FREE_ANCHORS + p.
+// Anchors: that of priority p is READY_ANCHORS + p, of object o of kind k WAIT_ANCHORS + (MAX_OBJECTS * k + o), of
+// mailbox m MAIL_ANCHORS + m, of the free blocks of pool p FREE_ANCHORS + p.
 pub const READY_ANCHORS: u32 = 32;
 
 pub const WAIT_ANCHORS: u32 = 16;
@@ -160,8 +160,8 @@ pub const MAIL_ANCHORS: u32 = 256;
 
 pub const FREE_ANCHORS: u32 = MAX_BLOCKS * MAX_POOLS;
 
-// The first of each, and the last of the ready queues: of the ready queues, of the waiters on each kind of object, of the messages in mailboxes,
-// of the free blocks of pools.
+// The first of each, and the last of the ready queues: of the ready queues, of the waiters on each kind of object, of
+// the messages in mailboxes, of the free blocks of pools.
 pub const FIRST_READY: u32 = READY_ANCHORS + 1;
 
 pub const LAST_READY: u32 = READY_ANCHORS + MAX_PRIORITIES;

@@ -1,4 +1,5 @@
-// The acts on messages, blocks, time, handlers and alarms, and what a flag's pattern meets. Each is a total function on the words (specs/Moves.antt).
+// The acts on messages, blocks, time, handlers and alarms, and what a flag's pattern meets. Each is a total function on
+// the words (specs/Moves.antt).
 pub mod alarms;
 pub mod flags;
 pub mod handlers;

@@ -1,4 +1,5 @@
-// The marks of messages and blocks: in which mailbox a message lies, whether a block is free. (A semaphore's count and a flag's pattern are columns.)
+// The marks of messages and blocks: in which mailbox a message lies, whether a block is free. (A semaphore's count and
+// a flag's pattern are columns.)
 use memory_columns::MAX_BLOCKS;
 use memory_columns::MESSAGE_WORDS;
 use memory_columns::Rings;
@@ -49,7 +50,8 @@ pub fn post(
     j: u32,
     mailbox: u32,
 )
-    ensures { λ _. ⌜ (now (words .exit) ≡ linked Messages (mailAnchor mailbox) j (now (words .entry))) × (now (messages .exit) ≡ put (now (messages .entry)) j mailbox) ⌝ }
+    ensures { λ _. ⌜ (now (words .exit) ≡ linked Messages (mailAnchor mailbox) j (now (words .entry))) ×
+        (now (messages .exit) ≡ put (now (messages .entry)) j mailbox) ⌝ }
 {
     set_mark(messages, j, mailbox);
     link(words, Rings::Messages, mail_anchor(mailbox), j);
@@ -57,7 +59,8 @@ pub fn post(
 
 // Message j is taken out of the mailbox in which it lies.
 pub fn receive(words: &mut [u32; STATE_WORDS], messages: &mut [u32; MESSAGE_WORDS], j: u32)
-    ensures { λ _. ⌜ (now (words .exit) ≡ unlinked Messages j (now (words .entry))) × (now (messages .exit) ≡ put (now (messages .entry)) j 0) ⌝ }
+    ensures { λ _. ⌜ (now (words .exit) ≡ unlinked Messages j (now (words .entry))) ×
+        (now (messages .exit) ≡ put (now (messages .entry)) j 0) ⌝ }
 {
     set_mark(messages, j, 0);
     unlink(words, Rings::Messages, j);

@@ -15,7 +15,7 @@ use Rattle.memory_columns.specs.declared.Rings.the-variants.{Tasks, Messages, B
 use Rattle.memory_columns.specs.Layout as Layout
 use Rattle.memory_columns.specs.Layout.{columns, maxMessages, maxBlocks, maxAlarms, nextOf, prevOf, words, entry}
 use Rattle.memory_picture.specs.Picture.{taskShown, messageShown, poolShown, storeShown, openShown, handlersShown, alarmShown, countShown, counterShown, maskOf, occupied, bodyShown, idsShown}
-use Rattle.memory_picture.specs.Perform.{codeKept, interruptedKept, keptNumber, dueKept, periodKept}
+use Rattle.memory_picture.specs.Perform.{codeKept, keptNumber, dueKept, periodKept}
 use Rattle.memory_picture.specs.Form.{statusNumber, wordsOf, boxNumber, idsKept, nodeLines, ringLink, run, entries, pile, systemWords, handlingWords, counterWords, parts}
 use Rattle.memory_picture.proofs.FormPile.{run-at, pile-words, pile-at, table-is}
 use Rattle.memory_picture.proofs.FormWords.{back-state, back-code, back-pool, back-message, back-clock, back-handlers, back-kept, back-setting, back-wakes, back-count}

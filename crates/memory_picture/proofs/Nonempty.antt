@@ -3,8 +3,7 @@ use mathlib.Core.Bool.{Bool, true, false, cond, not, true≢false}
 use mathlib.Core.List.{List, [], _∷_, _++_, map, append-nil}
 use mathlib.Core.Logic.{_⊎_, inl, inr, _≢_}
 use mathlib.Core.Path.{_≡_, refl, sym, ap, _∙_, subst}
-use Prim.Native.Nat.{ℕ, zero, suc, _+_, _-_, _*_, _/_, _%_, _^_, _≤_, _<_}
-use native.Mathlib.Decide.{ℕ-discrete}
+use Prim.Native.Nat.{ℕ, zero, suc, _+_, _-_, _/_, _%_, _^_, _≤_, _<_}
 use native.Mathlib.Nat.{pow-suc}
 use native.Mathlib.Omega.{arith}
 use lib.Dec.{eqb, leb}
@@ -16,7 +15,7 @@ use Rattle.rules.proofs.Ids.{length-ids, map-ids}
 use Rattle.memory_rings.specs.Links.{leftNext, leftPrev}
 use Rattle.memory_rings.specs.Rings.{IsId, All, Stands, Out, Distinct, headOf, without, Linked}
 use Rattle.memory_rings.proofs.Laws.{once-law, first-law, follow-law, leave-law}
-use Rattle.memory_rings.proofs.Lists.{and-of, all-at, all-right, stands-right, stands-or-out, stands-split, without-out, without-mid}
+use Rattle.memory_rings.proofs.Lists.{and-of, all-right, stands-or-out, stands-split, without-out, without-mid}
 use Rattle.memory_columns.specs.Layout.{maxPriorities, maxTasks, readyNode, isReadyNode}
 use Rattle.memory_columns.specs.Bits.{masked}
 use Rattle.memory_queues.specs.Moves.{noted, inhabited}

@@ -1,5 +1,5 @@
-// The queues: rings of tasks, of messages and of free blocks, over the crate `memory_rings`. One set of functions serves all three; the tasks' queues have
-// the word of nonempty ready queues beside them.
+// The queues: rings of tasks, of messages and of free blocks, over the crate `memory_rings`. One set of functions
+// serves all three; the tasks' queues have the word of nonempty ready queues beside them.
 use memory_columns::BLOCK_LINKS;
 use memory_columns::BLOCK_LINKS_END;
 use memory_columns::FIRST_READY;
@@ -29,7 +29,8 @@ ghost use Rattle.memory_rings.specs.Columns.{col, splice};
 ghost use Rattle.memory_rings.specs.Links.{nexts, firstOf, pushed, left, cleared};
 ghost use Rattle.memory_columns.specs.Layout.{words as wordsOf};
 ghost use Rattle.memory_columns.specs.Layout.{nextOf, linksOf, entry};
-ghost use Rattle.memory_queues.specs.Moves.{readyAnchor, waitAnchor, mailAnchor, freeAnchor, nodeOfBlock, linked, unlinked, emptied, annotated, queued, unqueued};
+ghost use Rattle.memory_queues.specs.Moves.{readyAnchor, waitAnchor, mailAnchor, freeAnchor, nodeOfBlock, linked};
+ghost use Rattle.memory_queues.specs.Moves.{unlinked, emptied, annotated, queued, unqueued};
 
 // The anchor of the ready queue of a priority; 0 for a number that is none.
 pub fn ready_anchor(priority: u32) -> u32
@@ -163,7 +164,8 @@ pub fn clear(words: &mut [u32; STATE_WORDS], rings: Rings, anchor: u32)
 
 // The links of the rings; the first half has the next links.
 pub fn links(words: &[u32; STATE_WORDS], rings: Rings) -> &[u32]
-    ensures { λ r. ⌜ (now r ≡ wordsOf (linksOf rings) (now (words .entry))) × (nexts (now r) ≡ wordsOf (nextOf rings) (now (words .entry))) ⌝ }
+    ensures { λ r. ⌜ (now r ≡ wordsOf (linksOf rings) (now (words .entry))) ×
+        (nexts (now r) ≡ wordsOf (nextOf rings) (now (words .entry))) ⌝ }
 {
     let all = &words[..];
     let from = links_at(rings);
@@ -209,8 +211,8 @@ pub fn push(words: &mut [u32; STATE_WORDS], anchor: u32, t: u32)
     note(words, anchor, true);
 }
 
-// Task t leaves the queue in which it stands, if it stands in one. Only if it was the last one there, its queue may be empty then, and the node
-// behind it was the anchor.
+// Task t leaves the queue in which it stands, if it stands in one. Only if it was the last one there, its queue may be
+// empty then, and the node behind it was the anchor.
 pub fn leave(words: &mut [u32; STATE_WORDS], t: u32)
     ensures { λ _. ⌜ now (words .exit) ≡ unqueued t (now (words .entry)) ⌝ }
 {

@@ -1,5 +1,6 @@
-// The best task, the head of the nonempty ready queue with the smallest priority number, by the word of nonempty queues; and the running task,
-// which is the best while no handler is open. That word as the queues have it is for the check.
+// The best task, the head of the nonempty ready queue with the smallest priority number, by the word of nonempty
+// queues; and the running task, which is the best while no handler is open. That word as the queues have it is for the
+// check.
 use memory_columns::DEPTH;
 use memory_columns::INTERRUPTED;
 use memory_columns::MAX_PRIORITIES;

@@ -26,7 +26,8 @@ use memory_queues::push;
 use memory_queues::ready_anchor;
 use memory_queues::wait_anchor;
 ghost use mathlib.Core.Path.{_≡_};
-ghost use Rattle.memory_tasks.specs.Moves.{celled, ended, rotated, readied, started, retired, ranked, created, deleted, regraded, halted, resumed, released, awaiting, slept, waited};
+ghost use Rattle.memory_tasks.specs.Moves.{celled, ended, rotated, readied, started, retired, ranked, created};
+ghost use Rattle.memory_tasks.specs.Moves.{deleted, regraded, halted, resumed, released, awaiting, slept, waited};
 
 // Writes the cell of task t.
 fn write_cell(words: &mut [u32; STATE_WORDS], t: u32, code: u32, word: u32)

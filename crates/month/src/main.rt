@@ -1,6 +1,7 @@
-// The figures of a month: plays each recorded run named on the command line and writes the totals, 32 lines of seven numbers (tasks by id, states 0 to 6),
-// then a line for each code with its count; or the one line "T1" or "T3". A file that cannot be read is named on standard error, and nothing is reported.
-// Standard error has a line for each file that is done: its name, how many events ran, and the run's refusal, if there is one.
+// The figures of a month: plays each recorded run named on the command line and writes the totals, 32 lines of seven
+// numbers (tasks by id, states 0 to 6), then a line for each code with its count; or the one line "T1" or "T3". A file
+// that cannot be read is named on standard error, and nothing is reported. Standard error has a line for each file that
+// is done: its name, how many events ran, and the run's refusal, if there is one.
 use call_words::bits_of;
 use libc::STDERR_FILENO;
 use libc::STDOUT_FILENO;

@@ -76,7 +76,8 @@ pub extern "C" fn okrozumba_start(
     words: &mut [u32; STATE_WORDS],
     messages: &mut [u32; 256],
 ) -> Outcome
-    ensures { λ r. ⌜ StartsTold (now (setup .entry)) (r .number) (r .place) (now (words .entry)) (now (messages .entry)) (now (words .exit)) (now (messages .exit)) ⌝ }
+    ensures { λ r. ⌜ StartsTold (now (setup .entry)) (r .number) (r .place) (now (words .entry)) (now (messages .entry))
+        (now (words .exit)) (now (messages .exit)) ⌝ }
 {
     start_outcome(kernel_start::start(setup, words, messages))
 }
@@ -94,7 +95,8 @@ pub extern "C" fn okrozumba_call(
     b: i32,
     c: i32,
 ) -> Answer
-    ensures { λ r. ⌜ Step (Events.call context number a b c) (now (words .entry)) (now (messages .entry)) (reply (r .code) (r .w1) (r .w2) (r .running) (r .released)) (now (words .exit)) (now (messages .exit)) ⌝ }
+    ensures { λ r. ⌜ Step (Events.call context number a b c) (now (words .entry)) (now (messages .entry))
+        (reply (r .code) (r .w1) (r .w2) (r .running) (r .released)) (now (words .exit)) (now (messages .exit)) ⌝ }
 {
     kernel_events::call(words, messages, context, number, a, b, c)
 }
@@ -102,7 +104,8 @@ pub extern "C" fn okrozumba_call(
 // A tick.
 #[no_mangle]
 pub extern "C" fn okrozumba_tick(words: &mut [u32; STATE_WORDS], messages: &[u32; 256]) -> Answer
-    ensures { λ r. ⌜ Step Events.tick (now (words .entry)) (now (messages .entry)) (reply (r .code) (r .w1) (r .w2) (r .running) (r .released)) (now (words .exit)) (now (messages .entry)) ⌝ }
+    ensures { λ r. ⌜ Step Events.tick (now (words .entry)) (now (messages .entry))
+        (reply (r .code) (r .w1) (r .w2) (r .running) (r .released)) (now (words .exit)) (now (messages .entry)) ⌝ }
 {
     kernel_events::tick(words, messages)
 }
@@ -110,7 +113,8 @@ pub extern "C" fn okrozumba_tick(words: &mut [u32; STATE_WORDS], messages: &[u32
 // The entry of a handler.
 #[no_mangle]
 pub extern "C" fn okrozumba_enter(words: &mut [u32; STATE_WORDS], messages: &[u32; 256]) -> Answer
-    ensures { λ r. ⌜ Step Events.enter (now (words .entry)) (now (messages .entry)) (reply (r .code) (r .w1) (r .w2) (r .running) (r .released)) (now (words .exit)) (now (messages .entry)) ⌝ }
+    ensures { λ r. ⌜ Step Events.enter (now (words .entry)) (now (messages .entry))
+        (reply (r .code) (r .w1) (r .w2) (r .running) (r .released)) (now (words .exit)) (now (messages .entry)) ⌝ }
 {
     kernel_events::enter(words, messages)
 }
@@ -118,7 +122,8 @@ pub extern "C" fn okrozumba_enter(words: &mut [u32; STATE_WORDS], messages: &[u3
 // The return of a handler.
 #[no_mangle]
 pub extern "C" fn okrozumba_leave(words: &mut [u32; STATE_WORDS], messages: &[u32; 256]) -> Answer
-    ensures { λ r. ⌜ Step Events.exit (now (words .entry)) (now (messages .entry)) (reply (r .code) (r .w1) (r .w2) (r .running) (r .released)) (now (words .exit)) (now (messages .entry)) ⌝ }
+    ensures { λ r. ⌜ Step Events.exit (now (words .entry)) (now (messages .entry))
+        (reply (r .code) (r .w1) (r .w2) (r .running) (r .released)) (now (words .exit)) (now (messages .entry)) ⌝ }
 {
     kernel_events::leave(words, messages)
 }
@@ -180,7 +185,9 @@ pub extern "C" fn okrozumba_events(
     codes: &mut [i32],
     answers: &mut [u32],
 ) -> u32
-    ensures { λ r. ⌜ BatchedTold (now (events .entry)) r (lent (now (words .entry)) (now (messages .entry)) (now (codes .entry)) (now (answers .entry))) (lent (now (words .exit)) (now (messages .exit)) (now (codes .exit)) (now (answers .exit))) ⌝ }
+    ensures { λ r. ⌜ BatchedTold (now (events .entry)) r
+        (lent (now (words .entry)) (now (messages .entry)) (now (codes .entry)) (now (answers .entry)))
+        (lent (now (words .exit)) (now (messages .exit)) (now (codes .exit)) (now (answers .exit))) ⌝ }
 {
     batch_number(kernel_batches::events(words, messages, events, codes, answers))
 }
@@ -216,7 +223,9 @@ pub extern "C" fn okrozumba_run(
     codes: &mut [i32],
     answers: &mut [u32],
 ) -> Outcome
-    ensures { λ r. ⌜ RunsTold (now (setup .entry)) (now (events .entry)) (r .number) (r .place) (lent (now (words .entry)) (now (messages .entry)) (now (codes .entry)) (now (answers .entry))) (lent (now (words .exit)) (now (messages .exit)) (now (codes .exit)) (now (answers .exit))) ⌝ }
+    ensures { λ r. ⌜ RunsTold (now (setup .entry)) (now (events .entry)) (r .number) (r .place)
+        (lent (now (words .entry)) (now (messages .entry)) (now (codes .entry)) (now (answers .entry)))
+        (lent (now (words .exit)) (now (messages .exit)) (now (codes .exit)) (now (answers .exit))) ⌝ }
 {
     run_outcome(kernel_batches::run(setup, words, messages, events, codes, answers))
 }
@@ -241,7 +250,10 @@ pub extern "C" fn okrozumba_part(
     bytes: &[u8],
     text: &mut [u8],
 ) -> Parted
-    ensures { λ r. ⌜ Parts (now (bytes .entry)) (Recording.lent (now (numbers .entry)) (now (held .entry)) (now (words .entry)) (now (messages .entry))) (Recording.lent (now (numbers .exit)) (now (held .exit)) (now (words .exit)) (now (messages .exit))) (now (text .entry)) (now (text .exit)) r ⌝ }
+    ensures { λ r. ⌜ Parts (now (bytes .entry))
+        (Recording.lent (now (numbers .entry)) (now (held .entry)) (now (words .entry)) (now (messages .entry)))
+        (Recording.lent (now (numbers .exit)) (now (held .exit)) (now (words .exit)) (now (messages .exit)))
+        (now (text .entry)) (now (text .exit)) r ⌝ }
 {
     run_recorder::part(numbers, held, words, messages, bytes, text)
 }
@@ -271,7 +283,10 @@ pub extern "C" fn okrozumba_count(
     codes: &mut [u32; CODES],
     bytes: &[u8],
 ) -> Counted
-    ensures { λ r. ⌜ Counts (now (bytes .entry)) (Counting.lent (now (numbers .entry)) (now (held .entry)) (memory (now (words .entry)) (now (messages .entry))) (figures (now (table .entry)) (now (codes .entry)))) (Counting.lent (now (numbers .exit)) (now (held .exit)) (memory (now (words .exit)) (now (messages .exit))) (figures (now (table .exit)) (now (codes .exit)))) r ⌝ }
+    ensures { λ r. ⌜ Counts (now (bytes .entry)) (Counting.lent (now (numbers .entry)) (now (held .entry))
+        (memory (now (words .entry)) (now (messages .entry))) (figures (now (table .entry)) (now (codes .entry))))
+        (Counting.lent (now (numbers .exit)) (now (held .exit)) (memory (now (words .exit)) (now (messages .exit)))
+        (figures (now (table .exit)) (now (codes .exit)))) r ⌝ }
 {
     run_figures::count(numbers, held, words, messages, table, codes, bytes)
 }
@@ -433,7 +448,8 @@ pub extern "C" fn okrozumba_light_receive(
     light: Light,
     mailbox: i32,
 ) -> Display
-    ensures { λ r. ⌜ Displayed (λ s. Receives curve (now (slots .entry)) light mailbox (now (words .entry)) (now (messages .entry)) s (now (words .exit)) (now (messages .exit))) (r .light) (r .news) (r .point) ⌝ }
+    ensures { λ r. ⌜ Displayed (λ s. Receives curve (now (slots .entry)) light mailbox (now (words .entry))
+        (now (messages .entry)) s (now (words .exit)) (now (messages .exit))) (r .light) (r .news) (r .point) ⌝ }
 {
     shown_told(brightness::receive(words, messages, curve, slots, light, mailbox))
 }
@@ -447,7 +463,9 @@ pub extern "C" fn okrozumba_light_resumed(
     slots: &[u32],
     light: Light,
 ) -> Display
-    ensures { λ r. ⌜ Displayed (λ s. Resumes curve (now (slots .entry)) light (now (words .entry)) (now (messages .entry)) s) (r .light) (r .news) (r .point) ⌝ }
+    ensures { λ r. ⌜ Displayed
+        (λ s. Resumes curve (now (slots .entry)) light (now (words .entry)) (now (messages .entry)) s) (r .light)
+        (r .news) (r .point) ⌝ }
 {
     shown_told(brightness::resumed(words, messages, curve, slots, light))
 }

@@ -1,5 +1,5 @@
-// Plays the recorded run on standard input as it comes: each read is a part, and its lines are written at once. The memory is fixed, however long the input is. After a refusal nothing more is
-// read.
+// Plays the recorded run on standard input as it comes: each read is a part, and its lines are written at once. The
+// memory is fixed, however long the input is. After a refusal nothing more is read.
 use libc::STDIN_FILENO;
 use libc::STDOUT_FILENO;
 use memory_columns::MESSAGE_WORDS;

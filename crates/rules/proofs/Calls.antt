@@ -20,7 +20,7 @@ use Rattle.rules.specs.State.{Kind, semaphore, flag, mailbox, pool, Wait
 use Rattle.rules.specs.Places.{readyAt, waiters, mail, freeIn, belongs, awaits, lies}
 use Rattle.rules.specs.Setup.{Entry, Setup}
 use Rattle.rules.specs.Events.{Event, tick, enter, exit, call, Word, Words, nat, bits, outside, above}
-use Rattle.rules.specs.Acts.{Act, start, wait, release, wakeups, mark, elapse, alarm, after, afters, started, freed, releasedTask, with-state, with-cell}
+use Rattle.rules.specs.Acts.{Act, start, wait, release, wakeups, mark, elapse, after, afters, started, freed, releasedTask, with-state, with-cell}
 use Rattle.rules.specs.View.{View, line, best, act, acts}
 use Rattle.rules.specs.Verdicts.{Verdict, waits}
 use Rattle.rules.specs.Tasks.{stateOf, starting, sta-tsk, ext-tsk, ter-tsk, chg-pri, rot-rdq, rel-wai, sus-tsk, rsm-tsk, take-wakeup, slp-tsk, wai-for, wai-tsk, waking, wup-tsk, can-wup, get-tid, tsk-sts, cre-tsk, del-tsk, exd-tsk}

@@ -11,7 +11,7 @@ use lib.Dec.{eqb, leb, lit<}
 use lib.ListN.{length, length-map, length-append, length-replicate, replicate}
 use borrow.Author.Tests.{le-leb, lt-leb, leb-true}
 use Rattle.rules.specs.Ids.{In, Each, once}
-use Rattle.rules.specs.Setup.{S1, S4, Read, got, refused, and-then, Range, to, Section, priorities, sections, alarmRanges, counters, readSection, readSections, Entry, AlarmEntry, CounterEntry, Setup, GoodCounter, GoodSetup, entriesOf, taskEntry, wordOf, alarmEntries, counterEntry, setupOf, readWith, readSetup, perhaps, at-end, setup}
+use Rattle.rules.specs.Setup.{S4, Read, got, refused, and-then, Range, to, Section, priorities, sections, alarmRanges, counters, readSection, readSections, Entry, AlarmEntry, CounterEntry, Setup, GoodCounter, GoodSetup, entriesOf, taskEntry, wordOf, alarmEntries, counterEntry, setupOf, readWith, readSetup, perhaps, at-end, setup}
 use Rattle.rules.specs.Writing.{joined, taskWords, alarmWords, counterWords, sevenSections, setupSections, setupWords, wordBytes, setupBytes, sevenBytes, Alone, Bytes}
 use Rattle.rules.proofs.Judge.{_⊗_}
 use Rattle.rules.proofs.Spelled.{Spells, spells-first, spells-rest, spells-both, sectionWords, sectionsWords, section-got, sections-got, Stands, section-stands, sections-stand, length-written, written-spells, spells-written}

@@ -1,11 +1,11 @@
 -- Alarms: what they do when they fire, and calls 36 to 39.
-use mathlib.Core.Bool.{Bool, true, false, not, cond}
+use mathlib.Core.Bool.{Bool, false, not, cond}
 use mathlib.Core.List.{List, [], _∷_, _++_}
 use Prim.Native.Nat.{ℕ, zero, suc, _+_, _%_}
 use lib.Dec.{eqb}
 use lib.IntN.{ℤ, natAbs}
 use Rattle.rules.specs.Ids.{once}
-use Rattle.rules.specs.Codes.{Code, E-NOEXS, E-DMT, H-USED, H-IDLE, number}
+use Rattle.rules.specs.Codes.{E-NOEXS, E-DMT, H-USED, H-IDLE, number}
 use Rattle.rules.specs.State.{Setting, unset, due, inUse, Alarm, Counter, alarmOf, Body, task, isDormant, isAbsent}
 use Rattle.rules.specs.Events.{nat}
 use Rattle.rules.specs.Acts.{Act, alarm, afters}

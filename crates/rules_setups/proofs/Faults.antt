@@ -13,7 +13,7 @@ use lib.Seq.{getD-append-add, getD-take}
 use borrow.Author.Tests.{le-leb, lt-leb, leb-true, leb-false}
 use Rattle.rules.specs.Ids.{In, Each}
 use Rattle.rules.specs.Setup.{Fault, S1, S2, S3, S4, Read, got, refused, and-then, wordAt, Range, to, within, readWord, Section, priorities, sections, alarmRanges, counters, readEntry, readEntries, readSection, readSections, Setup, GoodSetup, entriesOf, setupOf, readWith, readSetup, perhaps, at-end, setup}
-use Rattle.rules.specs.Writing.{joined, taskWords, sevenSections, setupSections, setupWords, wordBytes, setupBytes, sevenBytes, Alone, Bytes}
+use Rattle.rules.specs.Writing.{joined, taskWords, sevenSections, setupSections, setupWords, wordBytes, setupBytes, Alone, Bytes}
 use Rattle.rules_setups.specs.Faults.{sectionFaults, wordFaults, Begins, Needs, Outside, EndsAfterSeven, HasFault}
 use Rattle.rules.proofs.Waits.{both-true}
 use Rattle.rules.proofs.Judge.{_⊗_}

@@ -17,7 +17,7 @@ use Rattle.run_text.specs.Ascii.{ascii}
 use Rattle.run_compare_reading.specs.Compared.{Compared, compared}
 use Rattle.run_compare_text.specs.Changes.{differ, Change, change, changes, changesText, comparedText}
 use Rattle.run_compare_text.proofs.Differ.{never-itself, differ-not, alike}
-use Rattle.run_compare.specs.Difference.{differenceBy, differenceOf, runs}
+use Rattle.run_compare.specs.Difference.{differenceBy, differenceOf}
 use Rattle.run_compare.specs.Exactly.{Has, Rising, answerAt, Exactly, listed, firstRun, secondRun, changesOf}
 
 -- ---- two runs

@@ -1,5 +1,6 @@
-// What does a changed setup change? Two setups and one run, from the bytes of the input to the bytes of the text. All of it is judged before anything runs;
-// then the events run as a batch from each setup. The contracts cite `differenceOf`, the text that the rules give from the bytes alone.
+// What does a changed setup change? Two setups and one run, from the bytes of the input to the bytes of the text. All
+// of it is judged before anything runs; then the events run as a batch from each setup. The contracts cite
+// `differenceOf`, the text that the rules give from the bytes alone.
 use memory_columns::MESSAGE_WORDS;
 use memory_columns::STATE_WORDS;
 use run_compare_reading::EVENTS;
@@ -49,7 +50,8 @@ fn run(
     codes: &mut [i32],
     answers: &mut [u32],
 )
-    requires { ⌜ (from ≤ to) × (to ≤ length (now input)) × (length (now events) ≡ 5 * n) × (n ≤ length (now codes)) × (4 * n ≤ length (now answers)) ⌝ }
+    requires { ⌜ (from ≤ to) × (to ≤ length (now input)) × (length (now events) ≡ 5 * n) × (n ≤ length (now codes)) ×
+        (4 * n ≤ length (now answers)) ⌝ }
     ensures { λ _. ⌜ RanFrom (now (input .entry)) from to (now (events .entry)) n (now (codes .exit)) (now (answers .exit)) ⌝ }
 {
     kernel_batches::run(&input[from..to], words, messages, events, codes, answers);
@@ -69,8 +71,11 @@ fn run_both(
     codes2: &mut [i32],
     answers2: &mut [u32],
 )
-    requires { ⌜ (second ≤ at) × (at ≤ length (now input)) × (n ≤ 3000) × (5 * n ≤ length (now events)) × (n ≤ length (now codes1)) × (4 * n ≤ length (now answers1)) × (n ≤ length (now codes2)) × (4 * n ≤ length (now answers2)) ⌝ }
-    ensures { λ _. ⌜ BothRan (now (input .entry)) second at n (now (codes1 .exit)) (now (answers1 .exit)) (now (codes2 .exit)) (now (answers2 .exit)) ⌝ }
+    requires { ⌜ (second ≤ at) × (at ≤ length (now input)) × (n ≤ 3000) × (5 * n ≤ length (now events)) ×
+        (n ≤ length (now codes1)) × (4 * n ≤ length (now answers1)) × (n ≤ length (now codes2)) ×
+        (4 * n ≤ length (now answers2)) ⌝ }
+    ensures { λ _. ⌜ BothRan (now (input .entry)) second at n (now (codes1 .exit)) (now (answers1 .exit))
+        (now (codes2 .exit)) (now (answers2 .exit)) ⌝ }
 {
     let m = WORDS_OF_EVENT * n;
     decode(input, at + 4, m, events);

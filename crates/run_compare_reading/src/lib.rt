@@ -1,5 +1,5 @@
-// The reader of two setups and one run: all of it is judged before anything runs. The contracts cite `compared`, whose places are counted from the input's
-// start.
+// The reader of two setups and one run: all of it is judged before anything runs. The contracts cite `compared`, whose
+// places are counted from the input's start.
 use run_reading::EVENT;
 use run_reading::HEAD;
 use setup::Judged;

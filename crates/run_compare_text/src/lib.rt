@@ -1,6 +1,6 @@
-// The text of what differs between two runs of the same events, in a lent output: of each event at which their answers differ the two lines, then the number
-// of such events; or the line of a refusal. Behind the output's end nothing is written and the places are counted all the same: so the length of a text is
-// known before a byte of it is written.
+// The text of what differs between two runs of the same events, in a lent output: of each event at which their answers
+// differ the two lines, then the number of such events; or the line of a refusal. Behind the output's end nothing is
+// written and the places are counted all the same: so the length of a text is known before a byte of it is written.
 use run_compare_reading::EVENTS;
 use run_text::LINE;
 use run_text::count_line;
@@ -90,7 +90,8 @@ fn answer_line(text: &mut [u8], at: usize, i: u32, a: Row) -> usize
 // The lines of both answers.
 fn both_lines(text: &mut [u8], at: usize, i: u32, a: Row, b: Row) -> usize
     requires { ⌜ (at ≤ 800000) × (i < 10000) ⌝ }
-    ensures { λ r. ⌜ (Wrote (eventLine i (numbersOf a) ++ eventLine i (numbersOf b)) at (now (text .entry)) (now (text .exit)) r) × (r ≤ at + 122) ⌝ }
+    ensures { λ r. ⌜ (Wrote (eventLine i (numbersOf a) ++ eventLine i (numbersOf b)) at (now (text .entry)) (now (text .exit)) r)
+        × (r ≤ at + 122) ⌝ }
 {
     let next = answer_line(text, at, i, a);
     answer_line(text, next, i, b)
@@ -105,7 +106,10 @@ struct Listed {
 // An event, if its answers differ.
 fn list_event(text: &mut [u8], listed: Listed, i: u32, a: Row, b: Row) -> Listed
     requires { ⌜ (listed .at ≤ 800000) × (i < 10000) × (listed .events ≤ 10000) ⌝ }
-    ensures { λ r. ⌜ (Wrote (changeLines (changes i (numbersOf a ∷ []) (numbersOf b ∷ []))) (listed .at) (now (text .entry)) (now (text .exit)) (r .at)) × (r .events ≡ listed .events + length (changes i (numbersOf a ∷ []) (numbersOf b ∷ []))) × (r .at ≤ listed .at + 122) × (r .events ≤ listed .events + 1) ⌝ }
+    ensures { λ r. ⌜ (Wrote (changeLines (changes i (numbersOf a ∷ []) (numbersOf b ∷ []))) (listed .at)
+        (now (text .entry)) (now (text .exit)) (r .at)) ×
+        (r .events ≡ listed .events + length (changes i (numbersOf a ∷ []) (numbersOf b ∷ []))) ×
+        (r .at ≤ listed .at + 122) × (r .events ≤ listed .events + 1) ⌝ }
 {
     if is_change(a, b) {
         let at = both_lines(text, listed.at, i, a, b);
@@ -128,7 +132,11 @@ fn list_events(
     answers2: &[u32],
 ) -> Listed
     requires { ⌜ Lent n (now codes1) (now answers1) (now codes2) (now answers2) ⌝ }
-    ensures { λ r. ⌜ (Wrote (changeLines (changesIn n (now (codes1 .entry)) (now (answers1 .entry)) (now (codes2 .entry)) (now (answers2 .entry)))) 0 (now (text .entry)) (now (text .exit)) (r .at)) × (r .events ≡ length (changesIn n (now (codes1 .entry)) (now (answers1 .entry)) (now (codes2 .entry)) (now (answers2 .entry)))) × (r .at ≤ 122 * n) × (r .events ≤ n) ⌝ }
+    ensures { λ r. ⌜ (Wrote (changeLines (changesIn n (now (codes1 .entry)) (now (answers1 .entry))
+        (now (codes2 .entry)) (now (answers2 .entry)))) 0 (now (text .entry)) (now (text .exit)) (r .at)) ×
+        (r .events ≡ length
+        (changesIn n (now (codes1 .entry)) (now (answers1 .entry)) (now (codes2 .entry)) (now (answers2 .entry)))) ×
+        (r .at ≤ 122 * n) × (r .events ≤ n) ⌝ }
 {
     let mut listed = Listed { at: 0, events: 0 };
     let mut i: usize = 0;
@@ -166,7 +174,9 @@ fn text_of(
     answers2: &[u32],
 ) -> usize
     requires { ⌜ Lent n (now codes1) (now answers1) (now codes2) (now answers2) ⌝ }
-    ensures { λ r. ⌜ (Wrote (textIn n (now (codes1 .entry)) (now (answers1 .entry)) (now (codes2 .entry)) (now (answers2 .entry))) 0 (now (text .entry)) (now (text .exit)) r) × (r ≤ longestText) ⌝ }
+    ensures { λ r. ⌜ (Wrote
+        (textIn n (now (codes1 .entry)) (now (answers1 .entry)) (now (codes2 .entry)) (now (answers2 .entry))) 0
+        (now (text .entry)) (now (text .exit)) r) × (r ≤ longestText) ⌝ }
 {
     let listed = list_events(text, n, codes1, answers1, codes2, answers2);
     end_text(text, listed.at, listed.events)
@@ -197,7 +207,10 @@ pub fn show_changes(
     codes2: &[i32],
     answers2: &[u32],
 ) -> Told
-    ensures { λ r. ⌜ Shown (textIn (lentIn n (now (codes1 .entry)) (now (answers1 .entry)) (now (codes2 .entry)) (now (answers2 .entry))) (now (codes1 .entry)) (now (answers1 .entry)) (now (codes2 .entry)) (now (answers2 .entry))) r (now (text .entry)) (now (text .exit)) ⌝ }
+    ensures { λ r. ⌜ Shown (textIn
+        (lentIn n (now (codes1 .entry)) (now (answers1 .entry)) (now (codes2 .entry)) (now (answers2 .entry)))
+        (now (codes1 .entry)) (now (answers1 .entry)) (now (codes2 .entry)) (now (answers2 .entry))) r
+        (now (text .entry)) (now (text .exit)) ⌝ }
 {
     let m = lent(n, codes1, answers1);
     let k = lent(m, codes2, answers2);

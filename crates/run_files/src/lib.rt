@@ -1,4 +1,5 @@
-// A recorded run read from an open file to its end, and counted. No contract can say what is read; what comes of the bytes is said in `run_figures`.
+// A recorded run read from an open file to its end, and counted. No contract can say what is read; what comes of the
+// bytes is said in `run_figures`.
 use memory_columns::MESSAGE_WORDS;
 use memory_columns::STATE_WORDS;
 use memory_columns::system;
@@ -15,8 +16,8 @@ use run_tally::STATES;
 use run_tally::TASKS;
 use run_tally::flat;
 
-// What became of a file: its record, how many events ran and how many tasks its setup has; the run's refusal, fault and place, or 0; and whether all of
-// it was read.
+// What became of a file: its record, how many events ran and how many tasks its setup has; the run's refusal, fault and
+// place, or 0; and whether all of it was read.
 pub struct Run {
     pub record: Record,
     pub events: u64,
@@ -72,7 +73,8 @@ fn next_part(
     taken(count(numbers, held, words, messages, table, codes, &buf[..n]))
 }
 
-// To the end, or to a refusal. A loop has to end and nothing says that a file does: it counts its turns down, from a number that no run uses up.
+// To the end, or to a refusal. A loop has to end and nothing says that a file does: it counts its turns down, from a
+// number that no run uses up.
 fn all_parts(
     fd: i32,
     numbers: &mut [u32; NUMBERS],

@@ -1,5 +1,6 @@
-// The figures of a month: the records of up to 64 runs summed, number by number. A record is a struct, and the month a lent slice of them: `total` and
-// `month` are thin and walked by hand, and leave the sums to functions on plain numbers. The contract of `month` cites `totals`, the exact sums.
+// The figures of a month: the records of up to 64 runs summed, number by number. A record is a struct, and the month a
+// lent slice of them: `total` and `month` are thin and walked by hand, and leave the sums to functions on plain
+// numbers. The contract of `month` cites `totals`, the exact sums.
 ghost use mathlib.Core.Path.{_≡_};
 ghost use mathlib.Core.Bool.{true};
 ghost use lib.ListN.{length};
@@ -26,8 +27,8 @@ pub struct Sum {
     pub sums: [u64; COUNTS],
 }
 
-// Done, or why there is no report: T1 more than 64 records, T2 an output of another length than 253, T3 a total beyond 2^32 - 1. The first that applies
-// is said.
+// Done, or why there is no report: T1 more than 64 records, T2 an output of another length than 253, T3 a total beyond
+// 2^32 - 1. The first that applies is said.
 pub enum Reporting {
     Done,
     Many,
@@ -104,7 +105,8 @@ fn write(t: Sum, out: &mut [u32])
 
 // The report of so many records, whose sums are given.
 pub fn report(t: Sum, records: usize, out: &mut [u32]) -> Reporting
-    ensures { λ r. ⌜ (digit r ≡ refusal records (length (now (out .entry))) (t .sums)) × (now (out .exit) ≡ reportOf (digit r) (t .sums) (now (out .entry))) ⌝ }
+    ensures { λ r. ⌜ (digit r ≡ refusal records (length (now (out .entry))) (t .sums)) ×
+        (now (out .exit) ≡ reportOf (digit r) (t .sums) (now (out .entry))) ⌝ }
 {
     if RECORDS < records {
         return Reporting::Many;

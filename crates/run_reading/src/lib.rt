@@ -1,5 +1,6 @@
-// The bytes of a recorded run: the setup and the count of events are judged as they stand, and an event's words are signed ones. The contracts cite
-// `readHead` and `signedWord`. That the bytes may come in parts is said and proved here without code (`Recorder`, `any-division`).
+// The bytes of a recorded run: the setup and the count of events are judged as they stand, and an event's words are
+// signed ones. The contracts cite `readHead` and `signedWord`. That the bytes may come in parts is said and proved here
+// without code (`Recorder`, `any-division`).
 use setup::Judged;
 use setup::Span;
 use setup::judge_word;

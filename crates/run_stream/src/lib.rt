@@ -1,5 +1,6 @@
-// A recorder's own memory, five numbers and the bytes held: what each byte of a recorded run completes, and what its end does. Any numbers and bytes are
-// a recorder (`recorderOf`). Setup and count are judged anew after each byte, by the reader of whole ones; an event's bytes are held until it is whole.
+// A recorder's own memory, five numbers and the bytes held: what each byte of a recorded run completes, and what its
+// end does. Any numbers and bytes are a recorder (`recorderOf`). Setup and count are judged anew after each byte, by
+// the reader of whole ones; an event's bytes are held until it is whole.
 use run_reading::EVENT;
 use run_reading::HEAD;
 use run_reading::judge_head;

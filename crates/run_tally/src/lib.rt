@@ -1,5 +1,5 @@
-// Counts on plain numbers: a table of 32 tasks by seven states, passed and returned by value, in which one cell is raised for each task after each event;
-// and one count for each code. A full count stays.
+// Counts on plain numbers: a table of 32 tasks by seven states, passed and returned by value, in which one cell is
+// raised for each task after each event; and one count for each code. A full count stays.
 use run_month::COUNTS;
 use run_month::Record;
 ghost use mathlib.Core.Path.{_≡_};

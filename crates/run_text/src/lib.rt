@@ -1,5 +1,6 @@
-// Text in a lent output, line by line. Each function writes from a place on, the lines from the front, and gives the place behind what it wrote. Behind
-// the output's end nothing is written and the places are counted all the same: so the length of a line is known before a byte of it is written.
+// Text in a lent output, line by line. Each function writes from a place on, the lines from the front, and gives the
+// place behind what it wrote. Behind the output's end nothing is written and the places are counted all the same: so
+// the length of a line is known before a byte of it is written.
 use call_words::bits_of;
 ghost use mathlib.Core.Path.{_≡_};
 ghost use mathlib.Core.List.{[], _∷_};
@@ -117,7 +118,8 @@ pub fn event_line(
     runs: u32,
     released: u32,
 ) -> usize
-    ensures { λ r. ⌜ (Wrote (eventLine i (code ∷ pos w1 ∷ pos w2 ∷ pos runs ∷ pos released ∷ [])) 0 (now (text .entry)) (now (text .exit)) r) × (r ≤ longestLine) ⌝ }
+    ensures { λ r. ⌜ (Wrote (eventLine i (code ∷ pos w1 ∷ pos w2 ∷ pos runs ∷ pos released ∷ [])) 0 (now (text .entry))
+        (now (text .exit)) r) × (r ≤ longestLine) ⌝ }
 {
     let mut k = number(text, 0, i as usize);
     k = code_field(text, k, code);

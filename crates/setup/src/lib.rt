@@ -5,7 +5,8 @@ ghost use mathlib.Core.List.{[], _∷_};
 ghost use Prim.Native.Nat.{_+_, _≤_, _<_};
 ghost use lib.Dec.{leb};
 ghost use lib.ListN.{length, getD};
-ghost use Rattle.rules.specs.Setup.{S3, wordAt, to, section, counters, readWord, readEntry, readEntries, readSection, readWith, readSetup, perhaps, setup};
+ghost use Rattle.rules.specs.Setup.{S3, wordAt, to, section, counters, readWord, readEntry, readEntries, readSection};
+ghost use Rattle.rules.specs.Setup.{readWith, readSetup, perhaps, setup};
 ghost use Rattle.setup.specs.Judging.{judgedOf, toldAs, onGood, rangesOf, leftOut};
 ghost use Rattle.setup.specs.Layout.{countAt, onward, partAt, planOf};
 

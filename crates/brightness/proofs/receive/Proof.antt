@@ -6,24 +6,6 @@ use borrow.Author.Needs.{needs}
 use Rattle.brightness.proofs.receive.Statement.{statement}
 use Rattle.brightness.proofs.receive.Tie as tie
 
-judge-requires : tie.Need-judge-requires
-judge-requires c κs = search needs
-
-enum-known-point : tie.Need-enum-known-point
-enum-known-point c = search needs
-
-enum-told : tie.Need-enum-told
-enum-told c = search needs
-
-running-requires : tie.Need-running-requires
-running-requires c κs = search needs
-
-call-requires : tie.Need-call-requires
-call-requires c κs = search needs
-
-heard-requires : tie.Need-heard-requires
-heard-requires c κs = search needs
-
 returns : tie.Need-returns
 returns c = let at-point = c .before in refused _ _ _ (at-point .before .before .judge .ensures) (at-point .point .given .1) _ _ _
 
@@ -47,12 +29,5 @@ returns-2 c =
 pub receive-spec : {M : Type 1} → statement M
 receive-spec =
     tie.close
-    (tie.spec
-    judge-requires
-    enum-known-point
-    enum-told
-    running-requires
-    call-requires
-    heard-requires
-    returns
-    returns-2)
+    (tie.spec (λ c κs. search needs) (λ c. search needs) (λ c. search needs) (λ c κs. search needs)
+    (λ c κs. search needs) (λ c κs. search needs) returns returns-2)

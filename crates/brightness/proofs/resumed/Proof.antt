@@ -5,27 +5,6 @@ use borrow.Author.Needs.{needs}
 use Rattle.brightness.proofs.resumed.Statement.{statement}
 use Rattle.brightness.proofs.resumed.Tie as tie
 
-judge-requires : tie.Need-judge-requires
-judge-requires c κs = search needs
-
-enum-known-point : tie.Need-enum-known-point
-enum-known-point c = search needs
-
-enum-told : tie.Need-enum-told
-enum-told c = search needs
-
-running-requires : tie.Need-running-requires
-running-requires c κs = search needs
-
-task-word-requires : tie.Need-task-word-requires
-task-word-requires c κs = search needs
-
-cell-requires : tie.Need-cell-requires
-cell-requires c κs = search needs
-
-woken-requires : tie.Need-woken-requires
-woken-requires c κs = search needs
-
 returns : tie.Need-returns
 returns c = let at-point = c .before in refused-again _ _ _ (at-point .before .before .judge .ensures) (at-point .point .given .1) _ _
 
@@ -50,13 +29,5 @@ returns-2 c =
 pub resumed-spec : {M : Type 1} → statement M
 resumed-spec =
     tie.close
-    (tie.spec
-    judge-requires
-    enum-known-point
-    enum-told
-    running-requires
-    task-word-requires
-    cell-requires
-    woken-requires
-    returns
-    returns-2)
+    (tie.spec (λ c κs. search needs) (λ c. search needs) (λ c. search needs) (λ c κs. search needs)
+    (λ c κs. search needs) (λ c κs. search needs) (λ c κs. search needs) returns returns-2)

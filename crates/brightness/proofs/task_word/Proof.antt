@@ -11,13 +11,10 @@ use Rattle.brightness.proofs.task_word.Tie as tie
 returns : tie.Need-returns
 returns c = rw (lt-leb _ _ (c .if1 .taken))
 
-cast-result : tie.Need-cast-result
-cast-result c = search needs
-
 returns-2 : tie.Need-returns-2
 returns-2 c =
     let n = c .before .args .task in
     rw (le-leb _ _ (c .if1 .left)) (toZ-ofZ {w = w32} {z = pos n} (record { sfits = omega arith }))
 
 pub task-word-spec : {M : Type 1} → statement M
-task-word-spec = tie.close (tie.spec returns cast-result returns-2)
+task-word-spec = tie.close (tie.spec returns (λ c. search needs) returns-2)

@@ -5,9 +5,6 @@ use borrow.Author.Tests.{le-ltb, lt-ltb, not-true, not-false}
 use Rattle.brightness_curve.proofs.goes_on.Statement.{statement}
 use Rattle.brightness_curve.proofs.goes_on.Tie as tie
 
-in-range-requires : tie.Need-in-range-requires
-in-range-requires c κs = search needs
-
 returns : tie.Need-returns
 returns c = rw (sym (c .before .in-range .ensures) ∙ not-true _ (c .if1 .taken))
 
@@ -22,4 +19,4 @@ returns-3 c =
     rw (sym (first .before .in-range .ensures) ∙ not-false _ (first .if1 .left), lt-ltb _ _ (c .if2 .left))
 
 pub goes-on-spec : {M : Type 1} → statement M
-goes-on-spec = tie.close (tie.spec in-range-requires returns returns-2 returns-3)
+goes-on-spec = tie.close (tie.spec (λ c κs. search needs) returns returns-2 returns-3)

@@ -21,15 +21,6 @@ returns c = sym (bad-count _ (rw (lt-leb _ _ (c .if1 .taken))))
 returns-2 : tie.Need-returns-2 Inv-loop μ-loop
 returns-2 c = sym (bad-count _ (rw (le-leb _ _ (c .before .if1 .left), lt-leb _ _ (c .if2 .taken))))
 
-element-copy-out-x : tie.Need-element-copy-out-x Inv-loop μ-loop
-element-copy-out-x c = search needs
-
-element-copy-out-y : tie.Need-element-copy-out-y Inv-loop μ-loop
-element-copy-out-y c = search needs
-
-in-range-requires : tie.Need-in-range-requires Inv-loop μ-loop
-in-range-requires c κs = search needs
-
 returns-3 : tie.Need-returns-3 Inv-loop μ-loop
 returns-3 c =
     let at-in-range = c .before in
@@ -44,38 +35,11 @@ loop-holds c =
     let m = second .if2 .left in
     (omega arith, l, m, sym (first-good _ l m (at-in-range .in-range .ensures) (not-false _ (c .if3 .left))))
 
-cast-i : tie.Need-cast-i Inv-loop μ-loop
-cast-i c = search needs
-
-mul-lux : tie.Need-mul-lux Inv-loop μ-loop
-mul-lux c = search needs
-
-element-copy-out-lux : tie.Need-element-copy-out-lux Inv-loop μ-loop
-element-copy-out-lux c = search needs
-
-mul-level : tie.Need-mul-level Inv-loop μ-loop
-mul-level c = search needs
-
-element-copy-out-level : tie.Need-element-copy-out-level Inv-loop μ-loop
-element-copy-out-level c = search needs
-
-goes-on-requires : tie.Need-goes-on-requires Inv-loop μ-loop
-goes-on-requires c κs = search needs
-
-add-t25 : tie.Need-add-t25 Inv-loop μ-loop
-add-t25 c = search needs
-
 returns-4 : tie.Need-returns-4 Inv-loop μ-loop
 returns-4 c =
     let at-goes-on = c .before in
     let inside = at-goes-on .before .before .before in
     sym (sym (inside .before .loop .inv .3) ∙ next-bad _ _ (inside .loop-test .taken) (at-goes-on .goes-on .ensures) (not-true _ (c .if4 .taken)))
-
-add-k : tie.Need-add-k Inv-loop μ-loop
-add-k c = search needs
-
-loop-less : tie.Need-loop-less Inv-loop μ-loop
-loop-less c = search needs
 
 loop-again : tie.Need-loop-again Inv-loop μ-loop
 loop-again c =
@@ -90,25 +54,7 @@ returns-5 c = sym (judge-last _ _ (c .loop-test .left)) ∙ c .before .loop .inv
 pub judge-spec : {M : Type 1} → statement M
 judge-spec =
     tie.close
-    (tie.spec
-    Inv-loop
-    μ-loop
-    returns
-    returns-2
-    element-copy-out-x
-    element-copy-out-y
-    in-range-requires
-    returns-3
-    loop-holds
-    cast-i
-    mul-lux
-    element-copy-out-lux
-    mul-level
-    element-copy-out-level
-    goes-on-requires
-    add-t25
-    returns-4
-    add-k
-    loop-less
-    loop-again
-    returns-5)
+    (tie.spec Inv-loop μ-loop returns returns-2 (λ c. search needs) (λ c. search needs)
+    (λ c κs. search needs) returns-3 loop-holds (λ c. search needs) (λ c. search needs)
+    (λ c. search needs) (λ c. search needs) (λ c. search needs) (λ c κs. search needs)
+    (λ c. search needs) returns-4 (λ c. search needs) (λ c. search needs) loop-again returns-5)

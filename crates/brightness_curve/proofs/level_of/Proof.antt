@@ -4,15 +4,6 @@ use borrow.Author.Needs.{needs}
 use Rattle.brightness_curve.proofs.level_of.Statement.{statement}
 use Rattle.brightness_curve.proofs.level_of.Tie as tie
 
-judge-requires : tie.Need-judge-requires
-judge-requires c κs = search needs
-
-enum-known-point : tie.Need-enum-known-point
-enum-known-point c = search needs
-
-enum-told : tie.Need-enum-told
-enum-told c = search needs
-
 level-on-requires : tie.Need-level-on-requires
 level-on-requires c κs = is-good (c .before .before .judge .ensures) (c .enum-told .given .1)
 
@@ -23,4 +14,4 @@ returns-2 : tie.Need-returns-2
 returns-2 c = let told = c .before in of-good (told .before .before .judge .ensures) (told .enum-told .given .1) (c .level-on .ensures)
 
 pub level-of-spec : {M : Type 1} → statement M
-level-of-spec = tie.close (tie.spec judge-requires enum-known-point enum-told level-on-requires returns returns-2)
+level-of-spec = tie.close (tie.spec (λ c κs. search needs) (λ c. search needs) (λ c. search needs) level-on-requires returns returns-2)

@@ -17,12 +17,6 @@ Inv-loop lux curve count x₀ y₀ k₀ x y k =
 abbrev μ-loop : tie.MeasureT-loop
 μ-loop lux curve count x₀ y₀ k₀ x y k = count - k
 
-element-copy-out-x : tie.Need-element-copy-out-x Inv-loop μ-loop
-element-copy-out-x c = search needs
-
-element-copy-out-y : tie.Need-element-copy-out-y Inv-loop μ-loop
-element-copy-out-y c = search needs
-
 returns : tie.Need-returns Inv-loop μ-loop
 returns c = let start = c .before .before .before in sym (before-first _ _ (good-rising _ (start .pre) .least) (c .if1 .taken))
 
@@ -31,21 +25,6 @@ loop-holds c =
     let start = c .before .before .before in
     let g = good-rising _ (start .pre) in
     (omega arith, g .least, g .most, c .if1 .left, g .rises, sym (from-first _ _ (g .least) (c .if1 .left)))
-
-cast-i : tie.Need-cast-i Inv-loop μ-loop
-cast-i c = search needs
-
-mul-u : tie.Need-mul-u Inv-loop μ-loop
-mul-u c = search needs
-
-element-copy-out-u : tie.Need-element-copy-out-u Inv-loop μ-loop
-element-copy-out-u c = search needs
-
-mul-v : tie.Need-mul-v Inv-loop μ-loop
-mul-v c = search needs
-
-element-copy-out-v : tie.Need-element-copy-out-v Inv-loop μ-loop
-element-copy-out-v c = search needs
 
 step-up-requires : tie.Need-step-up-requires Inv-loop μ-loop
 step-up-requires c κs =
@@ -57,12 +36,6 @@ returns-2 : tie.Need-returns-2 Inv-loop μ-loop
 returns-2 c =
     let inside = c .before .before .before .before in
     c .step-up .ensures ∙ sym (before-next _ _ _ (inside .loop-test .taken) (c .before .if2 .taken)) ∙ inside .before .loop .inv .5
-
-add-k : tie.Need-add-k Inv-loop μ-loop
-add-k c = search needs
-
-loop-less : tie.Need-loop-less Inv-loop μ-loop
-loop-less c = search needs
 
 loop-again : tie.Need-loop-again Inv-loop μ-loop
 loop-again c =
@@ -77,21 +50,7 @@ returns-3 c = sym (behind-last _ _ _ (c .loop-test .left)) ∙ c .before .loop .
 pub level-on-spec : {M : Type 1} → statement M
 level-on-spec =
     tie.close
-    (tie.spec
-    Inv-loop
-    μ-loop
-    element-copy-out-x
-    element-copy-out-y
-    returns
-    loop-holds
-    cast-i
-    mul-u
-    element-copy-out-u
-    mul-v
-    element-copy-out-v
-    step-up-requires
-    returns-2
-    add-k
-    loop-less
-    loop-again
-    returns-3)
+    (tie.spec Inv-loop μ-loop (λ c. search needs) (λ c. search needs) returns loop-holds
+    (λ c. search needs) (λ c. search needs) (λ c. search needs) (λ c. search needs)
+    (λ c. search needs) step-up-requires returns-2 (λ c. search needs) (λ c. search needs)
+    loop-again returns-3)

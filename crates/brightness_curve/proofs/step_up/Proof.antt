@@ -8,17 +8,8 @@ use Rattle.brightness_curve.proofs.Levels.{product-fits, sum-fits}
 use Rattle.brightness_curve.proofs.step_up.Statement.{statement}
 use Rattle.brightness_curve.proofs.step_up.Tie as tie
 
-sub-rounded-down : tie.Need-sub-rounded-down
-sub-rounded-down c = search needs
-
-sub-rounded-down-2 : tie.Need-sub-rounded-down-2
-sub-rounded-down-2 c = search needs
-
 mul-rounded-down : tie.Need-mul-rounded-down
 mul-rounded-down c = omega (arith, product-fits (c .pre))
-
-sub-rounded-down-3 : tie.Need-sub-rounded-down-3
-sub-rounded-down-3 c = search needs
 
 rounded-down-requires : tie.Need-rounded-down-requires
 rounded-down-requires c κs = (product-fits (c .pre), omega arith, omega arith)
@@ -33,11 +24,5 @@ returns c = ap (λ (n : ℕ). c .before .args .y + n) (c .rounded-down .ensures)
 pub step-up-spec : {M : Type 1} → statement M
 step-up-spec =
     tie.close
-    (tie.spec
-    sub-rounded-down
-    sub-rounded-down-2
-    mul-rounded-down
-    sub-rounded-down-3
-    rounded-down-requires
-    add-result
-    returns)
+    (tie.spec (λ c. search needs) (λ c. search needs) mul-rounded-down (λ c. search needs)
+    rounded-down-requires add-result returns)

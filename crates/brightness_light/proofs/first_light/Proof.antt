@@ -5,21 +5,6 @@ use borrow.Author.Needs.{needs}
 use Rattle.brightness_light.proofs.first_light.Statement.{statement}
 use Rattle.brightness_light.proofs.first_light.Tie as tie
 
-first-level-requires : tie.Need-first-level-requires
-first-level-requires c κs = search needs
-
-enum-known-point : tie.Need-enum-known-point
-enum-known-point c = search needs
-
-show-requires : tie.Need-show-requires
-show-requires c κs = search needs
-
-enum-known-level : tie.Need-enum-known-level
-enum-known-level c = search needs
-
-show-requires-2 : tie.Need-show-requires-2
-show-requires-2 c κs = search needs
-
 returns : tie.Need-returns
 returns c =
     let at-point = c .before .before in
@@ -33,11 +18,5 @@ returns-2 c =
 pub first-light-spec : {M : Type 1} → statement M
 first-light-spec =
     tie.close
-    (tie.spec
-    first-level-requires
-    enum-known-point
-    show-requires
-    enum-known-level
-    show-requires-2
-    returns
-    returns-2)
+    (tie.spec (λ c κs. search needs) (λ c. search needs) (λ c κs. search needs) (λ c. search needs)
+    (λ c κs. search needs) returns returns-2)

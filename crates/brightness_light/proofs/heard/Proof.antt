@@ -9,19 +9,10 @@ use Rattle.brightness_light.proofs.heard.Tie as tie
 
 -- `heard`: by the code. Assumes nothing.
 
-show-requires : tie.Need-show-requires
-show-requires c κs = search needs
-
 returns : tie.Need-returns
 returns c =
     let first = c .before in
     c .show .ensures ∙ hears-wait _ _ _ _ _ _ (is-waits (first .before .before .fits .code) (first .if1 .taken))
-
-rested-requires : tie.Need-rested-requires
-rested-requires c κs = search needs
-
-take-requires : tie.Need-take-requires
-take-requires c κs = search needs
 
 returns-2 : tie.Need-returns-2
 returns-2 c =
@@ -31,9 +22,6 @@ returns-2 c =
     let start = first .before .before in
     rw (toZ-ofZ (start .fits .code), at-rested .rested .ensures) at (c .take .ensures)
     ∙ hears-reading _ _ _ _ _ _ (not-waits (start .args .code) (first .if1 .left)) (is-ok (start .fits .code) (second .if2 .taken))
-
-take-requires-2 : tie.Need-take-requires-2
-take-requires-2 c κs = search needs
 
 returns-3 : tie.Need-returns-3
 returns-3 c =
@@ -46,11 +34,5 @@ returns-3 c =
 pub heard-spec : {M : Type 1} → statement M
 heard-spec =
     tie.close
-    (tie.spec
-    show-requires
-    returns
-    rested-requires
-    take-requires
-    returns-2
-    take-requires-2
-    returns-3)
+    (tie.spec (λ c κs. search needs) returns (λ c κs. search needs) (λ c κs. search needs) returns-2
+    (λ c κs. search needs) returns-3)

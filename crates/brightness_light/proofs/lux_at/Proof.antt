@@ -10,14 +10,8 @@ returns c = before-first _ _ (c .if1 .taken)
 returns-2 : tie.Need-returns-2
 returns-2 c = behind-last _ _ (c .if2 .taken)
 
-mul-result : tie.Need-mul-result
-mul-result c = search needs
-
-shared-slice-read-result : tie.Need-shared-slice-read-result
-shared-slice-read-result c = search needs
-
 returns-3 : tie.Need-returns-3
 returns-3 c = in-slots _ _ (c .before .before .if1 .left)
 
 pub lux-at-spec : {M : Type 1} → statement M
-lux-at-spec = tie.close (tie.spec returns returns-2 mul-result shared-slice-read-result returns-3)
+lux-at-spec = tie.close (tie.spec returns returns-2 (λ c. search needs) (λ c. search needs) returns-3)

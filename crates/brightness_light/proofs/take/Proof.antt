@@ -18,34 +18,10 @@ known c = rw (c .before .before .lux-at .ensures) at (c .level-of .ensures)
 fits : (c : tie.After-level-of) → SFits w32 (c .before .before .before .before .args .code)
 fits c = c .before .before .before .before .fits .code
 
-lux-at-requires : tie.Need-lux-at-requires
-lux-at-requires c κs = search needs
-
-is-slot-requires : tie.Need-is-slot-requires
-is-slot-requires c κs = search needs
-
-level-of-requires : tie.Need-level-of-requires
-level-of-requires c κs = search needs
-
-enum-known-point : tie.Need-enum-known-point
-enum-known-point c = search needs
-
-show-requires : tie.Need-show-requires
-show-requires c κs = search needs
-
-enum-known-level : tie.Need-enum-known-level
-enum-known-level c = search needs
-
-show-requires-2 : tie.Need-show-requires-2
-show-requires-2 c κs = search needs
-
 returns : tie.Need-returns
 returns c =
     let told = c .before .before .before in
     c .show2 .ensures ∙ takes-none _ _ _ _ _ (sym (told .level .given .1) ∙ known (told .before .before)) (not-ok (told .before .before .before .before .before .before .args .code) (c .before .if1 .taken))
-
-show-requires-3 : tie.Need-show-requires-3
-show-requires-3 c κs = search needs
 
 returns-2 : tie.Need-returns-2
 returns-2 c =
@@ -53,9 +29,6 @@ returns-2 c =
     let told = first .before .before in
     let at-level = told .before .before in
     c .show3 .ensures ∙ takes-no-slot _ _ _ _ _ (sym (told .level .given .1) ∙ known at-level) (is-ok (fits at-level) (first .if1 .left)) (sym (at-level .before .is-slot .ensures) ∙ not-true _ (c .before .if2 .taken))
-
-show-requires-4 : tie.Need-show-requires-4
-show-requires-4 c κs = search needs
 
 returns-3 : tie.Need-returns-3
 returns-3 c =
@@ -72,17 +45,6 @@ returns-4 c =
 pub take-spec : {M : Type 1} → statement M
 take-spec =
     tie.close
-    (tie.spec
-    lux-at-requires
-    is-slot-requires
-    level-of-requires
-    enum-known-point
-    show-requires
-    enum-known-level
-    show-requires-2
-    returns
-    show-requires-3
-    returns-2
-    show-requires-4
-    returns-3
-    returns-4)
+    (tie.spec (λ c κs. search needs) (λ c κs. search needs) (λ c κs. search needs)
+    (λ c. search needs) (λ c κs. search needs) (λ c. search needs) (λ c κs. search needs) returns
+    (λ c κs. search needs) returns-2 (λ c κs. search needs) returns-3 returns-4)

@@ -8,17 +8,8 @@ use Rattle.brightness_light.proofs.woken.Tie as tie
 
 -- `woken`: by who runs. Assumes nothing.
 
-show-requires : tie.Need-show-requires
-show-requires c κs = search needs
-
 returns : tie.Need-returns
 returns c = c .show .ensures ∙ wakes-other _ _ _ _ _ _ (c .before .if1 .taken)
-
-rested-requires : tie.Need-rested-requires
-rested-requires c κs = search needs
-
-take-requires : tie.Need-take-requires
-take-requires c κs = search needs
 
 returns-2 : tie.Need-returns-2
 returns-2 c =
@@ -27,4 +18,4 @@ returns-2 c =
     rw (toZ-ofZ (first .before .before .before .fits .code), at-rested .rested .ensures) at (c .take .ensures) ∙ wakes-own _ _ _ _ _ _ (first .if1 .left)
 
 pub woken-spec : {M : Type 1} → statement M
-woken-spec = tie.close (tie.spec show-requires returns rested-requires take-requires returns-2)
+woken-spec = tie.close (tie.spec (λ c κs. search needs) returns (λ c κs. search needs) (λ c κs. search needs) returns-2)

@@ -4,23 +4,11 @@ use borrow.Author.Needs.{needs}
 use Rattle.call_alarms.proofs.alm_sts.Statement.{statement}
 use Rattle.call_alarms.proofs.alm_sts.Tie as tie
 
-alarm-code-requires : tie.Need-alarm-code-requires
-alarm-code-requires c κs = search needs
-
-alarm-due-requires : tie.Need-alarm-due-requires
-alarm-due-requires c κs = search needs
-
-gives-requires : tie.Need-gives-requires
-gives-requires c κs = search needs
-
 returns : tie.Need-returns
 returns c =
     let first = c .before in
     let at-due = first .before in
     sts-idle _ (at-due .alarm-due .ensures) (at-due .before .alarm-code .ensures) (first .if1 .taken) (c .gives .ensures)
-
-gives-requires-2 : tie.Need-gives-requires-2
-gives-requires-2 c κs = search needs
 
 returns-2 : tie.Need-returns-2
 returns-2 c =
@@ -31,10 +19,5 @@ returns-2 c =
 pub alm-sts-spec : {M : Type 1} → statement M
 alm-sts-spec =
     tie.close
-    (tie.spec
-    alarm-code-requires
-    alarm-due-requires
-    gives-requires
-    returns
-    gives-requires-2
-    returns-2)
+    (tie.spec (λ c κs. search needs) (λ c κs. search needs) (λ c κs. search needs) returns
+    (λ c κs. search needs) returns-2)

@@ -5,24 +5,9 @@ use borrow.Author.Needs.{needs}
 use Rattle.call_alarms.proofs.can_alm.Statement.{statement}
 use Rattle.call_alarms.proofs.can_alm.Tie as tie
 
-alarm-due-requires : tie.Need-alarm-due-requires
-alarm-due-requires c κs = search needs
-
-refuse-requires : tie.Need-refuse-requires
-refuse-requires c κs = search needs
-
 returns : tie.Need-returns
 unfolding number
 returns c = let first = c .before in can-idle _ (first .before .alarm-due .ensures) (first .if1 .taken) (c .refuse .ensures)
-
-alarm-code-requires : tie.Need-alarm-code-requires
-alarm-code-requires c κs = search needs
-
-set-alarm-requires : tie.Need-set-alarm-requires
-set-alarm-requires c κs = search needs
-
-done-requires : tie.Need-done-requires
-done-requires c κs = search needs
 
 returns-2 : tie.Need-returns-2
 returns-2 c =
@@ -34,11 +19,5 @@ returns-2 c =
 pub can-alm-spec : {M : Type 1} → statement M
 can-alm-spec =
     tie.close
-    (tie.spec
-    alarm-due-requires
-    refuse-requires
-    returns
-    alarm-code-requires
-    set-alarm-requires
-    done-requires
-    returns-2)
+    (tie.spec (λ c κs. search needs) (λ c κs. search needs) returns (λ c κs. search needs)
+    (λ c κs. search needs) (λ c κs. search needs) returns-2)

@@ -11,12 +11,6 @@ returns : tie.Need-returns
 unfolding dueAfter
 returns c = rw (eq-eqb _ 0 (c .if1 .taken))
 
-add-sum : tie.Need-add-sum
-add-sum c = search needs
-
-rem-rest : tie.Need-rem-rest
-rem-rest c = search needs
-
 cast-result : tie.Need-cast-result
 cast-result c = fits-due _ _ (c .before .fits .size .fits) (c .if1 .left) .0
 
@@ -28,4 +22,4 @@ unfolding dueAfter
 returns-2 c = rw (ne-eqb _ 0 (c .if1 .left)) (omega arith)
 
 pub due-after-spec : {M : Type 1} → statement M
-due-after-spec = tie.close (tie.spec returns add-sum rem-rest cast-result add-result returns-2)
+due-after-spec = tie.close (tie.spec returns (λ c. search needs) (λ c. search needs) cast-result add-result returns-2)

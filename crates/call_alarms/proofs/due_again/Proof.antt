@@ -7,15 +7,6 @@ use Rattle.call_alarms.proofs.due_again.Tie as tie
 returns : tie.Need-returns
 returns c = again-once _ (c .if1 .taken)
 
-counter-requires : tie.Need-counter-requires
-counter-requires c κs = search needs
-
-counter-requires-2 : tie.Need-counter-requires-2
-counter-requires-2 c κs = search needs
-
-due-after-requires : tie.Need-due-after-requires
-due-after-requires c κs = search needs
-
 returns-2 : tie.Need-returns-2
 returns-2 c =
     let at-size = c .before in
@@ -24,4 +15,4 @@ returns-2 c =
 
 pub due-again-spec : {M : Type 1} → statement M
 due-again-spec =
-    tie.close (tie.spec returns counter-requires counter-requires-2 due-after-requires returns-2)
+    tie.close (tie.spec returns (λ c κs. search needs) (λ c κs. search needs) (λ c κs. search needs) returns-2)

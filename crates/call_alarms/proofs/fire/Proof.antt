@@ -6,29 +6,8 @@ use borrow.Author.Needs.{needs}
 use Rattle.call_alarms.proofs.fire.Statement.{statement}
 use Rattle.call_alarms.proofs.fire.Tie as tie
 
-is-due-requires : tie.Need-is-due-requires
-is-due-requires c κs = search needs
-
 returns : tie.Need-returns
 returns c = (fire-not _ _ (c .before .is-due .ensures) (c .if1 .taken), omega arith)
-
-alarm-period-requires : tie.Need-alarm-period-requires
-alarm-period-requires c κs = search needs
-
-due-again-requires : tie.Need-due-again-requires
-due-again-requires c κs = search needs
-
-strike-requires : tie.Need-strike-requires
-strike-requires c κs = search needs
-
-unsigned-requires : tie.Need-unsigned-requires
-unsigned-requires c κs = search needs
-
-set-alarm-requires : tie.Need-set-alarm-requires
-set-alarm-requires c κs = search needs
-
-at-most-requires : tie.Need-at-most-requires
-at-most-requires c κs = search needs
 
 returns-2 : tie.Need-returns-2
 returns-2 c =
@@ -43,13 +22,6 @@ returns-2 c =
 pub fire-spec : {M : Type 1} → statement M
 fire-spec =
     tie.close
-    (tie.spec
-    is-due-requires
-    returns
-    alarm-period-requires
-    due-again-requires
-    strike-requires
-    unsigned-requires
-    set-alarm-requires
-    at-most-requires
+    (tie.spec (λ c κs. search needs) returns (λ c κs. search needs) (λ c κs. search needs)
+    (λ c κs. search needs) (λ c κs. search needs) (λ c κs. search needs) (λ c κs. search needs)
     returns-2)

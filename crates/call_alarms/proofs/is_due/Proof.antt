@@ -4,20 +4,11 @@ use borrow.Author.Needs.{needs}
 use Rattle.call_alarms.proofs.is_due.Statement.{statement}
 use Rattle.call_alarms.proofs.is_due.Tie as tie
 
-alarm-due-requires : tie.Need-alarm-due-requires
-alarm-due-requires c κs = search needs
-
 returns : tie.Need-returns
 returns c = due-idle _ _ (c .before .alarm-due .ensures) (c .if1 .taken)
-
-sub-result : tie.Need-sub-result
-sub-result c = search needs
-
-counter-requires : tie.Need-counter-requires
-counter-requires c κs = search needs
 
 returns-2 : tie.Need-returns-2
 returns-2 c = let first = c .before in due-now _ _ (first .before .alarm-due .ensures) (first .if1 .left) (c .counter .ensures)
 
 pub is-due-spec : {M : Type 1} → statement M
-is-due-spec = tie.close (tie.spec alarm-due-requires returns sub-result counter-requires returns-2)
+is-due-spec = tie.close (tie.spec (λ c κs. search needs) returns (λ c. search needs) (λ c κs. search needs) returns-2)

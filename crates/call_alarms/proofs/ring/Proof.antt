@@ -1,5 +1,5 @@
 -- `call_alarms::ring` meets its contract. What is left to ring, and the count with it, is the same at each turn. Assumes nothing.
-use Prim.Native.Nat.{_+_, _≤_, _<_}
+use Prim.Native.Nat.{_+_, _<_}
 use mathlib.Core.Path.{_≡_}
 use native.Mathlib.Omega.{arith}
 use borrow.Author.Needs.{needs}
@@ -16,21 +16,6 @@ abbrev μ-loop : tie.MeasureT-loop
 loop-holds : tie.Need-loop-holds Inv-loop μ-loop
 loop-holds c = (ring-starts _, omega arith, omega arith)
 
-fire-requires : tie.Need-fire-requires Inv-loop μ-loop
-fire-requires c κs = search needs
-
-add-count : tie.Need-add-count Inv-loop μ-loop
-add-count c = search needs
-
-add-k : tie.Need-add-k Inv-loop μ-loop
-add-k c = search needs
-
-sub-left : tie.Need-sub-left Inv-loop μ-loop
-sub-left c = search needs
-
-loop-less : tie.Need-loop-less Inv-loop μ-loop
-loop-less c = search needs
-
 loop-again : tie.Need-loop-again Inv-loop μ-loop
 loop-again c =
     let turn = c .before .before in
@@ -42,4 +27,4 @@ returns : tie.Need-returns Inv-loop μ-loop
 returns c = let h = c .before .loop .inv in (ring-ends _ _ _ _ _ (c .loop-test .left) (h .0), omega (arith, h .1, h .2))
 
 pub ring-spec : {M : Type 1} → statement M
-ring-spec = tie.close (tie.spec Inv-loop μ-loop loop-holds fire-requires add-count add-k sub-left loop-less loop-again returns)
+ring-spec = tie.close (tie.spec Inv-loop μ-loop loop-holds (λ c κs. search needs) (λ c. search needs) (λ c. search needs) (λ c. search needs) (λ c. search needs) loop-again returns)

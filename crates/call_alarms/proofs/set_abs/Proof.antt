@@ -4,19 +4,10 @@ use borrow.Author.Needs.{needs}
 use Rattle.call_alarms.proofs.set_abs.Statement.{statement}
 use Rattle.call_alarms.proofs.set_abs.Tie as tie
 
-counter-requires : tie.Need-counter-requires
-counter-requires c κs = search needs
-
-due-after-requires : tie.Need-due-after-requires
-due-after-requires c κs = search needs
-
-set-alm-requires : tie.Need-set-alm-requires
-set-alm-requires c κs = search needs
-
 returns : tie.Need-returns
 returns c =
     let at-due = c .before .before in
     abs-done _ _ _ (at-due .before .counter .ensures) (c .set-alm .ensures) (at-due .due-after .ensures)
 
 pub set-abs-spec : {M : Type 1} → statement M
-set-abs-spec = tie.close (tie.spec counter-requires due-after-requires set-alm-requires returns)
+set-abs-spec = tie.close (tie.spec (λ c κs. search needs) (λ c κs. search needs) (λ c κs. search needs) returns)

@@ -4,18 +4,6 @@ use borrow.Author.Needs.{needs}
 use Rattle.call_alarms.proofs.set_rel.Statement.{statement}
 use Rattle.call_alarms.proofs.set_rel.Tie as tie
 
-counter-requires : tie.Need-counter-requires
-counter-requires c κs = search needs
-
-counter-requires-2 : tie.Need-counter-requires-2
-counter-requires-2 c κs = search needs
-
-due-after-requires : tie.Need-due-after-requires
-due-after-requires c κs = search needs
-
-set-alm-requires : tie.Need-set-alm-requires
-set-alm-requires c κs = search needs
-
 returns : tie.Need-returns
 returns c =
     let at-due = c .before .before in
@@ -25,4 +13,4 @@ returns c =
 pub set-rel-spec : {M : Type 1} → statement M
 set-rel-spec =
     tie.close
-    (tie.spec counter-requires counter-requires-2 due-after-requires set-alm-requires returns)
+    (tie.spec (λ c κs. search needs) (λ c κs. search needs) (λ c κs. search needs) (λ c κs. search needs) returns)

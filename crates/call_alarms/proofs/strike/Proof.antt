@@ -5,27 +5,12 @@ use borrow.Author.Needs.{needs}
 use Rattle.call_alarms.proofs.strike.Statement.{statement}
 use Rattle.call_alarms.proofs.strike.Tie as tie
 
-alarm-task-requires : tie.Need-alarm-task-requires
-alarm-task-requires c κs = search needs
-
-status-requires : tie.Need-status-requires
-status-requires c κs = search needs
-
-refuse-requires : tie.Need-refuse-requires
-refuse-requires c κs = search needs
-
 returns : tie.Need-returns
 unfolding number
 returns c =
     let first = c .before in
     let at-status = first .before in
     strike-absent _ _ (at-status .before .before .alarm-task .ensures) (at-status .status .ensures) (first .if1 .taken) (c .refuse .ensures)
-
-alarm-wakes-requires : tie.Need-alarm-wakes-requires
-alarm-wakes-requires c κs = search needs
-
-sta-tsk-requires : tie.Need-sta-tsk-requires
-sta-tsk-requires c κs = search needs
 
 returns-2 : tie.Need-returns-2
 returns-2 c =
@@ -34,9 +19,6 @@ returns-2 c =
     let first = at-wakes .before .before in
     let at-status = first .before in
     strike-starts _ _ (at-status .before .before .alarm-task .ensures) (at-status .status .ensures) (first .if1 .left) (at-wakes .alarm-wakes .ensures) (second .if2 .taken) (c .sta-tsk .ensures)
-
-refuse-requires-2 : tie.Need-refuse-requires-2
-refuse-requires-2 c κs = search needs
 
 returns-3 : tie.Need-returns-3
 unfolding number
@@ -47,9 +29,6 @@ returns-3 c =
     let first = at-wakes .before .before in
     let at-status = first .before in
     strike-dormant _ _ (at-status .before .before .alarm-task .ensures) (at-status .status .ensures) (first .if1 .left) (at-wakes .alarm-wakes .ensures) (second .if2 .left) (third .if3 .taken) (c .refuse2 .ensures)
-
-wup-tsk-requires : tie.Need-wup-tsk-requires
-wup-tsk-requires c κs = search needs
 
 returns-4 : tie.Need-returns-4
 returns-4 c =
@@ -63,15 +42,6 @@ returns-4 c =
 pub strike-spec : {M : Type 1} → statement M
 strike-spec =
     tie.close
-    (tie.spec
-    alarm-task-requires
-    status-requires
-    refuse-requires
-    returns
-    alarm-wakes-requires
-    sta-tsk-requires
-    returns-2
-    refuse-requires-2
-    returns-3
-    wup-tsk-requires
-    returns-4)
+    (tie.spec (λ c κs. search needs) (λ c κs. search needs) (λ c κs. search needs) returns
+    (λ c κs. search needs) (λ c κs. search needs) returns-2 (λ c κs. search needs) returns-3
+    (λ c κs. search needs) returns-4)

@@ -4,15 +4,6 @@ use borrow.Author.Needs.{needs}
 use Rattle.call_flags.proofs.clr_flg.Statement.{statement}
 use Rattle.call_flags.proofs.clr_flg.Tie as tie
 
-flag-requires : tie.Need-flag-requires
-flag-requires c κs = search needs
-
-set-flag-requires : tie.Need-set-flag-requires
-set-flag-requires c κs = search needs
-
-done-requires : tie.Need-done-requires
-done-requires c κs = search needs
-
 returns : tie.Need-returns
 returns c =
     let at-set-flag = c .before in
@@ -20,4 +11,4 @@ returns c =
     clr-done _ (at-flag .flag .ensures) _ (at-set-flag .set-flag .ensures) (c .done .ensures)
 
 pub clr-flg-spec : {M : Type 1} → statement M
-clr-flg-spec = tie.close (tie.spec flag-requires set-flag-requires done-requires returns)
+clr-flg-spec = tie.close (tie.spec (λ c κs. search needs) (λ c κs. search needs) (λ c κs. search needs) returns)

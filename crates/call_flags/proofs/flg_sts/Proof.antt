@@ -4,15 +4,6 @@ use borrow.Author.Needs.{needs}
 use Rattle.call_flags.proofs.flg_sts.Statement.{statement}
 use Rattle.call_flags.proofs.flg_sts.Tie as tie
 
-first-waiter-requires : tie.Need-first-waiter-requires
-first-waiter-requires c κs = search needs
-
-flag-requires : tie.Need-flag-requires
-flag-requires c κs = search needs
-
-gives-requires : tie.Need-gives-requires
-gives-requires c κs = search needs
-
 returns : tie.Need-returns
 returns c =
     let at-flag = c .before in
@@ -20,4 +11,4 @@ returns c =
     sts-done _ (at-flag .flag .ensures) (at-first-waiter .first-waiter .ensures) (c .gives .ensures)
 
 pub flg-sts-spec : {M : Type 1} → statement M
-flg-sts-spec = tie.close (tie.spec first-waiter-requires flag-requires gives-requires returns)
+flg-sts-spec = tie.close (tie.spec (λ c κs. search needs) (λ c κs. search needs) (λ c κs. search needs) returns)

@@ -15,18 +15,6 @@ Inv-loop words₀ i pattern n x₀ count₀ looked₀ left₀ words x count look
 abbrev μ-loop : tie.MeasureT-loop
 μ-loop words₀ i pattern n x₀ count₀ looked₀ left₀ words x count looked left = left
 
-system-requires : tie.Need-system-requires Inv-loop μ-loop
-system-requires c κs = search needs
-
-at-most-requires : tie.Need-at-most-requires Inv-loop μ-loop
-at-most-requires c κs = search needs
-
-wait-anchor-requires : tie.Need-wait-anchor-requires Inv-loop μ-loop
-wait-anchor-requires c κs = search needs
-
-follow-requires : tie.Need-follow-requires Inv-loop μ-loop
-follow-requires c κs = search needs
-
 loop-holds : tie.Need-loop-holds Inv-loop μ-loop
 loop-holds c =
     let y = c .before in
@@ -36,12 +24,6 @@ loop-holds c =
 returns : tie.Need-returns Inv-loop μ-loop
 returns c = walk-ends _ _ _ _ _ (c .if1 .taken) ∙ c .before .before .loop .inv .0
 
-follow-requires-2 : tie.Need-follow-requires-2 Inv-loop μ-loop
-follow-requires-2 c κs = search needs
-
-look-requires : tie.Need-look-requires Inv-loop μ-loop
-look-requires c κs = search needs
-
 returns-2 : tie.Need-returns-2 Inv-loop μ-loop
 returns-2 c =
     let a = c .before in
@@ -49,12 +31,6 @@ returns-2 c =
     let i = f .before .before in
     let t = i .before in
     walk-cleared _ _ _ _ _ (c .if2 .taken) ∙ walk-on _ _ _ _ _ _ _ (let g = t .loop-test .taken in omega (arith, g)) (i .if1 .left) (f .follow2 .ensures) (a .look .ensures .0) ∙ t .before .loop .inv .0
-
-sub-left : tie.Need-sub-left Inv-loop μ-loop
-sub-left c = search needs
-
-loop-less : tie.Need-loop-less Inv-loop μ-loop
-loop-less c = search needs
 
 loop-again : tie.Need-loop-again Inv-loop μ-loop
 loop-again c =
@@ -72,19 +48,6 @@ returns-3 c = walk-none _ _ _ _ _ (c .loop-test .left) ∙ c .before .loop .inv 
 pub serve-spec : {M : Type 1} → statement M
 serve-spec =
     tie.close
-    (tie.spec
-    Inv-loop
-    μ-loop
-    system-requires
-    at-most-requires
-    wait-anchor-requires
-    follow-requires
-    loop-holds
-    returns
-    follow-requires-2
-    look-requires
-    returns-2
-    sub-left
-    loop-less
-    loop-again
-    returns-3)
+    (tie.spec Inv-loop μ-loop (λ c κs. search needs) (λ c κs. search needs) (λ c κs. search needs)
+    (λ c κs. search needs) loop-holds returns (λ c κs. search needs) (λ c κs. search needs)
+    returns-2 (λ c. search needs) (λ c. search needs) loop-again returns-3)

@@ -4,21 +4,6 @@ use borrow.Author.Needs.{needs}
 use Rattle.call_flags.proofs.set_flg.Statement.{statement}
 use Rattle.call_flags.proofs.set_flg.Tie as tie
 
-flag-requires : tie.Need-flag-requires
-flag-requires c κs = search needs
-
-serve-requires : tie.Need-serve-requires
-serve-requires c κs = search needs
-
-left-by-requires : tie.Need-left-by-requires
-left-by-requires c κs = search needs
-
-set-flag-requires : tie.Need-set-flag-requires
-set-flag-requires c κs = search needs
-
-reports-requires : tie.Need-reports-requires
-reports-requires c κs = search needs
-
 returns : tie.Need-returns
 returns c =
     let at-set-flag = c .before in
@@ -29,4 +14,4 @@ returns c =
     set-done _ _ ((start .fits .p) .fits) (at-flag .flag .ensures) (at-serve .serve .ensures) (at-left-by .left-by .ensures) (at-set-flag .set-flag .ensures) (c .reports .ensures)
 
 pub set-flg-spec : {M : Type 1} → statement M
-set-flg-spec = tie.close (tie.spec flag-requires serve-requires left-by-requires set-flag-requires reports-requires returns)
+set-flg-spec = tie.close (tie.spec (λ c κs. search needs) (λ c κs. search needs) (λ c κs. search needs) (λ c κs. search needs) (λ c κs. search needs) returns)

@@ -4,18 +4,6 @@ use borrow.Author.Needs.{needs}
 use Rattle.call_flags.proofs.wai_flg.Statement.{statement}
 use Rattle.call_flags.proofs.wai_flg.Tie as tie
 
-flag-requires : tie.Need-flag-requires
-flag-requires c κs = search needs
-
-meets-requires : tie.Need-meets-requires
-meets-requires c κs = search needs
-
-wait-requires : tie.Need-wait-requires
-wait-requires c κs = search needs
-
-waits-requires : tie.Need-waits-requires
-waits-requires c κs = search needs
-
 returns : tie.Need-returns
 returns c =
     let at-wait = c .before in
@@ -23,15 +11,6 @@ returns c =
     let at-meets = first .before in
     let at-flag = at-meets .before in
     wai-waits _ (at-flag .flag .ensures) _ _ (at-meets .meets .ensures) _ (first .if1 .taken) (at-wait .wait .ensures) (c .waits .ensures)
-
-left-of-requires : tie.Need-left-of-requires
-left-of-requires c κs = search needs
-
-set-flag-requires : tie.Need-set-flag-requires
-set-flag-requires c κs = search needs
-
-gives-requires : tie.Need-gives-requires
-gives-requires c κs = search needs
 
 returns-2 : tie.Need-returns-2
 returns-2 c =
@@ -43,4 +22,4 @@ returns-2 c =
     takes _ (at-flag .flag .ensures) _ _ (at-meets .meets .ensures) _ (first .if1 .left) (at-left-of .left-of .ensures) (at-set-flag .set-flag .ensures) (c .gives .ensures)
 
 pub wai-flg-spec : {M : Type 1} → statement M
-wai-flg-spec = tie.close (tie.spec flag-requires meets-requires wait-requires waits-requires returns left-of-requires set-flag-requires gives-requires returns-2)
+wai-flg-spec = tie.close (tie.spec (λ c κs. search needs) (λ c κs. search needs) (λ c κs. search needs) (λ c κs. search needs) returns (λ c κs. search needs) (λ c κs. search needs) (λ c κs. search needs) returns-2)

@@ -5,39 +5,15 @@ use borrow.Author.Needs.{needs}
 use Rattle.call_handlers.proofs.leave.Statement.{statement}
 use Rattle.call_handlers.proofs.leave.Tie as tie
 
-handling-requires : tie.Need-handling-requires
-handling-requires c κs = search needs
-
-refuse-requires : tie.Need-refuse-requires
-refuse-requires c κs = search needs
-
 returns : tie.Need-returns
 unfolding number
 returns c = leave-refused _ (c .before .before .handling .ensures) (c .before .if1 .taken) (c .refuse .ensures)
-
-nest-requires : tie.Need-nest-requires
-nest-requires c κs = search needs
-
-done-requires : tie.Need-done-requires
-done-requires c κs = search needs
 
 returns-2 : tie.Need-returns-2
 returns-2 c =
     let at-nest = c .before in
     let second = at-nest .before .before in
     leave-last _ (second .before .before .handling .ensures) (second .if2 .taken) (at-nest .nest .ensures) (c .done .ensures)
-
-handling-requires-2 : tie.Need-handling-requires-2
-handling-requires-2 c κs = search needs
-
-sub-nest : tie.Need-sub-nest
-sub-nest c = search needs
-
-nest-requires-2 : tie.Need-nest-requires-2
-nest-requires-2 c κs = search needs
-
-done-requires-2 : tie.Need-done-requires-2
-done-requires-2 c κs = search needs
 
 returns-3 : tie.Need-returns-3
 returns-3 c =
@@ -50,15 +26,6 @@ returns-3 c =
 pub leave-spec : {M : Type 1} → statement M
 leave-spec =
     tie.close
-    (tie.spec
-    handling-requires
-    refuse-requires
-    returns
-    nest-requires
-    done-requires
-    returns-2
-    handling-requires-2
-    sub-nest
-    nest-requires-2
-    done-requires-2
-    returns-3)
+    (tie.spec (λ c κs. search needs) (λ c κs. search needs) returns (λ c κs. search needs)
+    (λ c κs. search needs) returns-2 (λ c κs. search needs) (λ c. search needs)
+    (λ c κs. search needs) (λ c κs. search needs) returns-3)

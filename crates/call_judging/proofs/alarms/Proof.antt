@@ -4,9 +4,6 @@ use borrow.Author.Needs.{needs}
 use Rattle.call_judging.proofs.alarms.Statement.{statement}
 use Rattle.call_judging.proofs.alarms.Tie as tie
 
-counter-requires : tie.Need-counter-requires
-counter-requires c κs = search needs
-
 returns : tie.Need-returns
 returns c = no-alarms (c .before .counter .ensures) (c .if1 .taken)
 
@@ -14,4 +11,4 @@ returns-2 : tie.Need-returns-2
 returns-2 c = all-alarms _ (c .before .counter .ensures) (c .if1 .left)
 
 pub alarms-spec : {M : Type 1} → statement M
-alarms-spec = tie.close (tie.spec counter-requires returns returns-2)
+alarms-spec = tie.close (tie.spec (λ c κs. search needs) returns returns-2)

@@ -5,17 +5,11 @@ use borrow.Author.Needs.{needs}
 use Rattle.call_judging.proofs.common.Statement.{statement}
 use Rattle.call_judging.proofs.common.Tie as tie
 
-misplaced-requires : tie.Need-misplaced-requires
-misplaced-requires c κs = search needs
-
 returns : tie.Need-returns
 unfolding number
 returns c =
     let at-misplaced = c .before in
     word-stops _ _ (at-misplaced .misplaced .ensures) (c .if1 .taken)
-
-names-absent-requires : tie.Need-names-absent-requires
-names-absent-requires c κs = search needs
 
 returns-2 : tie.Need-returns-2
 unfolding number
@@ -24,9 +18,6 @@ returns-2 c =
     let first = at-names-absent .before in
     let at-misplaced = first .before in
     word-passes _ _ (at-misplaced .misplaced .ensures) (first .if1 .left) (word-stops _ _ (at-names-absent .names-absent .ensures) (c .if2 .taken))
-
-names-self-requires : tie.Need-names-self-requires
-names-self-requires c κs = search needs
 
 returns-3 : tie.Need-returns-3
 unfolding number
@@ -38,9 +29,6 @@ returns-3 c =
     let at-misplaced = first .before in
     word-passes _ _ (at-misplaced .misplaced .ensures) (first .if1 .left)
     (word-passes _ _ (at-names-absent .names-absent .ensures) (second .if2 .left) (word-stops _ _ (at-names-self .names-self .ensures) (c .if3 .taken)))
-
-names-dormant-requires : tie.Need-names-dormant-requires
-names-dormant-requires c κs = search needs
 
 returns-4 : tie.Need-returns-4
 unfolding number
@@ -72,13 +60,5 @@ returns-5 c =
 pub common-spec : {M : Type 1} → statement M
 common-spec =
     tie.close
-    (tie.spec
-    misplaced-requires
-    returns
-    names-absent-requires
-    returns-2
-    names-self-requires
-    returns-3
-    names-dormant-requires
-    returns-4
-    returns-5)
+    (tie.spec (λ c κs. search needs) returns (λ c κs. search needs) returns-2 (λ c κs. search needs)
+    returns-3 (λ c κs. search needs) returns-4 returns-5)

@@ -5,9 +5,6 @@ use borrow.Author.Needs.{needs}
 use Rattle.call_judging.proofs.is_above.Statement.{statement}
 use Rattle.call_judging.proofs.is_above.Tie as tie
 
-named-requires : tie.Need-named-requires
-named-requires c κs = search needs
-
 returns : tie.Need-returns
 returns c =
     let start = c .before in
@@ -20,4 +17,4 @@ returns-2 c =
     let f = toZ-ofZ (start .fits .a) in rw (rw f at (c .named .ensures)) (above-high (start .args .a) (start .args .n) (rw f at (first .if1 .left)))
 
 pub is-above-spec : {M : Type 1} → statement M
-is-above-spec = tie.close (tie.spec named-requires returns returns-2)
+is-above-spec = tie.close (tie.spec (λ c κs. search needs) returns returns-2)

@@ -6,13 +6,10 @@ use Rattle.call_judging.proofs.misplaced.Tie as tie
 returns : tie.Need-returns
 returns c = rw (c .if1 .taken)
 
-returns-2 : tie.Need-returns-2
-returns-2 c = search needs
-
 returns-3 : tie.Need-returns-3
 returns-3 c =
     let first = c .before in
     rw ((first .if1 .left), (c .if2 .left))
 
 pub misplaced-spec : {M : Type 1} → statement M
-misplaced-spec = tie.close (tie.spec returns returns-2 returns-3)
+misplaced-spec = tie.close (tie.spec returns (λ c. search needs) returns-3)

@@ -7,9 +7,6 @@ use borrow.Author.Needs.{needs}
 use Rattle.call_judging.proofs.names_absent.Statement.{statement}
 use Rattle.call_judging.proofs.names_absent.Tie as tie
 
-status-requires : tie.Need-status-requires
-status-requires c κs = search needs
-
 returns : tie.Need-returns
 returns c =
     let start = c .before in
@@ -21,4 +18,4 @@ returns-2 c =
     absent-named _ _ (first .if1 .left) (c .status .ensures)
 
 pub names-absent-spec : {M : Type 1} → statement M
-names-absent-spec = tie.close (tie.spec status-requires returns returns-2)
+names-absent-spec = tie.close (tie.spec (λ c κs. search needs) returns returns-2)

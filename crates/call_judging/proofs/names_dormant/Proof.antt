@@ -7,9 +7,6 @@ use borrow.Author.Needs.{needs}
 use Rattle.call_judging.proofs.names_dormant.Statement.{statement}
 use Rattle.call_judging.proofs.names_dormant.Tie as tie
 
-status-requires : tie.Need-status-requires
-status-requires c κs = search needs
-
 returns : tie.Need-returns
 returns c =
     let start = c .before in
@@ -21,4 +18,4 @@ returns-2 c =
     dormant-named _ _ (first .if1 .left) (c .status .ensures)
 
 pub names-dormant-spec : {M : Type 1} → statement M
-names-dormant-spec = tie.close (tie.spec status-requires returns returns-2)
+names-dormant-spec = tie.close (tie.spec (λ c κs. search needs) returns returns-2)

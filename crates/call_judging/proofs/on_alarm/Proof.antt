@@ -7,21 +7,12 @@ use borrow.Author.Needs.{needs}
 use Rattle.call_judging.proofs.on_alarm.Statement.{statement}
 use Rattle.call_judging.proofs.on_alarm.Tie as tie
 
-alarms-requires : tie.Need-alarms-requires
-alarms-requires c κs = search needs
-
-is-outside-requires : tie.Need-is-outside-requires
-is-outside-requires c κs = search needs
-
 returns : tie.Need-returns
 unfolding number
 returns c =
     let at-is-outside = c .before in
     let at-alarms = at-is-outside .before in
     λ m A. word-stops _ _ (alarm-is (at-alarms .before .args .k) _ m (at-alarms .alarms .ensures) (at-is-outside .is-outside .ensures)) (c .if1 .taken)
-
-common-requires : tie.Need-common-requires
-common-requires c κs = search needs
 
 returns-2 : tie.Need-returns-2
 returns-2 c =
@@ -31,4 +22,4 @@ returns-2 c =
     λ m A. word-passes _ _ (alarm-is (at-alarms .before .args .k) _ m (at-alarms .alarms .ensures) (at-is-outside .is-outside .ensures)) (first .if1 .left) (saying _ (c .common .ok) (c .common .ensures))
 
 pub on-alarm-spec : {M : Type 1} → statement M
-on-alarm-spec = tie.close (tie.spec alarms-requires is-outside-requires returns common-requires returns-2)
+on-alarm-spec = tie.close (tie.spec (λ c κs. search needs) (λ c κs. search needs) returns (λ c κs. search needs) returns-2)

@@ -11,12 +11,6 @@ use borrow.Author.Needs.{needs}
 use Rattle.call_judging.proofs.on_flag.Statement.{statement}
 use Rattle.call_judging.proofs.on_flag.Tie as tie
 
-system-requires : tie.Need-system-requires
-system-requires c κs = search needs
-
-is-outside-requires : tie.Need-is-outside-requires
-is-outside-requires c κs = search needs
-
 returns : tie.Need-returns
 unfolding number
 returns c =
@@ -34,9 +28,6 @@ returns-2 c =
     let start = at-system .before in
     λ m A. word-passes _ _ (object-is flag (start .args .i) _ m refl (at-system .system .ensures) (at-is-outside .is-outside .ensures)) (first .if1 .left) (word-stops _ _ (sym (eq-eqb _ 0 (c .if2 .taken))) refl)
 
-is-above-requires : tie.Need-is-above-requires
-is-above-requires c κs = search needs
-
 returns-3 : tie.Need-returns-3
 unfolding number
 returns-3 c =
@@ -47,9 +38,6 @@ returns-3 c =
     let at-system = at-is-outside .before in
     let start = at-system .before in
     λ m A. word-passes _ _ (object-is flag (start .args .i) _ m refl (at-system .system .ensures) (at-is-outside .is-outside .ensures)) (first .if1 .left) (word-passes _ _ (sym (ne-eqb _ 0 (second .if2 .left))) refl (word-stops _ _ (rw (toZ-ofZ (start .fits .c)) at (at-is-above .is-above .ensures)) (c .if3 .taken)))
-
-common-requires : tie.Need-common-requires
-common-requires c κs = search needs
 
 returns-4 : tie.Need-returns-4
 returns-4 c =
@@ -63,4 +51,4 @@ returns-4 c =
     λ m A. word-passes _ _ (object-is flag (start .args .i) _ m refl (at-system .system .ensures) (at-is-outside .is-outside .ensures)) (first .if1 .left) (word-passes _ _ (sym (ne-eqb _ 0 (second .if2 .left))) refl (word-passes _ _ (rw (toZ-ofZ (start .fits .c)) at (at-is-above .is-above .ensures)) (third .if3 .left) (saying _ (c .common .ok) (c .common .ensures))))
 
 pub on-flag-spec : {M : Type 1} → statement M
-on-flag-spec = tie.close (tie.spec system-requires is-outside-requires returns returns-2 is-above-requires returns-3 common-requires returns-4)
+on-flag-spec = tie.close (tie.spec (λ c κs. search needs) (λ c κs. search needs) returns returns-2 (λ c κs. search needs) returns-3 (λ c κs. search needs) returns-4)

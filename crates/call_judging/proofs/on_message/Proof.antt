@@ -9,12 +9,6 @@ use borrow.Author.Needs.{needs}
 use Rattle.call_judging.proofs.on_message.Statement.{statement}
 use Rattle.call_judging.proofs.on_message.Tie as tie
 
-system-requires : tie.Need-system-requires
-system-requires c κs = search needs
-
-is-outside-requires : tie.Need-is-outside-requires
-is-outside-requires c κs = search needs
-
 returns : tie.Need-returns
 unfolding number
 returns c =
@@ -22,12 +16,6 @@ returns c =
     let at-system = at-is-outside .before in
     let start = at-system .before in
     λ m A. word-stops _ _ (object-is mailbox (start .args .i) _ m refl (at-system .system .ensures) (at-is-outside .is-outside .ensures)) (c .if1 .taken)
-
-system-requires-2 : tie.Need-system-requires-2
-system-requires-2 c κs = search needs
-
-is-outside-requires-2 : tie.Need-is-outside-requires-2
-is-outside-requires-2 c κs = search needs
 
 returns-2 : tie.Need-returns-2
 unfolding number
@@ -39,9 +27,6 @@ returns-2 c =
     let at-system = at-is-outside .before in
     let start = at-system .before in
     λ m A. word-passes _ _ (object-is mailbox (start .args .i) _ m refl (at-system .system .ensures) (at-is-outside .is-outside .ensures)) (first .if1 .left) (word-stops _ _ (message-is (start .args .j) _ m (at-system2 .system2 .ensures) (at-is-outside2 .is-outside2 .ensures)) (c .if2 .taken))
-
-common-requires : tie.Need-common-requires
-common-requires c κs = search needs
 
 returns-3 : tie.Need-returns-3
 returns-3 c =
@@ -55,4 +40,4 @@ returns-3 c =
     λ m A. word-passes _ _ (object-is mailbox (start .args .i) _ m refl (at-system .system .ensures) (at-is-outside .is-outside .ensures)) (first .if1 .left) (word-passes _ _ (message-is (start .args .j) _ m (at-system2 .system2 .ensures) (at-is-outside2 .is-outside2 .ensures)) (second .if2 .left) (saying _ (c .common .ok) (c .common .ensures)))
 
 pub on-message-spec : {M : Type 1} → statement M
-on-message-spec = tie.close (tie.spec system-requires is-outside-requires returns system-requires-2 is-outside-requires-2 returns-2 common-requires returns-3)
+on-message-spec = tie.close (tie.spec (λ c κs. search needs) (λ c κs. search needs) returns (λ c κs. search needs) (λ c κs. search needs) returns-2 (λ c κs. search needs) returns-3)

@@ -4,11 +4,8 @@ use borrow.Author.Needs.{needs}
 use Rattle.call_judging.proofs.on_nothing.Statement.{statement}
 use Rattle.call_judging.proofs.on_nothing.Tie as tie
 
-common-requires : tie.Need-common-requires
-common-requires c κs = search needs
-
 returns : tie.Need-returns
 returns c = λ m A. saying _ (c .common .ok) (c .common .ensures)
 
 pub on-nothing-spec : {M : Type 1} → statement M
-on-nothing-spec = tie.close (tie.spec common-requires returns)
+on-nothing-spec = tie.close (tie.spec (λ c κs. search needs) returns)

@@ -7,12 +7,6 @@ use borrow.Author.Needs.{needs}
 use Rattle.call_judging.proofs.on_object.Statement.{statement}
 use Rattle.call_judging.proofs.on_object.Tie as tie
 
-system-requires : tie.Need-system-requires
-system-requires c κs = search needs
-
-is-outside-requires : tie.Need-is-outside-requires
-is-outside-requires c κs = search needs
-
 returns : tie.Need-returns
 unfolding number
 returns c =
@@ -20,9 +14,6 @@ returns c =
     let at-system = at-is-outside .before in
     let start = at-system .before in
     λ k e m A. word-stops _ _ (object-is k (start .args .i) _ m e (at-system .system .ensures) (at-is-outside .is-outside .ensures)) (c .if1 .taken)
-
-common-requires : tie.Need-common-requires
-common-requires c κs = search needs
 
 returns-2 : tie.Need-returns-2
 returns-2 c =
@@ -33,4 +24,4 @@ returns-2 c =
     λ k e m A. word-passes _ _ (object-is k (start .args .i) _ m e (at-system .system .ensures) (at-is-outside .is-outside .ensures)) (first .if1 .left) (saying _ (c .common .ok) (c .common .ensures))
 
 pub on-object-spec : {M : Type 1} → statement M
-on-object-spec = tie.close (tie.spec system-requires is-outside-requires returns common-requires returns-2)
+on-object-spec = tie.close (tie.spec (λ c κs. search needs) (λ c κs. search needs) returns (λ c κs. search needs) returns-2)

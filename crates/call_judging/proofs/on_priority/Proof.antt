@@ -8,12 +8,6 @@ use borrow.Author.Needs.{needs}
 use Rattle.call_judging.proofs.on_priority.Statement.{statement}
 use Rattle.call_judging.proofs.on_priority.Tie as tie
 
-system-requires : tie.Need-system-requires
-system-requires c κs = search needs
-
-is-outside-requires : tie.Need-is-outside-requires
-is-outside-requires c κs = search needs
-
 returns : tie.Need-returns
 unfolding number
 returns c =
@@ -21,12 +15,6 @@ returns c =
     let at-system = at-is-outside .before in
     let start = at-system .before in
     λ m A. word-stops _ _ (task-is (start .args .i) _ m (at-system .system .ensures) (at-is-outside .is-outside .ensures)) (c .if1 .taken)
-
-system-requires-2 : tie.Need-system-requires-2
-system-requires-2 c κs = search needs
-
-is-outside-requires-2 : tie.Need-is-outside-requires-2
-is-outside-requires-2 c κs = search needs
 
 returns-2 : tie.Need-returns-2
 unfolding number
@@ -38,9 +26,6 @@ returns-2 c =
     let at-system = at-is-outside .before in
     let start = at-system .before in
     λ m A. word-passes _ _ (task-is (start .args .i) _ m (at-system .system .ensures) (at-is-outside .is-outside .ensures)) (first .if1 .left) (word-stops _ _ (priority-is (start .args .p) _ m (at-system2 .system2 .ensures) (at-is-outside2 .is-outside2 .ensures)) (c .if2 .taken))
-
-common-requires : tie.Need-common-requires
-common-requires c κs = search needs
 
 returns-3 : tie.Need-returns-3
 returns-3 c =
@@ -54,4 +39,4 @@ returns-3 c =
     λ m A. word-passes _ _ (task-is (start .args .i) _ m (at-system .system .ensures) (at-is-outside .is-outside .ensures)) (first .if1 .left) (word-passes _ _ (priority-is (start .args .p) _ m (at-system2 .system2 .ensures) (at-is-outside2 .is-outside2 .ensures)) (second .if2 .left) (named-passed (contextOf (start .args .strict)) (start .args .handler) (start .args .me) (start .args .target) (start .args .i) _ m (at-system .system .ensures) (at-is-outside .is-outside .ensures) (first .if1 .left) (saying _ (c .common .ok) (c .common .ensures))))
 
 pub on-priority-spec : {M : Type 1} → statement M
-on-priority-spec = tie.close (tie.spec system-requires is-outside-requires returns system-requires-2 is-outside-requires-2 returns-2 common-requires returns-3)
+on-priority-spec = tie.close (tie.spec (λ c κs. search needs) (λ c κs. search needs) returns (λ c κs. search needs) (λ c κs. search needs) returns-2 (λ c κs. search needs) returns-3)

@@ -8,12 +8,6 @@ use borrow.Author.Needs.{needs}
 use Rattle.call_judging.proofs.on_queue.Statement.{statement}
 use Rattle.call_judging.proofs.on_queue.Tie as tie
 
-system-requires : tie.Need-system-requires
-system-requires c κs = search needs
-
-is-above-requires : tie.Need-is-above-requires
-is-above-requires c κs = search needs
-
 returns : tie.Need-returns
 unfolding number
 returns c =
@@ -21,9 +15,6 @@ returns c =
     let at-system = at-is-above .before in
     let start = at-system .before in
     λ m A. word-stops _ _ (queue-is (start .args .a) _ m (at-system .system .ensures) (rw (toZ-ofZ (start .fits .a)) at (at-is-above .is-above .ensures))) (c .if1 .taken)
-
-common-requires : tie.Need-common-requires
-common-requires c κs = search needs
 
 returns-2 : tie.Need-returns-2
 returns-2 c =
@@ -34,4 +25,4 @@ returns-2 c =
     λ m A. word-passes _ _ (queue-is (start .args .a) _ m (at-system .system .ensures) (rw (toZ-ofZ (start .fits .a)) at (at-is-above .is-above .ensures))) (first .if1 .left) (saying _ (c .common .ok) (c .common .ensures))
 
 pub on-queue-spec : {M : Type 1} → statement M
-on-queue-spec = tie.close (tie.spec system-requires is-above-requires returns common-requires returns-2)
+on-queue-spec = tie.close (tie.spec (λ c κs. search needs) (λ c κs. search needs) returns (λ c κs. search needs) returns-2)

@@ -8,24 +8,12 @@ use borrow.Author.Needs.{needs}
 use Rattle.call_judging.proofs.on_setting.Statement.{statement}
 use Rattle.call_judging.proofs.on_setting.Tie as tie
 
-alarms-requires : tie.Need-alarms-requires
-alarms-requires c κs = search needs
-
-is-outside-requires : tie.Need-is-outside-requires
-is-outside-requires c κs = search needs
-
 returns : tie.Need-returns
 unfolding number
 returns c =
     let at-is-outside = c .before in
     let at-alarms = at-is-outside .before in
     λ m A. word-stops _ _ (alarm-is (at-alarms .before .args .k) _ m (at-alarms .alarms .ensures) (at-is-outside .is-outside .ensures)) (c .if1 .taken)
-
-counter-requires : tie.Need-counter-requires
-counter-requires c κs = search needs
-
-is-above-requires : tie.Need-is-above-requires
-is-above-requires c κs = search needs
 
 returns-2 : tie.Need-returns-2
 unfolding number
@@ -37,9 +25,6 @@ returns-2 c =
     let at-alarms = at-is-outside .before in
     let start = at-alarms .before in
     λ m A. word-passes _ _ (alarm-is (start .args .k) _ m (at-alarms .alarms .ensures) (at-is-outside .is-outside .ensures)) (first .if1 .left) (word-stops _ _ (ticks-is (start .args .b) _ m (at-counter .counter .ensures) (rw (toZ-ofZ (start .fits .b)) at (at-is-above .is-above .ensures))) (c .if2 .taken))
-
-is-above-requires-2 : tie.Need-is-above-requires-2
-is-above-requires-2 c κs = search needs
 
 returns-3 : tie.Need-returns-3
 unfolding number
@@ -53,9 +38,6 @@ returns-3 c =
     let at-alarms = at-is-outside .before in
     let start = at-alarms .before in
     λ m A. word-passes _ _ (alarm-is (start .args .k) _ m (at-alarms .alarms .ensures) (at-is-outside .is-outside .ensures)) (first .if1 .left) (word-passes _ _ (ticks-is (start .args .b) _ m (at-counter .counter .ensures) (rw (toZ-ofZ (start .fits .b)) at (at-is-above .is-above .ensures))) (second .if2 .left) (word-stops _ _ (ticks-is (start .args .c) _ m (at-counter .counter .ensures) (rw (toZ-ofZ (start .fits .c)) at (at-is-above2 .is-above2 .ensures))) (c .if3 .taken)))
-
-common-requires : tie.Need-common-requires
-common-requires c κs = search needs
 
 returns-4 : tie.Need-returns-4
 returns-4 c =
@@ -71,4 +53,4 @@ returns-4 c =
     λ m A. word-passes _ _ (alarm-is (start .args .k) _ m (at-alarms .alarms .ensures) (at-is-outside .is-outside .ensures)) (first .if1 .left) (word-passes _ _ (ticks-is (start .args .b) _ m (at-counter .counter .ensures) (rw (toZ-ofZ (start .fits .b)) at (at-is-above .is-above .ensures))) (second .if2 .left) (word-passes _ _ (ticks-is (start .args .c) _ m (at-counter .counter .ensures) (rw (toZ-ofZ (start .fits .c)) at (at-is-above2 .is-above2 .ensures))) (third .if3 .left) (saying _ (c .common .ok) (c .common .ensures))))
 
 pub on-setting-spec : {M : Type 1} → statement M
-on-setting-spec = tie.close (tie.spec alarms-requires is-outside-requires returns counter-requires is-above-requires returns-2 is-above-requires-2 returns-3 common-requires returns-4)
+on-setting-spec = tie.close (tie.spec (λ c κs. search needs) (λ c κs. search needs) returns (λ c κs. search needs) (λ c κs. search needs) returns-2 (λ c κs. search needs) returns-3 (λ c κs. search needs) returns-4)

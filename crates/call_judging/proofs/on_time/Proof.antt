@@ -15,9 +15,6 @@ returns c =
     let start = c .before in
     λ m A. word-stops _ _ (sym (time-low (start .args .a) (rw (toZ-ofZ (start .fits .a)) at (c .if1 .taken)))) refl
 
-common-requires : tie.Need-common-requires
-common-requires c κs = search needs
-
 returns-2 : tie.Need-returns-2
 returns-2 c =
     let first = c .before in
@@ -25,4 +22,4 @@ returns-2 c =
     λ m A. word-passes _ _ (sym (time-fine (start .args .a) (rw (toZ-ofZ (start .fits .a)) at (first .if1 .left)))) refl (saying _ (c .common .ok) (c .common .ensures))
 
 pub on-time-spec : {M : Type 1} → statement M
-on-time-spec = tie.close (tie.spec returns common-requires returns-2)
+on-time-spec = tie.close (tie.spec returns (λ c κs. search needs) returns-2)

@@ -4,18 +4,6 @@ use borrow.Author.Needs.{needs}
 use Rattle.call_mailboxes.proofs.mbx_sts.Statement.{statement}
 use Rattle.call_mailboxes.proofs.mbx_sts.Tie as tie
 
-first-waiter-requires : tie.Need-first-waiter-requires
-first-waiter-requires c κs = search needs
-
-mail-anchor-requires : tie.Need-mail-anchor-requires
-mail-anchor-requires c κs = search needs
-
-first-requires : tie.Need-first-requires
-first-requires c κs = search needs
-
-gives-requires : tie.Need-gives-requires
-gives-requires c κs = search needs
-
 returns : tie.Need-returns
 returns c =
     let at-first-message = c .before in
@@ -24,4 +12,4 @@ returns c =
     sts-done _ (at-mail-anchor .mail-anchor .ensures) (at-first-message .first .ensures) (at-first-waiter .first-waiter .ensures) (c .gives .ensures)
 
 pub mbx-sts-spec : {M : Type 1} → statement M
-mbx-sts-spec = tie.close (tie.spec first-waiter-requires mail-anchor-requires first-requires gives-requires returns)
+mbx-sts-spec = tie.close (tie.spec (λ c κs. search needs) (λ c κs. search needs) (λ c κs. search needs) (λ c κs. search needs) returns)

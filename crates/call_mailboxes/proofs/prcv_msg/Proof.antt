@@ -5,15 +5,6 @@ use borrow.Author.Needs.{needs}
 use Rattle.call_mailboxes.proofs.prcv_msg.Statement.{statement}
 use Rattle.call_mailboxes.proofs.prcv_msg.Tie as tie
 
-mail-anchor-requires : tie.Need-mail-anchor-requires
-mail-anchor-requires c κs = search needs
-
-first-requires : tie.Need-first-requires
-first-requires c κs = search needs
-
-refuse-requires : tie.Need-refuse-requires
-refuse-requires c κs = search needs
-
 returns : tie.Need-returns
 unfolding number
 returns c =
@@ -21,12 +12,6 @@ returns c =
     let at-first-message = empty .before in
     let at-mail-anchor = at-first-message .before in
     prcv-none _ (at-mail-anchor .mail-anchor .ensures) (at-first-message .first .ensures) (empty .if1 .taken) (c .refuse .ensures)
-
-receive-requires : tie.Need-receive-requires
-receive-requires c κs = search needs
-
-gives-requires : tie.Need-gives-requires
-gives-requires c κs = search needs
 
 returns-2 : tie.Need-returns-2
 returns-2 c =
@@ -37,4 +22,4 @@ returns-2 c =
     takes _ (at-mail-anchor .mail-anchor .ensures) (at-first-message .first .ensures) _ (empty .if1 .left) (at-receive .receive .ensures) (c .gives .ensures)
 
 pub prcv-msg-spec : {M : Type 1} → statement M
-prcv-msg-spec = tie.close (tie.spec mail-anchor-requires first-requires refuse-requires returns receive-requires gives-requires returns-2)
+prcv-msg-spec = tie.close (tie.spec (λ c κs. search needs) (λ c κs. search needs) (λ c κs. search needs) returns (λ c κs. search needs) (λ c κs. search needs) returns-2)

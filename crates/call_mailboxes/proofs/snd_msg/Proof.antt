@@ -5,27 +5,12 @@ use borrow.Author.Needs.{needs}
 use Rattle.call_mailboxes.proofs.snd_msg.Statement.{statement}
 use Rattle.call_mailboxes.proofs.snd_msg.Tie as tie
 
-mark-of-requires : tie.Need-mark-of-requires
-mark-of-requires c κs = search needs
-
-refuse-requires : tie.Need-refuse-requires
-refuse-requires c κs = search needs
-
 returns : tie.Need-returns
 unfolding number
 returns c =
     let first = c .before in
     let at-mark-of = first .before in
     snd-laid _ _ (at-mark-of .mark-of .ensures) (first .if1 .taken) (c .refuse .ensures)
-
-first-waiter-requires : tie.Need-first-waiter-requires
-first-waiter-requires c κs = search needs
-
-release-requires : tie.Need-release-requires
-release-requires c κs = search needs
-
-releases-requires : tie.Need-releases-requires
-releases-requires c κs = search needs
 
 returns-2 : tie.Need-returns-2
 returns-2 c =
@@ -35,12 +20,6 @@ returns-2 c =
     let first = at-first-waiter .before .before in
     let at-mark-of = first .before in
     snd-serves _ _ (at-mark-of .mark-of .ensures) (first .if1 .left) (at-first-waiter .first-waiter .ensures) (second .if2 .taken) (at-release .release .ensures) (c .releases .ensures)
-
-post-requires : tie.Need-post-requires
-post-requires c κs = search needs
-
-done-requires : tie.Need-done-requires
-done-requires c κs = search needs
 
 returns-3 : tie.Need-returns-3
 returns-3 c =
@@ -52,4 +31,4 @@ returns-3 c =
     snd-posts _ _ (at-mark-of .mark-of .ensures) (first .if1 .left) (at-first-waiter .first-waiter .ensures) (second .if2 .left) (at-post .post .ensures) (c .done .ensures)
 
 pub snd-msg-spec : {M : Type 1} → statement M
-snd-msg-spec = tie.close (tie.spec mark-of-requires refuse-requires returns first-waiter-requires release-requires releases-requires returns-2 post-requires done-requires returns-3)
+snd-msg-spec = tie.close (tie.spec (λ c κs. search needs) (λ c κs. search needs) returns (λ c κs. search needs) (λ c κs. search needs) (λ c κs. search needs) returns-2 (λ c κs. search needs) (λ c κs. search needs) returns-3)

@@ -4,12 +4,6 @@ use borrow.Author.Needs.{needs}
 use Rattle.call_objects.proofs.first_waiter.Statement.{statement}
 use Rattle.call_objects.proofs.first_waiter.Tie as tie
 
-wait-anchor-requires : tie.Need-wait-anchor-requires
-wait-anchor-requires c κs = search needs
-
-first-requires : tie.Need-first-requires
-first-requires c κs = search needs
-
 returns : tie.Need-returns
 unfolding firstWaiter
 returns c =
@@ -17,4 +11,4 @@ returns c =
     rw (← (at-wait-anchor .wait-anchor .ensures)) (c .first .ensures)
 
 pub first-waiter-spec : {M : Type 1} → statement M
-first-waiter-spec = tie.close (tie.spec wait-anchor-requires first-requires returns)
+first-waiter-spec = tie.close (tie.spec (λ c κs. search needs) (λ c κs. search needs) returns)

@@ -21,12 +21,6 @@ loop-holds c = (zero-add _, omega arith)
 add-n : tie.Need-add-n Inv-loop μ-loop
 add-n c = let h = c .before .loop .inv in omega (arith, h .1)
 
-sub-left : tie.Need-sub-left Inv-loop μ-loop
-sub-left c = search needs
-
-loop-less : tie.Need-loop-less Inv-loop μ-loop
-loop-less c = search needs
-
 loop-again : tie.Need-loop-again Inv-loop μ-loop
 loop-again c = let h = c .before .loop .inv in (count-on _ _ _ (c .loop-test .taken) ∙ h .0, omega arith)
 
@@ -35,4 +29,4 @@ returns c = count-done _ _ _ (c .loop-test .left) ∙ c .before .loop .inv .0
 
 pub count-blocks-spec : {M : Type 1} → statement M
 count-blocks-spec =
-    tie.close (tie.spec Inv-loop μ-loop loop-holds add-n sub-left loop-less loop-again returns)
+    tie.close (tie.spec Inv-loop μ-loop loop-holds add-n (λ c. search needs) (λ c. search needs) loop-again returns)

@@ -4,18 +4,6 @@ use borrow.Author.Needs.{needs}
 use Rattle.call_pools.proofs.first_block.Statement.{statement}
 use Rattle.call_pools.proofs.first_block.Tie as tie
 
-free-anchor-requires : tie.Need-free-anchor-requires
-free-anchor-requires c κs = search needs
-
-first-requires : tie.Need-first-requires
-first-requires c κs = search needs
-
-block-node-requires : tie.Need-block-node-requires
-block-node-requires c κs = search needs
-
-sub-result : tie.Need-sub-result
-sub-result c = search needs
-
 returns : tie.Need-returns
 returns c = let n = c .before in let f = n .before in block-none _ _ (f .before .free-anchor .ensures) (f .first .ensures) (n .block-node .ensures) (c .if1 .taken)
 
@@ -25,4 +13,4 @@ returns-2 c = let n = c .before in let f = n .before in block-some _ _ (f .befor
 pub first-block-spec : {M : Type 1} → statement M
 first-block-spec =
     tie.close
-    (tie.spec free-anchor-requires first-requires block-node-requires sub-result returns returns-2)
+    (tie.spec (λ c κs. search needs) (λ c κs. search needs) (λ c κs. search needs) (λ c. search needs) returns returns-2)

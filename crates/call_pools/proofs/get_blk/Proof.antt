@@ -4,27 +4,12 @@ use borrow.Author.Needs.{needs}
 use Rattle.call_pools.proofs.get_blk.Statement.{statement}
 use Rattle.call_pools.proofs.get_blk.Tie as tie
 
-first-block-requires : tie.Need-first-block-requires
-first-block-requires c κs = search needs
-
-wait-requires : tie.Need-wait-requires
-wait-requires c κs = search needs
-
-waits-requires : tie.Need-waits-requires
-waits-requires c κs = search needs
-
 returns : tie.Need-returns
 returns c =
     let at-wait = c .before in
     let first = at-wait .before .before in
     let at-first-block = first .before in
     get-waits _ (at-first-block .first-block .ensures) _ (first .if1 .taken) (at-wait .wait .ensures) (c .waits .ensures)
-
-mark-block-requires : tie.Need-mark-block-requires
-mark-block-requires c κs = search needs
-
-gives-requires : tie.Need-gives-requires
-gives-requires c κs = search needs
 
 returns-2 : tie.Need-returns-2
 returns-2 c =
@@ -34,4 +19,4 @@ returns-2 c =
     takes _ (at-first-block .first-block .ensures) _ (first .if1 .left) (at-mark-block .mark-block .ensures) (c .gives .ensures)
 
 pub get-blk-spec : {M : Type 1} → statement M
-get-blk-spec = tie.close (tie.spec first-block-requires wait-requires waits-requires returns mark-block-requires gives-requires returns-2)
+get-blk-spec = tie.close (tie.spec (λ c κs. search needs) (λ c κs. search needs) (λ c κs. search needs) returns (λ c κs. search needs) (λ c κs. search needs) returns-2)

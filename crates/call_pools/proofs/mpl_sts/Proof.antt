@@ -4,18 +4,6 @@ use borrow.Author.Needs.{needs}
 use Rattle.call_pools.proofs.mpl_sts.Statement.{statement}
 use Rattle.call_pools.proofs.mpl_sts.Tie as tie
 
-first-waiter-requires : tie.Need-first-waiter-requires
-first-waiter-requires c κs = search needs
-
-free-requires : tie.Need-free-requires
-free-requires c κs = search needs
-
-count-blocks-requires : tie.Need-count-blocks-requires
-count-blocks-requires c κs = search needs
-
-gives-requires : tie.Need-gives-requires
-gives-requires c κs = search needs
-
 returns : tie.Need-returns
 returns c =
     let at-count-blocks = c .before in
@@ -24,4 +12,4 @@ returns c =
     sts-done _ (at-first-waiter .first-waiter .ensures) (at-free .free .ensures) (at-count-blocks .count-blocks .ensures) (c .gives .ensures)
 
 pub mpl-sts-spec : {M : Type 1} → statement M
-mpl-sts-spec = tie.close (tie.spec first-waiter-requires free-requires count-blocks-requires gives-requires returns)
+mpl-sts-spec = tie.close (tie.spec (λ c κs. search needs) (λ c κs. search needs) (λ c κs. search needs) (λ c κs. search needs) returns)

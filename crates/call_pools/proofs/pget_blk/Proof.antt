@@ -5,24 +5,12 @@ use borrow.Author.Needs.{needs}
 use Rattle.call_pools.proofs.pget_blk.Statement.{statement}
 use Rattle.call_pools.proofs.pget_blk.Tie as tie
 
-first-block-requires : tie.Need-first-block-requires
-first-block-requires c κs = search needs
-
-refuse-requires : tie.Need-refuse-requires
-refuse-requires c κs = search needs
-
 returns : tie.Need-returns
 unfolding number
 returns c =
     let first = c .before in
     let at-first-block = first .before in
     pget-none _ (at-first-block .first-block .ensures) (first .if1 .taken) (c .refuse .ensures)
-
-mark-block-requires : tie.Need-mark-block-requires
-mark-block-requires c κs = search needs
-
-gives-requires : tie.Need-gives-requires
-gives-requires c κs = search needs
 
 returns-2 : tie.Need-returns-2
 returns-2 c =
@@ -32,4 +20,4 @@ returns-2 c =
     takes _ (at-first-block .first-block .ensures) _ (first .if1 .left) (at-mark-block .mark-block .ensures) (c .gives .ensures)
 
 pub pget-blk-spec : {M : Type 1} → statement M
-pget-blk-spec = tie.close (tie.spec first-block-requires refuse-requires returns mark-block-requires gives-requires returns-2)
+pget-blk-spec = tie.close (tie.spec (λ c κs. search needs) (λ c κs. search needs) returns (λ c κs. search needs) (λ c κs. search needs) returns-2)

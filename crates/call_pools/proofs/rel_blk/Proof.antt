@@ -5,27 +5,12 @@ use borrow.Author.Needs.{needs}
 use Rattle.call_pools.proofs.rel_blk.Statement.{statement}
 use Rattle.call_pools.proofs.rel_blk.Tie as tie
 
-is-not-out-requires : tie.Need-is-not-out-requires
-is-not-out-requires c κs = search needs
-
-refuse-requires : tie.Need-refuse-requires
-refuse-requires c κs = search needs
-
 returns : tie.Need-returns
 unfolding number
 returns c =
     let first = c .before in
     let at-is-not-out = first .before in
     rel-bad _ _ (at-is-not-out .is-not-out .ensures) (first .if1 .taken) (c .refuse .ensures)
-
-first-waiter-requires : tie.Need-first-waiter-requires
-first-waiter-requires c κs = search needs
-
-release-requires : tie.Need-release-requires
-release-requires c κs = search needs
-
-releases-requires : tie.Need-releases-requires
-releases-requires c κs = search needs
 
 returns-2 : tie.Need-returns-2
 returns-2 c =
@@ -35,12 +20,6 @@ returns-2 c =
     let first = at-first-waiter .before .before in
     let at-is-not-out = first .before in
     rel-serves _ _ (at-is-not-out .is-not-out .ensures) (first .if1 .left) (at-first-waiter .first-waiter .ensures) (second .if2 .taken) (at-release .release .ensures) (c .releases .ensures)
-
-mark-block-requires : tie.Need-mark-block-requires
-mark-block-requires c κs = search needs
-
-done-requires : tie.Need-done-requires
-done-requires c κs = search needs
 
 returns-3 : tie.Need-returns-3
 returns-3 c =
@@ -52,4 +31,4 @@ returns-3 c =
     rel-frees _ _ (at-is-not-out .is-not-out .ensures) (first .if1 .left) (at-first-waiter .first-waiter .ensures) (second .if2 .left) (at-mark-block .mark-block .ensures) (c .done .ensures)
 
 pub rel-blk-spec : {M : Type 1} → statement M
-rel-blk-spec = tie.close (tie.spec is-not-out-requires refuse-requires returns first-waiter-requires release-requires releases-requires returns-2 mark-block-requires done-requires returns-3)
+rel-blk-spec = tie.close (tie.spec (λ c κs. search needs) (λ c κs. search needs) returns (λ c κs. search needs) (λ c κs. search needs) (λ c κs. search needs) returns-2 (λ c κs. search needs) (λ c κs. search needs) returns-3)

@@ -3,12 +3,6 @@ use borrow.Author.Needs.{needs}
 use Rattle.call_reading.proofs.is_sleeping.Statement.{statement}
 use Rattle.call_reading.proofs.is_sleeping.Tie as tie
 
-is-waiting-requires : tie.Need-is-waiting-requires
-is-waiting-requires c κs = search needs
-
-kind-requires : tie.Need-kind-requires
-kind-requires c κs = search needs
-
 returns : tie.Need-returns
 returns c = let i = c .before in rw (← i .before .is-waiting .ensures, i .if1 .taken, ← c .kind .ensures)
 
@@ -16,4 +10,4 @@ returns-2 : tie.Need-returns-2
 returns-2 c = rw (← c .before .is-waiting .ensures, c .if1 .left)
 
 pub is-sleeping-spec : {M : Type 1} → statement M
-is-sleeping-spec = tie.close (tie.spec is-waiting-requires kind-requires returns returns-2)
+is-sleeping-spec = tie.close (tie.spec (λ c κs. search needs) (λ c κs. search needs) returns returns-2)

@@ -4,9 +4,6 @@ use borrow.Author.Needs.{needs}
 use Rattle.call_reading.proofs.is_waiting.Statement.{statement}
 use Rattle.call_reading.proofs.is_waiting.Tie as tie
 
-status-requires : tie.Need-status-requires
-status-requires c κs = search needs
-
 returns : tie.Need-returns
 returns c = rw (← c .before .status .ensures, c .if1 .taken)
 
@@ -14,4 +11,4 @@ returns-2 : tie.Need-returns-2
 returns-2 c = rw (← c .before .status .ensures, ne-eqb _ 3 (c .if1 .left))
 
 pub is-waiting-spec : {M : Type 1} → statement M
-is-waiting-spec = tie.close (tie.spec status-requires returns returns-2)
+is-waiting-spec = tie.close (tie.spec (λ c κs. search needs) returns returns-2)

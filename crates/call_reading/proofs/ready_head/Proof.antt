@@ -5,15 +5,6 @@ use borrow.Author.Needs.{needs}
 use Rattle.call_reading.proofs.ready_head.Statement.{statement}
 use Rattle.call_reading.proofs.ready_head.Tie as tie
 
-best-task-requires : tie.Need-best-task-requires
-best-task-requires c κs = search needs
-
-ready-anchor-requires : tie.Need-ready-anchor-requires
-ready-anchor-requires c κs = search needs
-
-first-requires : tie.Need-first-requires
-first-requires c κs = search needs
-
 returns : tie.Need-returns
 unfolding turnAt
 returns c = rw (eq-eqb _ _ (c .before .if1 .taken)) (c .best-task .ensures)
@@ -25,4 +16,4 @@ returns-2 c = let a = c .before in rw (ne-eqb _ _ (a .before .if1 .left), ← a 
 pub ready-head-spec : {M : Type 1} → statement M
 ready-head-spec =
     tie.close
-    (tie.spec best-task-requires ready-anchor-requires first-requires returns returns-2)
+    (tie.spec (λ c κs. search needs) (λ c κs. search needs) (λ c κs. search needs) returns returns-2)

@@ -6,15 +6,9 @@ use borrow.Author.Needs.{needs}
 use Rattle.call_reading.proofs.state_number.Statement.{statement}
 use Rattle.call_reading.proofs.state_number.Tie as tie
 
-status-requires : tie.Need-status-requires
-status-requires c κs = search needs
-
 returns : tie.Need-returns
 unfolding numberAt
 returns c = rw (← c .before .status .ensures, ne-eqb _ _ (c .if1 .taken))
-
-running-task-requires : tie.Need-running-task-requires
-running-task-requires c κs = search needs
 
 returns-2 : tie.Need-returns-2
 unfolding numberAt
@@ -32,4 +26,4 @@ returns-3 c =
 
 pub state-number-spec : {M : Type 1} → statement M
 state-number-spec =
-    tie.close (tie.spec status-requires returns running-task-requires returns-2 returns-3)
+    tie.close (tie.spec (λ c κs. search needs) returns (λ c κs. search needs) returns-2 returns-3)

@@ -5,12 +5,6 @@ use borrow.Author.Needs.{needs}
 use Rattle.call_reading.proofs.stored.Statement.{statement}
 use Rattle.call_reading.proofs.stored.Tie as tie
 
-system-requires : tie.Need-system-requires
-system-requires c κs = search needs
-
-wakeups-requires : tie.Need-wakeups-requires
-wakeups-requires c κs = search needs
-
 returns : tie.Need-returns
 unfolding wakeupsAt
 returns c = rw (← c .before .system .ensures, lt-leb _ _ (c .if1 .taken))
@@ -20,4 +14,4 @@ unfolding wakeupsAt
 returns-2 c = let i = c .before in rw (← i .before .system .ensures, le-leb _ _ (i .if1 .left)) (c .wakeups .ensures)
 
 pub stored-spec : {M : Type 1} → statement M
-stored-spec = tie.close (tie.spec system-requires wakeups-requires returns returns-2)
+stored-spec = tie.close (tie.spec (λ c κs. search needs) (λ c κs. search needs) returns returns-2)

@@ -5,27 +5,12 @@ use borrow.Author.Needs.{needs}
 use Rattle.call_semaphores.proofs.preq_sem.Statement.{statement}
 use Rattle.call_semaphores.proofs.preq_sem.Tie as tie
 
-semaphore-requires : tie.Need-semaphore-requires
-semaphore-requires c κs = search needs
-
-refuse-requires : tie.Need-refuse-requires
-refuse-requires c κs = search needs
-
 returns : tie.Need-returns
 unfolding number
 returns c =
     let first = c .before in
     let at-semaphore = first .before in
     preq-none _ (at-semaphore .semaphore .ensures) (first .if1 .taken) (c .refuse .ensures)
-
-sub-set-semaphore : tie.Need-sub-set-semaphore
-sub-set-semaphore c = search needs
-
-set-semaphore-requires : tie.Need-set-semaphore-requires
-set-semaphore-requires c κs = search needs
-
-done-requires : tie.Need-done-requires
-done-requires c κs = search needs
 
 returns-2 : tie.Need-returns-2
 returns-2 c =
@@ -35,4 +20,4 @@ returns-2 c =
     takes _ (at-semaphore .semaphore .ensures) _ (first .if1 .left) (at-set-semaphore .set-semaphore .ensures) (c .done .ensures)
 
 pub preq-sem-spec : {M : Type 1} → statement M
-preq-sem-spec = tie.close (tie.spec semaphore-requires refuse-requires returns sub-set-semaphore set-semaphore-requires done-requires returns-2)
+preq-sem-spec = tie.close (tie.spec (λ c κs. search needs) (λ c κs. search needs) returns (λ c. search needs) (λ c κs. search needs) (λ c κs. search needs) returns-2)

@@ -4,15 +4,6 @@ use borrow.Author.Needs.{needs}
 use Rattle.call_semaphores.proofs.sem_sts.Statement.{statement}
 use Rattle.call_semaphores.proofs.sem_sts.Tie as tie
 
-first-waiter-requires : tie.Need-first-waiter-requires
-first-waiter-requires c κs = search needs
-
-semaphore-requires : tie.Need-semaphore-requires
-semaphore-requires c κs = search needs
-
-gives-requires : tie.Need-gives-requires
-gives-requires c κs = search needs
-
 returns : tie.Need-returns
 returns c =
     let at-semaphore = c .before in
@@ -20,4 +11,4 @@ returns c =
     sts-done _ (at-first-waiter .first-waiter .ensures) (at-semaphore .semaphore .ensures) (c .gives .ensures)
 
 pub sem-sts-spec : {M : Type 1} → statement M
-sem-sts-spec = tie.close (tie.spec first-waiter-requires semaphore-requires gives-requires returns)
+sem-sts-spec = tie.close (tie.spec (λ c κs. search needs) (λ c κs. search needs) (λ c κs. search needs) returns)

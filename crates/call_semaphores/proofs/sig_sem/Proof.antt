@@ -5,27 +5,12 @@ use borrow.Author.Needs.{needs}
 use Rattle.call_semaphores.proofs.sig_sem.Statement.{statement}
 use Rattle.call_semaphores.proofs.sig_sem.Tie as tie
 
-first-waiter-requires : tie.Need-first-waiter-requires
-first-waiter-requires c κs = search needs
-
-release-requires : tie.Need-release-requires
-release-requires c κs = search needs
-
-releases-requires : tie.Need-releases-requires
-releases-requires c κs = search needs
-
 returns : tie.Need-returns
 returns c =
     let at-release = c .before in
     let first = at-release .before .before in
     let at-first-waiter = first .before in
     sig-serves _ (at-first-waiter .first-waiter .ensures) (first .if1 .taken) (at-release .release .ensures) (c .releases .ensures)
-
-semaphore-requires : tie.Need-semaphore-requires
-semaphore-requires c κs = search needs
-
-refuse-requires : tie.Need-refuse-requires
-refuse-requires c κs = search needs
 
 returns-2 : tie.Need-returns-2
 unfolding number
@@ -35,15 +20,6 @@ returns-2 c =
     let first = at-semaphore .before .before in
     let at-first-waiter = first .before in
     sig-full _ (at-first-waiter .first-waiter .ensures) (at-semaphore .semaphore .ensures) (first .if1 .left) (second .if2 .taken) (c .refuse .ensures)
-
-add-set-semaphore : tie.Need-add-set-semaphore
-add-set-semaphore c = search needs
-
-set-semaphore-requires : tie.Need-set-semaphore-requires
-set-semaphore-requires c κs = search needs
-
-done-requires : tie.Need-done-requires
-done-requires c κs = search needs
 
 returns-3 : tie.Need-returns-3
 returns-3 c =
@@ -55,4 +31,4 @@ returns-3 c =
     sig-counts _ (at-first-waiter .first-waiter .ensures) (at-semaphore .semaphore .ensures) (first .if1 .left) (second .if2 .left) (at-set-semaphore .set-semaphore .ensures) (c .done .ensures)
 
 pub sig-sem-spec : {M : Type 1} → statement M
-sig-sem-spec = tie.close (tie.spec first-waiter-requires release-requires releases-requires returns semaphore-requires refuse-requires returns-2 add-set-semaphore set-semaphore-requires done-requires returns-3)
+sig-sem-spec = tie.close (tie.spec (λ c κs. search needs) (λ c κs. search needs) (λ c κs. search needs) returns (λ c κs. search needs) (λ c κs. search needs) returns-2 (λ c. search needs) (λ c κs. search needs) (λ c κs. search needs) returns-3)

@@ -4,16 +4,10 @@ use borrow.Author.Needs.{needs}
 use Rattle.call_tasks.proofs.chg_pri.Statement.{statement}
 use Rattle.call_tasks.proofs.chg_pri.Tie as tie
 
-regrade-requires : tie.Need-regrade-requires
-regrade-requires c κs = search needs
-
-done-requires : tie.Need-done-requires
-done-requires c κs = search needs
-
 returns : tie.Need-returns
 returns c =
     let at-regrade = c .before in
     chg-done _ _ (at-regrade .regrade .ensures) (c .done .ensures)
 
 pub chg-pri-spec : {M : Type 1} → statement M
-chg-pri-spec = tie.close (tie.spec regrade-requires done-requires returns)
+chg-pri-spec = tie.close (tie.spec (λ c κs. search needs) (λ c κs. search needs) returns)

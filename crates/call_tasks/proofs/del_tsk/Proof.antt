@@ -5,24 +5,12 @@ use borrow.Author.Needs.{needs}
 use Rattle.call_tasks.proofs.del_tsk.Statement.{statement}
 use Rattle.call_tasks.proofs.del_tsk.Tie as tie
 
-status-requires : tie.Need-status-requires
-status-requires c κs = search needs
-
-refuse-requires : tie.Need-refuse-requires
-refuse-requires c κs = search needs
-
 returns : tie.Need-returns
 unfolding number
 returns c =
     let first = c .before in
     let at-status = first .before in
     del-alive _ (at-status .status .ensures) (first .if1 .taken) (c .refuse .ensures)
-
-delete-requires : tie.Need-delete-requires
-delete-requires c κs = search needs
-
-done-requires : tie.Need-done-requires
-done-requires c κs = search needs
 
 returns-2 : tie.Need-returns-2
 returns-2 c =
@@ -32,4 +20,4 @@ returns-2 c =
     del-done _ (at-status .status .ensures) (first .if1 .left) (at-delete .delete .ensures) (c .done .ensures)
 
 pub del-tsk-spec : {M : Type 1} → statement M
-del-tsk-spec = tie.close (tie.spec status-requires refuse-requires returns delete-requires done-requires returns-2)
+del-tsk-spec = tie.close (tie.spec (λ c κs. search needs) (λ c κs. search needs) returns (λ c κs. search needs) (λ c κs. search needs) returns-2)

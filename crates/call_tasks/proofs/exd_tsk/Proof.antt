@@ -4,16 +4,10 @@ use borrow.Author.Needs.{needs}
 use Rattle.call_tasks.proofs.exd_tsk.Statement.{statement}
 use Rattle.call_tasks.proofs.exd_tsk.Tie as tie
 
-delete-requires : tie.Need-delete-requires
-delete-requires c κs = search needs
-
-done-requires : tie.Need-done-requires
-done-requires c κs = search needs
-
 returns : tie.Need-returns
 returns c =
     let at-delete = c .before in
     exd-done _ (at-delete .delete .ensures) (c .done .ensures)
 
 pub exd-tsk-spec : {M : Type 1} → statement M
-exd-tsk-spec = tie.close (tie.spec delete-requires done-requires returns)
+exd-tsk-spec = tie.close (tie.spec (λ c κs. search needs) (λ c κs. search needs) returns)

@@ -4,15 +4,6 @@ use borrow.Author.Needs.{needs}
 use Rattle.call_tasks.proofs.get_tim.Statement.{statement}
 use Rattle.call_tasks.proofs.get_tim.Tie as tie
 
-system-requires : tie.Need-system-requires
-system-requires c κs = search needs
-
-system-requires-2 : tie.Need-system-requires-2
-system-requires-2 c κs = search needs
-
-gives-requires : tie.Need-gives-requires
-gives-requires c κs = search needs
-
 returns : tie.Need-returns
 returns c =
     let at-system2 = c .before in
@@ -20,4 +11,4 @@ returns c =
     tim-done (at-system .system .ensures) (at-system2 .system2 .ensures) (c .gives .ensures)
 
 pub get-tim-spec : {M : Type 1} → statement M
-get-tim-spec = tie.close (tie.spec system-requires system-requires-2 gives-requires returns)
+get-tim-spec = tie.close (tie.spec (λ c κs. search needs) (λ c κs. search needs) (λ c κs. search needs) returns)

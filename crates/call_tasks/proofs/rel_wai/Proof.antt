@@ -5,24 +5,12 @@ use borrow.Author.Needs.{needs}
 use Rattle.call_tasks.proofs.rel_wai.Statement.{statement}
 use Rattle.call_tasks.proofs.rel_wai.Tie as tie
 
-is-waiting-requires : tie.Need-is-waiting-requires
-is-waiting-requires c κs = search needs
-
-refuse-requires : tie.Need-refuse-requires
-refuse-requires c κs = search needs
-
 returns : tie.Need-returns
 unfolding number
 returns c =
     let first = c .before in
     let at-is-waiting = first .before in
     rel-free _ (at-is-waiting .is-waiting .ensures) (first .if1 .taken) (c .refuse .ensures)
-
-release-requires : tie.Need-release-requires
-release-requires c κs = search needs
-
-releases-requires : tie.Need-releases-requires
-releases-requires c κs = search needs
 
 returns-2 : tie.Need-returns-2
 returns-2 c =
@@ -32,4 +20,4 @@ returns-2 c =
     rel-done _ (at-is-waiting .is-waiting .ensures) (first .if1 .left) (at-release .release .ensures) (c .releases .ensures)
 
 pub rel-wai-spec : {M : Type 1} → statement M
-rel-wai-spec = tie.close (tie.spec is-waiting-requires refuse-requires returns release-requires releases-requires returns-2)
+rel-wai-spec = tie.close (tie.spec (λ c κs. search needs) (λ c κs. search needs) returns (λ c κs. search needs) (λ c κs. search needs) returns-2)

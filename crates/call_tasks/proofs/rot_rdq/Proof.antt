@@ -4,23 +4,11 @@ use borrow.Author.Needs.{needs}
 use Rattle.call_tasks.proofs.rot_rdq.Statement.{statement}
 use Rattle.call_tasks.proofs.rot_rdq.Tie as tie
 
-ready-head-requires : tie.Need-ready-head-requires
-ready-head-requires c κs = search needs
-
-done-requires : tie.Need-done-requires
-done-requires c κs = search needs
-
 returns : tie.Need-returns
 returns c =
     let first = c .before in
     let at-ready-head = first .before in
     rot-empty _ (at-ready-head .ready-head .ensures) (first .if1 .taken) (c .done .ensures)
-
-rotate-requires : tie.Need-rotate-requires
-rotate-requires c κs = search needs
-
-done-requires-2 : tie.Need-done-requires-2
-done-requires-2 c κs = search needs
 
 returns-2 : tie.Need-returns-2
 returns-2 c =
@@ -30,4 +18,4 @@ returns-2 c =
     rot-turns _ (at-ready-head .ready-head .ensures) (first .if1 .left) (at-rotate .rotate .ensures) (c .done2 .ensures)
 
 pub rot-rdq-spec : {M : Type 1} → statement M
-rot-rdq-spec = tie.close (tie.spec ready-head-requires done-requires returns rotate-requires done-requires-2 returns-2)
+rot-rdq-spec = tie.close (tie.spec (λ c κs. search needs) (λ c κs. search needs) returns (λ c κs. search needs) (λ c κs. search needs) returns-2)

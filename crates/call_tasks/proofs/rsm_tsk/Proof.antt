@@ -5,24 +5,12 @@ use borrow.Author.Needs.{needs}
 use Rattle.call_tasks.proofs.rsm_tsk.Statement.{statement}
 use Rattle.call_tasks.proofs.rsm_tsk.Tie as tie
 
-is-suspended-requires : tie.Need-is-suspended-requires
-is-suspended-requires c κs = search needs
-
-refuse-requires : tie.Need-refuse-requires
-refuse-requires c κs = search needs
-
 returns : tie.Need-returns
 unfolding number
 returns c =
     let first = c .before in
     let at-is-suspended = first .before in
     rsm-free _ (at-is-suspended .is-suspended .ensures) (first .if1 .taken) (c .refuse .ensures)
-
-resume-requires : tie.Need-resume-requires
-resume-requires c κs = search needs
-
-done-requires : tie.Need-done-requires
-done-requires c κs = search needs
 
 returns-2 : tie.Need-returns-2
 returns-2 c =
@@ -32,4 +20,4 @@ returns-2 c =
     rsm-done _ (at-is-suspended .is-suspended .ensures) (first .if1 .left) (at-resume .resume .ensures) (c .done .ensures)
 
 pub rsm-tsk-spec : {M : Type 1} → statement M
-rsm-tsk-spec = tie.close (tie.spec is-suspended-requires refuse-requires returns resume-requires done-requires returns-2)
+rsm-tsk-spec = tie.close (tie.spec (λ c κs. search needs) (λ c κs. search needs) returns (λ c κs. search needs) (λ c κs. search needs) returns-2)

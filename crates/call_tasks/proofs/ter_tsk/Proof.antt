@@ -4,16 +4,10 @@ use borrow.Author.Needs.{needs}
 use Rattle.call_tasks.proofs.ter_tsk.Statement.{statement}
 use Rattle.call_tasks.proofs.ter_tsk.Tie as tie
 
-retire-requires : tie.Need-retire-requires
-retire-requires c κs = search needs
-
-done-requires : tie.Need-done-requires
-done-requires c κs = search needs
-
 returns : tie.Need-returns
 returns c =
     let at-retire = c .before in
     ter-done _ (at-retire .retire .ensures) (c .done .ensures)
 
 pub ter-tsk-spec : {M : Type 1} → statement M
-ter-tsk-spec = tie.close (tie.spec retire-requires done-requires returns)
+ter-tsk-spec = tie.close (tie.spec (λ c κs. search needs) (λ c κs. search needs) returns)

@@ -4,15 +4,6 @@ use borrow.Author.Needs.{needs}
 use Rattle.call_tasks.proofs.tsk_sts.Statement.{statement}
 use Rattle.call_tasks.proofs.tsk_sts.Tie as tie
 
-state-number-requires : tie.Need-state-number-requires
-state-number-requires c κs = search needs
-
-priority-requires : tie.Need-priority-requires
-priority-requires c κs = search needs
-
-gives-requires : tie.Need-gives-requires
-gives-requires c κs = search needs
-
 returns : tie.Need-returns
 returns c =
     let at-priority = c .before in
@@ -20,4 +11,4 @@ returns c =
     sts-done _ (at-state-number .state-number .ensures) (at-priority .priority .ensures) (c .gives .ensures)
 
 pub tsk-sts-spec : {M : Type 1} → statement M
-tsk-sts-spec = tie.close (tie.spec state-number-requires priority-requires gives-requires returns)
+tsk-sts-spec = tie.close (tie.spec (λ c κs. search needs) (λ c κs. search needs) (λ c κs. search needs) returns)

@@ -20,15 +20,6 @@ abbrev μ-loop : tie.MeasureT-loop
 loop-holds : tie.Need-loop-holds Inv-loop μ-loop
 loop-holds c = (any-first _ _, omega arith)
 
-ticks-requires : tie.Need-ticks-requires Inv-loop μ-loop
-ticks-requires c κs = search needs
-
-add-i : tie.Need-add-i Inv-loop μ-loop
-add-i c = search needs
-
-loop-less : tie.Need-loop-less Inv-loop μ-loop
-loop-less c = search needs
-
 loop-again : tie.Need-loop-again Inv-loop μ-loop
 loop-again c =
     let l = c .before .before .loop in
@@ -38,4 +29,4 @@ returns : tie.Need-returns Inv-loop μ-loop
 returns c = any-last _ _ _ (c .loop-test .left) (c .before .loop .inv .0)
 
 pub any-left-spec : {M : Type 1} → statement M
-any-left-spec = tie.close (tie.spec Inv-loop μ-loop loop-holds ticks-requires add-i loop-less loop-again returns)
+any-left-spec = tie.close (tie.spec Inv-loop μ-loop loop-holds (λ c κs. search needs) (λ c. search needs) (λ c. search needs) loop-again returns)

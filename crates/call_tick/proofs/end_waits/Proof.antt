@@ -5,12 +5,6 @@ use Rattle.call_tick.proofs.Ticks.{end-none}
 use Rattle.call_tick.proofs.end_waits.Statement.{statement}
 use Rattle.call_tick.proofs.end_waits.Tie as tie
 
-any-last-requires : tie.Need-any-last-requires
-any-last-requires c κs = search needs
-
-expire-all-requires : tie.Need-expire-all-requires
-expire-all-requires c κs = search needs
-
 returns : tie.Need-returns
 returns c = c .expire-all .ensures
 
@@ -18,4 +12,4 @@ returns-2 : tie.Need-returns-2
 returns-2 c = let r = end-none _ _ (c .before .any-last .ensures) (c .if1 .left) in (r .0, (r .1, omega arith))
 
 pub end-waits-spec : {M : Type 1} → statement M
-end-waits-spec = tie.close (tie.spec any-last-requires expire-all-requires returns returns-2)
+end-waits-spec = tie.close (tie.spec (λ c κs. search needs) (λ c κs. search needs) returns returns-2)

@@ -5,21 +5,6 @@ use Rattle.call_tick.proofs.Ticks.{expire-yes, expire-no}
 use Rattle.call_tick.proofs.expire.Statement.{statement}
 use Rattle.call_tick.proofs.expire.Tie as tie
 
-status-requires : tie.Need-status-requires
-status-requires c κs = search needs
-
-kind-requires : tie.Need-kind-requires
-kind-requires c κs = search needs
-
-ticks-requires : tie.Need-ticks-requires
-ticks-requires c κs = search needs
-
-last-tick-requires : tie.Need-last-tick-requires
-last-tick-requires c κs = search needs
-
-release-requires : tie.Need-release-requires
-release-requires c κs = search needs
-
 returns : tie.Need-returns
 returns c =
     let i = c .before .before in
@@ -38,4 +23,4 @@ returns-2 c =
     (r .0, (r .1, omega arith))
 
 pub expire-spec : {M : Type 1} → statement M
-expire-spec = tie.close (tie.spec status-requires kind-requires ticks-requires last-tick-requires release-requires returns returns-2)
+expire-spec = tie.close (tie.spec (λ c κs. search needs) (λ c κs. search needs) (λ c κs. search needs) (λ c κs. search needs) (λ c κs. search needs) returns returns-2)

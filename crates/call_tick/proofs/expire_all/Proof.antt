@@ -17,21 +17,6 @@ abbrev μ-loop : tie.MeasureT-loop
 loop-holds : tie.Need-loop-holds Inv-loop μ-loop
 loop-holds c = ((refl, omega arith), omega arith, omega arith)
 
-expire-requires : tie.Need-expire-requires Inv-loop μ-loop
-expire-requires c κs = search needs
-
-add-count : tie.Need-add-count Inv-loop μ-loop
-add-count c = search needs
-
-add-i : tie.Need-add-i Inv-loop μ-loop
-add-i c = search needs
-
-sub-left : tie.Need-sub-left Inv-loop μ-loop
-sub-left c = search needs
-
-loop-less : tie.Need-loop-less Inv-loop μ-loop
-loop-less c = search needs
-
 loop-again : tie.Need-loop-again Inv-loop μ-loop
 loop-again c =
     let i = c .before .before in
@@ -46,4 +31,4 @@ returns c =
     (r .0, (r .1, omega (arith, h .1, h .2)))
 
 pub expire-all-spec : {M : Type 1} → statement M
-expire-all-spec = tie.close (tie.spec Inv-loop μ-loop loop-holds expire-requires add-count add-i sub-left loop-less loop-again returns)
+expire-all-spec = tie.close (tie.spec Inv-loop μ-loop loop-holds (λ c κs. search needs) (λ c. search needs) (λ c. search needs) (λ c. search needs) (λ c. search needs) loop-again returns)

@@ -5,21 +5,6 @@ use Rattle.call_tick.proofs.Ticks.{pass-none, pass-some, pass-count}
 use Rattle.call_tick.proofs.pass_waits.Statement.{statement}
 use Rattle.call_tick.proofs.pass_waits.Tie as tie
 
-any-left-requires : tie.Need-any-left-requires
-any-left-requires c κs = search needs
-
-system-requires : tie.Need-system-requires
-system-requires c κs = search needs
-
-at-most-requires : tie.Need-at-most-requires
-at-most-requires c κs = search needs
-
-end-waits-requires : tie.Need-end-waits-requires
-end-waits-requires c κs = search needs
-
-age-all-requires : tie.Need-age-all-requires
-age-all-requires c κs = search needs
-
 returns : tie.Need-returns
 returns c =
     let e = c .before .before in
@@ -32,4 +17,4 @@ returns-2 : tie.Need-returns-2
 returns-2 c = let r = pass-none _ (c .before .any-left .ensures) (c .if1 .left) in (r .0, (r .1, omega arith))
 
 pub pass-waits-spec : {M : Type 1} → statement M
-pass-waits-spec = tie.close (tie.spec any-left-requires system-requires at-most-requires end-waits-requires age-all-requires returns returns-2)
+pass-waits-spec = tie.close (tie.spec (λ c κs. search needs) (λ c κs. search needs) (λ c κs. search needs) (λ c κs. search needs) (λ c κs. search needs) returns returns-2)

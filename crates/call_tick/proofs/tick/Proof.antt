@@ -4,18 +4,6 @@ use borrow.Author.Needs.{needs}
 use Rattle.call_tick.proofs.tick.Statement.{statement}
 use Rattle.call_tick.proofs.tick.Tie as tie
 
-pass-waits-requires : tie.Need-pass-waits-requires
-pass-waits-requires c κs = search needs
-
-step-clock-requires : tie.Need-step-clock-requires
-step-clock-requires c κs = search needs
-
-counter-requires : tie.Need-counter-requires
-counter-requires c κs = search needs
-
-releases-requires : tie.Need-releases-requires
-releases-requires c κs = search needs
-
 returns : tie.Need-returns
 returns c =
     let first = c .before in
@@ -23,18 +11,6 @@ returns c =
     let at-clock = at-counter .before .before in
     let waits = at-clock .before .before .pass-waits .ensures in
     tick-alone _ (waits .0) (waits .1 .0) (at-clock .step-clock .ensures) (at-counter .counter .ensures) (first .if1 .taken) (c .releases .ensures)
-
-step-counter-requires : tie.Need-step-counter-requires
-step-counter-requires c κs = search needs
-
-ring-requires : tie.Need-ring-requires
-ring-requires c κs = search needs
-
-add-releases : tie.Need-add-releases
-add-releases c = search needs
-
-releases-requires-2 : tie.Need-releases-requires-2
-releases-requires-2 c κs = search needs
 
 returns-2 : tie.Need-returns-2
 returns-2 c =
@@ -49,4 +25,4 @@ returns-2 c =
 pub tick-spec : {M : Type 1} → statement M
 tick-spec =
     tie.close
-    (tie.spec pass-waits-requires step-clock-requires counter-requires releases-requires returns step-counter-requires ring-requires add-releases releases-requires-2 returns-2)
+    (tie.spec (λ c κs. search needs) (λ c κs. search needs) (λ c κs. search needs) (λ c κs. search needs) returns (λ c κs. search needs) (λ c κs. search needs) (λ c. search needs) (λ c κs. search needs) returns-2)

@@ -4,30 +4,12 @@ use borrow.Author.Needs.{needs}
 use Rattle.call_wakeups.proofs.slp_tsk.Statement.{statement}
 use Rattle.call_wakeups.proofs.slp_tsk.Tie as tie
 
-stored-requires : tie.Need-stored-requires
-stored-requires c κs = search needs
-
-sub-set-wakeups : tie.Need-sub-set-wakeups
-sub-set-wakeups c = search needs
-
-set-wakeups-requires : tie.Need-set-wakeups-requires
-set-wakeups-requires c κs = search needs
-
-done-requires : tie.Need-done-requires
-done-requires c κs = search needs
-
 returns : tie.Need-returns
 returns c =
     let at-set-wakeups = c .before in
     let first = at-set-wakeups .before .before in
     let at-stored = first .before in
     slp-takes _ (at-stored .stored .ensures) (first .if1 .taken) (at-set-wakeups .set-wakeups .ensures) (c .done .ensures)
-
-sleep-requires : tie.Need-sleep-requires
-sleep-requires c κs = search needs
-
-waits-requires : tie.Need-waits-requires
-waits-requires c κs = search needs
 
 returns-2 : tie.Need-returns-2
 returns-2 c =
@@ -37,4 +19,4 @@ returns-2 c =
     slp-waits _ (at-stored .stored .ensures) (first .if1 .left) (at-sleep .sleep .ensures) (c .waits .ensures)
 
 pub slp-tsk-spec : {M : Type 1} → statement M
-slp-tsk-spec = tie.close (tie.spec stored-requires sub-set-wakeups set-wakeups-requires done-requires returns sleep-requires waits-requires returns-2)
+slp-tsk-spec = tie.close (tie.spec (λ c κs. search needs) (λ c. search needs) (λ c κs. search needs) (λ c κs. search needs) returns (λ c κs. search needs) (λ c κs. search needs) returns-2)

@@ -6,29 +6,11 @@ use borrow.Author.Needs.{needs}
 use Rattle.call_wakeups.proofs.wai_tsk.Statement.{statement}
 use Rattle.call_wakeups.proofs.wai_tsk.Tie as tie
 
-slp-tsk-requires : tie.Need-slp-tsk-requires
-slp-tsk-requires c κs = search needs
-
 returns : tie.Need-returns
 returns c =
     let first = c .before .before in
     let start = first .before in
     wai-sleeps _ _ (rw (toZ-ofZ (start .fits .a)) at (first .if1 .taken)) (c .slp-tsk .ensures)
-
-named-requires : tie.Need-named-requires
-named-requires c κs = search needs
-
-stored-requires : tie.Need-stored-requires
-stored-requires c κs = search needs
-
-sub-set-wakeups : tie.Need-sub-set-wakeups
-sub-set-wakeups c = search needs
-
-set-wakeups-requires : tie.Need-set-wakeups-requires
-set-wakeups-requires c κs = search needs
-
-done-requires : tie.Need-done-requires
-done-requires c κs = search needs
 
 returns-2 : tie.Need-returns-2
 returns-2 c =
@@ -36,9 +18,6 @@ returns-2 c =
     let second = at-set-wakeups .before .before in
     let at-stored = second .before in
     wai-takes _ (at-stored .stored .ensures) _ (second .if2 .taken) (at-set-wakeups .set-wakeups .ensures) (c .done .ensures)
-
-refuse-requires : tie.Need-refuse-requires
-refuse-requires c κs = search needs
 
 returns-3 : tie.Need-returns-3
 unfolding number
@@ -51,12 +30,6 @@ returns-3 c =
     let start = first .before in
     let f = toZ-ofZ (start .fits .a) in wai-ends _ (at-stored .stored .ensures) _ (second .if2 .left) (rw f at (at-named .named .ensures)) (rw f at (first .if1 .left)) (third .if3 .taken) (c .refuse .ensures)
 
-sleep-requires : tie.Need-sleep-requires
-sleep-requires c κs = search needs
-
-waits-requires : tie.Need-waits-requires
-waits-requires c κs = search needs
-
 returns-4 : tie.Need-returns-4
 returns-4 c =
     let at-sleep = c .before in
@@ -68,4 +41,4 @@ returns-4 c =
     let f = toZ-ofZ (start .fits .a) in wai-waits _ (at-stored .stored .ensures) _ (second .if2 .left) (rw f at (at-named .named .ensures)) (third .if3 .left) (at-sleep .sleep .ensures) (c .waits .ensures)
 
 pub wai-tsk-spec : {M : Type 1} → statement M
-wai-tsk-spec = tie.close (tie.spec slp-tsk-requires returns named-requires stored-requires sub-set-wakeups set-wakeups-requires done-requires returns-2 refuse-requires returns-3 sleep-requires waits-requires returns-4)
+wai-tsk-spec = tie.close (tie.spec (λ c κs. search needs) returns (λ c κs. search needs) (λ c κs. search needs) (λ c. search needs) (λ c κs. search needs) (λ c κs. search needs) returns-2 (λ c κs. search needs) returns-3 (λ c κs. search needs) (λ c κs. search needs) returns-4)

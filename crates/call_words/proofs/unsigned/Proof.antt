@@ -19,8 +19,5 @@ returns c = below-unsigned (c .before .fits .z) (c .if1 .taken)
 cast-result-2 : tie.Need-cast-result-2
 cast-result-2 c = plain-casts (c .before .fits .z) (c .if1 .left)
 
-returns-2 : tie.Need-returns-2
-returns-2 c = search needs
-
 pub unsigned-spec : {M : Type 1} → statement M
-unsigned-spec = tie.close (tie.spec sub-below cast-result add-result returns cast-result-2 returns-2)
+unsigned-spec = tie.close (tie.spec sub-below cast-result add-result returns cast-result-2 (λ c. search needs))

@@ -10,11 +10,5 @@ slice-aggregate-write-all c =
     let a = c .before .before in
     omega (arith, length-take (a .args .n) (a .args .text .now), a .pre)
 
-write-all-requires : tie.Need-write-all-requires
-write-all-requires c κs = search needs
-
-returns : tie.Need-returns
-returns c = search needs
-
 pub show-spec : {M : Type 1} → statement M
-show-spec = tie.close (tie.spec slice-aggregate-write-all write-all-requires returns)
+show-spec = tie.close (tie.spec slice-aggregate-write-all (λ c κs. search needs) (λ c. search needs))

@@ -9,26 +9,11 @@ use borrow.Author.Needs.{needs}
 use Rattle.kernel_cells.proofs.cell.Statement.{statement}
 use Rattle.kernel_cells.proofs.cell.Tie as tie
 
-accepts-requires : tie.Need-accepts-requires
-accepts-requires c κs = search needs
-
-first-breach-requires : tie.Need-first-breach-requires
-first-breach-requires c κs = search needs
-
 returns : tie.Need-returns
 returns c =
     let at-breach = c .before in
     let first = at-breach .before in
     unreadable (first .before .accepts .ensures) _ (not-true _ (first .if1 .taken)) (λ h. toZ-ofZ (record { sfits = c .struct-told .given .0 .1 }) ∙ at-breach .first-breach .ensures .0)
-
-named-requires : tie.Need-named-requires
-named-requires c κs = search needs
-
-system-requires : tie.Need-system-requires
-system-requires c κs = search needs
-
-is-outside-requires : tie.Need-is-outside-requires
-is-outside-requires c κs = search needs
 
 returns-2 : tie.Need-returns-2
 unfolding number
@@ -40,9 +25,6 @@ returns-2 c =
     let at-accepts = first .before in
     let start = at-accepts .before in
     foreign (at-accepts .accepts .ensures) (not-false _ (first .if1 .left)) (start .args .task) (at-system .system .ensures) (rw (rw (toZ-ofZ (start .fits .task)) at (at-named .named .ensures)) at (at-is-outside .is-outside .ensures)) (c .if2 .taken)
-
-status-requires : tie.Need-status-requires
-status-requires c κs = search needs
 
 returns-3 : tie.Need-returns-3
 unfolding number
@@ -56,15 +38,6 @@ returns-3 c =
     let at-accepts = first .before in
     let start = at-accepts .before in
     let f = rw (toZ-ofZ (start .fits .task)) at (at-named .named .ensures) in absent (at-accepts .accepts .ensures) (not-false _ (first .if1 .left)) (start .args .task) (at-system .system .ensures) (rw f at (at-is-outside .is-outside .ensures)) (second .if2 .left) (rw f at (at-status .status .ensures)) (c .if3 .taken)
-
-code-requires : tie.Need-code-requires
-code-requires c κs = search needs
-
-code-of-requires : tie.Need-code-of-requires
-code-of-requires c κs = search needs
-
-word-requires : tie.Need-word-requires
-word-requires c κs = search needs
 
 returns-4 : tie.Need-returns-4
 unfolding number
@@ -83,4 +56,4 @@ returns-4 c =
     let f = rw (toZ-ofZ (start .fits .task)) at (at-named .named .ensures) in readable (at-accepts .accepts .ensures) (not-false _ (first .if1 .left)) (start .args .task) (at-system .system .ensures) (rw f at (at-is-outside .is-outside .ensures)) (second .if2 .left) (rw f at (at-status .status .ensures)) (third .if3 .left) (rw f at (at-code .code .ensures)) (saying _ (at-code-of .code-of .ok) (at-code-of .code-of .ensures)) (rw f at (c .word .ensures))
 
 pub cell-spec : {M : Type 1} → statement M
-cell-spec = tie.close (tie.spec accepts-requires first-breach-requires returns named-requires system-requires is-outside-requires returns-2 status-requires returns-3 code-requires code-of-requires word-requires returns-4)
+cell-spec = tie.close (tie.spec (λ c κs. search needs) (λ c κs. search needs) returns (λ c κs. search needs) (λ c κs. search needs) (λ c κs. search needs) returns-2 (λ c κs. search needs) returns-3 (λ c κs. search needs) (λ c κs. search needs) (λ c κs. search needs) returns-4)

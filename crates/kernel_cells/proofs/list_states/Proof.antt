@@ -19,27 +19,6 @@ abbrev μ-loop : tie.MeasureT-loop
 loop-holds : tie.Need-loop-holds Inv-loop μ-loop
 loop-holds c = (none-listed _ _, omega arith, refl)
 
-add-state-number : tie.Need-add-state-number Inv-loop μ-loop
-add-state-number c = search needs
-
-state-number-requires : tie.Need-state-number-requires Inv-loop μ-loop
-state-number-requires c κs = search needs
-
-cast-out : tie.Need-cast-out Inv-loop μ-loop
-cast-out c = search needs
-
-mul-out : tie.Need-mul-out Inv-loop μ-loop
-mul-out c = search needs
-
-slice-write-out : tie.Need-slice-write-out Inv-loop μ-loop
-slice-write-out c = search needs
-
-add-i : tie.Need-add-i Inv-loop μ-loop
-add-i c = search needs
-
-loop-less : tie.Need-loop-less Inv-loop μ-loop
-loop-less c = search needs
-
 loop-again : tie.Need-loop-again Inv-loop μ-loop
 loop-again c =
     let L = c .before .before in
@@ -54,4 +33,4 @@ returns : tie.Need-returns Inv-loop μ-loop
 returns c = let L = c .before in all-listed (L .loop .inv .0) (omega (arith, L .loop .inv .1, c .loop-test .left))
 
 pub list-states-spec : {M : Type 1} → statement M
-list-states-spec = tie.close (tie.spec Inv-loop μ-loop loop-holds add-state-number state-number-requires cast-out mul-out slice-write-out add-i loop-less loop-again same-length returns)
+list-states-spec = tie.close (tie.spec Inv-loop μ-loop loop-holds (λ c. search needs) (λ c κs. search needs) (λ c. search needs) (λ c. search needs) (λ c. search needs) (λ c. search needs) (λ c. search needs) loop-again same-length returns)

@@ -7,16 +7,10 @@ use Rattle.kernel_cells.proofs.Promised.{unlisted, few, listed}
 use Rattle.kernel_cells.proofs.states.Statement.{statement}
 use Rattle.kernel_cells.proofs.states.Tie as tie
 
-judged-requires : tie.Need-judged-requires
-judged-requires c κs = search needs
-
 returns : tie.Need-returns
 returns c =
     let first = c .before in
     unlisted (first .before .before .before .judged .ensures) _ (first .if1 .taken) (signed _ (c .struct-told2 .given .0 .1))
-
-system-requires : tie.Need-system-requires
-system-requires c κs = search needs
 
 list-states-requires : tie.Need-list-states-requires
 list-states-requires c κs =
@@ -34,4 +28,4 @@ returns-2 c =
     listed (told .before .before .judged .ensures) (told .struct-told .given .0 .1) (first .if1 .left) (at-system .system .ensures) (c .list-states .ensures)
 
 pub states-spec : {M : Type 1} → statement M
-states-spec = tie.close (tie.spec judged-requires returns system-requires list-states-requires returns-2)
+states-spec = tie.close (tie.spec (λ c κs. search needs) returns (λ c κs. search needs) list-states-requires returns-2)

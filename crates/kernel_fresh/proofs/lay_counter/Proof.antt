@@ -8,15 +8,6 @@ returns : tie.Need-returns
 unfolding laidCounter
 returns c = simp (eq-eqb _ _ (c .if1 .taken))
 
-word-requires : tie.Need-word-requires
-word-requires c κs = search needs
-
-set-counter-requires : tie.Need-set-counter-requires
-set-counter-requires c κs = search needs
-
-lay-alarms-requires : tie.Need-lay-alarms-requires
-lay-alarms-requires c κs = search needs
-
 returns-2 : tie.Need-returns-2
 unfolding laidCounter
 returns-2 c =
@@ -25,4 +16,4 @@ returns-2 c =
 
 pub lay-counter-spec : {M : Type 1} → statement M
 lay-counter-spec =
-    tie.close (tie.spec returns word-requires set-counter-requires lay-alarms-requires returns-2)
+    tie.close (tie.spec returns (λ c κs. search needs) (λ c κs. search needs) (λ c κs. search needs) returns-2)

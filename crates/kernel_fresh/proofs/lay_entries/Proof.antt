@@ -3,21 +3,6 @@ use borrow.Author.Needs.{needs}
 use Rattle.kernel_fresh.proofs.lay_entries.Statement.{statement}
 use Rattle.kernel_fresh.proofs.lay_entries.Tie as tie
 
-lay-tasks-requires : tie.Need-lay-tasks-requires
-lay-tasks-requires c κs = search needs
-
-lay-semaphores-requires : tie.Need-lay-semaphores-requires
-lay-semaphores-requires c κs = search needs
-
-lay-flags-requires : tie.Need-lay-flags-requires
-lay-flags-requires c κs = search needs
-
-lay-pools-requires : tie.Need-lay-pools-requires
-lay-pools-requires c κs = search needs
-
-lay-counter-requires : tie.Need-lay-counter-requires
-lay-counter-requires c κs = search needs
-
 returns : tie.Need-returns
 returns c =
     let p = c .before .before in
@@ -28,10 +13,5 @@ returns c =
 pub lay-entries-spec : {M : Type 1} → statement M
 lay-entries-spec =
     tie.close
-    (tie.spec
-    lay-tasks-requires
-    lay-semaphores-requires
-    lay-flags-requires
-    lay-pools-requires
-    lay-counter-requires
-    returns)
+    (tie.spec (λ c κs. search needs) (λ c κs. search needs) (λ c κs. search needs)
+    (λ c κs. search needs) (λ c κs. search needs) returns)

@@ -3,12 +3,6 @@ use borrow.Author.Needs.{needs}
 use Rattle.kernel_fresh.proofs.lay_plan.Statement.{statement}
 use Rattle.kernel_fresh.proofs.lay_plan.Tie as tie
 
-plan-of-requires : tie.Need-plan-of-requires
-plan-of-requires c κs = search needs
-
-lay-counts-requires : tie.Need-lay-counts-requires
-lay-counts-requires c κs = search needs
-
 lay-entries-requires : tie.Need-lay-entries-requires
 lay-entries-requires c κs = plan-small _ (c .before .before .before .plan-of .ensures)
 
@@ -25,4 +19,4 @@ returns c =
     (p .plan-of .ensures, laid-steps _ (p .plan-of .ensures) (k .lay-counts .ensures) (n .lay-entries .ensures) (c .empty-all .ensures))
 
 pub lay-plan-spec : {M : Type 1} → statement M
-lay-plan-spec = tie.close (tie.spec plan-of-requires lay-counts-requires lay-entries-requires empty-all-requires returns)
+lay-plan-spec = tie.close (tie.spec (λ c κs. search needs) (λ c κs. search needs) lay-entries-requires empty-all-requires returns)

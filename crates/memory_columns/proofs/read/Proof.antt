@@ -4,15 +4,6 @@ use Rattle.memory_rings.proofs.Columns.{col-at, col-past}
 use Rattle.memory_columns.proofs.read.Statement.{statement}
 use Rattle.memory_columns.proofs.read.Tie as tie
 
-add-result : tie.Need-add-result
-add-result c = search needs
-
-mul-result : tie.Need-mul-result
-mul-result c = search needs
-
-element-copy-out-result : tie.Need-element-copy-out-result
-element-copy-out-result c = search needs
-
 returns : tie.Need-returns
 returns c = sym (col-at _ _ _ _ (c .before .if1 .taken))
 
@@ -20,4 +11,4 @@ returns-2 : tie.Need-returns-2
 returns-2 c = sym (col-past _ _ _ _ (c .if1 .left))
 
 pub read-spec : {M : Type 1} → statement M
-read-spec = tie.close (tie.spec add-result mul-result element-copy-out-result returns returns-2)
+read-spec = tie.close (tie.spec (λ c. search needs) (λ c. search needs) (λ c. search needs) returns returns-2)

@@ -19,21 +19,12 @@ returns-3 : tie.Need-returns-3
 returns-3 c = simp (le-leb 1 (c .before .before .before .args .pool) (omega arith), le-leb _ _ (c .before .if2 .left), lt-leb _ _ (c .if3 .taken))
 
 -- src/lib.rt:93:19
-sub-result : tie.Need-sub-result
-sub-result c = search needs
-
 -- src/lib.rt:93:5
-mul-result : tie.Need-mul-result
-mul-result c = search needs
-
 -- src/lib.rt:93:5
-add-result : tie.Need-add-result
-add-result c = search needs
-
 -- src/lib.rt:81:1
 returns-4 : tie.Need-returns-4
 returns-4 c = simp (le-leb 1 (c .before .before .before .args .pool) (omega arith), le-leb _ _ (c .before .if2 .left), le-leb _ _ (c .if3 .left), sub-one)
 
 pub block-node-spec : {M : Type 1} → statement M
 block-node-spec =
-    tie.close (tie.spec returns returns-2 returns-3 sub-result mul-result add-result returns-4)
+    tie.close (tie.spec returns returns-2 returns-3 (λ c. search needs) (λ c. search needs) (λ c. search needs) returns-4)

@@ -7,12 +7,6 @@ use borrow.Author.Needs.{needs}
 use Rattle.memory_queues.proofs.clear.Statement.{statement}
 use Rattle.memory_queues.proofs.clear.Tie as tie
 
-links-at-requires : tie.Need-links-at-requires
-links-at-requires c κs = search needs
-
-links-end-requires : tie.Need-links-end-requires
-links-end-requires c κs = search needs
-
 clear-in-requires : tie.Need-clear-in-requires
 clear-in-requires c κs = let a = c .before .before .before in links-within (now (a .args .words)) (search needs) (a .args .rings) (c .before .links-at .ensures) (c .links-end .ensures)
 
@@ -21,4 +15,4 @@ unfolding emptied
 returns c = let a = c .before .before .before .before in links-back (now (a .args .words)) (search needs) (a .args .rings) (c .before .before .links-at .ensures) (c .before .links-end .ensures) (cleared (a .args .anchor)) (c .clear-in .ensures)
 
 pub clear-spec : {M : Type 1} → statement M
-clear-spec = tie.close (tie.spec links-at-requires links-end-requires clear-in-requires returns)
+clear-spec = tie.close (tie.spec (λ c κs. search needs) (λ c κs. search needs) clear-in-requires returns)

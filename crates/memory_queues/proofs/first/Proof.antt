@@ -7,14 +7,8 @@ use borrow.Author.Needs.{needs}
 use Rattle.memory_queues.proofs.first.Statement.{statement}
 use Rattle.memory_queues.proofs.first.Tie as tie
 
-links-requires : tie.Need-links-requires
-links-requires c κs = search needs
-
-first-requires : tie.Need-first-requires
-first-requires c κs = search needs
-
 returns : tie.Need-returns
 returns c = c .first .ensures ∙ ap (λ (l : List ℕ). firstOf l (c .before .before .args .anchor)) (c .before .links .ensures .1)
 
 pub first-spec : {M : Type 1} → statement M
-first-spec = tie.close (tie.spec links-requires first-requires returns)
+first-spec = tie.close (tie.spec (λ c κs. search needs) (λ c κs. search needs) returns)

@@ -7,14 +7,8 @@ use borrow.Author.Needs.{needs}
 use Rattle.memory_queues.proofs.follow.Statement.{statement}
 use Rattle.memory_queues.proofs.follow.Tie as tie
 
-links-requires : tie.Need-links-requires
-links-requires c κs = search needs
-
-follow-requires : tie.Need-follow-requires
-follow-requires c κs = search needs
-
 returns : tie.Need-returns
 returns c = c .follow .ensures ∙ ap (λ (l : List ℕ). getD l (c .before .before .args .x) 0) (c .before .links .ensures .1)
 
 pub follow-spec : {M : Type 1} → statement M
-follow-spec = tie.close (tie.spec links-requires follow-requires returns)
+follow-spec = tie.close (tie.spec (λ c κs. search needs) (λ c κs. search needs) returns)

@@ -4,18 +4,6 @@ use borrow.Author.Needs.{needs}
 use Rattle.memory_queues.proofs.leave.Statement.{statement}
 use Rattle.memory_queues.proofs.leave.Tie as tie
 
-follow-requires : tie.Need-follow-requires
-follow-requires c κs = search needs
-
-unlink-requires : tie.Need-unlink-requires
-unlink-requires c κs = search needs
-
-first-requires : tie.Need-first-requires
-first-requires c κs = search needs
-
-note-requires : tie.Need-note-requires
-note-requires c κs = search needs
-
 returns : tie.Need-returns
 returns c =
     let f = c .before .before in
@@ -23,4 +11,4 @@ returns c =
     leave-steps _ _ (l .before .before .follow .ensures) (l .unlink .ensures) (f .first .ensures) (c .note .ensures)
 
 pub leave-spec : {M : Type 1} → statement M
-leave-spec = tie.close (tie.spec follow-requires unlink-requires first-requires note-requires returns)
+leave-spec = tie.close (tie.spec (λ c κs. search needs) (λ c κs. search needs) (λ c κs. search needs) (λ c κs. search needs) returns)

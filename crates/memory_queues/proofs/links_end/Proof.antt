@@ -10,15 +10,6 @@ use Rattle.memory_queues.proofs.links_end.Tie as tie
 abbrev linksEnd : Rings → ℕ
 linksEnd r = linksOf r .at + linksOf r .width
 
-enum-told : tie.Need-enum-told
-enum-told c = search needs
-
-enum-told-2 : tie.Need-enum-told-2
-enum-told-2 c = search needs
-
-enum-told-3 : tie.Need-enum-told-3
-enum-told-3 c = search needs
-
 returns : tie.Need-returns
 returns c = sym (ap linksEnd (c .enum-told .given .1))
 
@@ -29,4 +20,4 @@ returns-3 : tie.Need-returns-3
 returns-3 c = sym (ap linksEnd (c .enum-told3 .given .1))
 
 pub links-end-spec : {M : Type 1} → statement M
-links-end-spec = tie.close (tie.spec enum-told enum-told-2 enum-told-3 returns returns-2 returns-3)
+links-end-spec = tie.close (tie.spec (λ c. search needs) (λ c. search needs) (λ c. search needs) returns returns-2 returns-3)

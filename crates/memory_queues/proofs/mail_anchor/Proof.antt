@@ -3,9 +3,6 @@ use borrow.Author.Needs.{needs}
 use Rattle.memory_queues.proofs.mail_anchor.Statement.{statement}
 use Rattle.memory_queues.proofs.mail_anchor.Tie as tie
 
-add-result : tie.Need-add-result
-add-result c = search needs
-
 returns : tie.Need-returns
 returns c = simp (le-leb _ _ (c .if1 .taken))
 
@@ -13,4 +10,4 @@ returns-2 : tie.Need-returns-2
 returns-2 c = simp (lt-leb _ _ (c .if1 .left))
 
 pub mail-anchor-spec : {M : Type 1} → statement M
-mail-anchor-spec = tie.close (tie.spec add-result returns returns-2)
+mail-anchor-spec = tie.close (tie.spec (λ c. search needs) returns returns-2)

@@ -10,15 +10,6 @@ returns c = note-below _ _ _ (c .if1 .taken)
 returns-2 : tie.Need-returns-2
 returns-2 c = note-past _ _ _ (c .if2 .taken)
 
-nonempty-requires : tie.Need-nonempty-requires
-nonempty-requires c κs = search needs
-
-with-bit-requires : tie.Need-with-bit-requires
-with-bit-requires c κs = search needs
-
-set-nonempty-requires : tie.Need-set-nonempty-requires
-set-nonempty-requires c κs = search needs
-
 returns-3 : tie.Need-returns-3
 returns-3 c =
     let w = c .before in
@@ -27,4 +18,4 @@ returns-3 c =
     note-in _ _ _ (i .before .if1 .left) (i .if2 .left) (m .nonempty .ensures) (w .with-bit .ensures) (c .set-nonempty .ensures)
 
 pub note-spec : {M : Type 1} → statement M
-note-spec = tie.close (tie.spec returns returns-2 nonempty-requires with-bit-requires set-nonempty-requires returns-3)
+note-spec = tie.close (tie.spec returns returns-2 (λ c κs. search needs) (λ c κs. search needs) (λ c κs. search needs) returns-3)

@@ -4,14 +4,8 @@ use borrow.Author.Needs.{needs}
 use Rattle.memory_queues.proofs.push.Statement.{statement}
 use Rattle.memory_queues.proofs.push.Tie as tie
 
-link-requires : tie.Need-link-requires
-link-requires c κs = search needs
-
-note-requires : tie.Need-note-requires
-note-requires c κs = search needs
-
 returns : tie.Need-returns
 returns c = push-steps _ _ _ (c .before .before .link .ensures) (c .note .ensures)
 
 pub push-spec : {M : Type 1} → statement M
-push-spec = tie.close (tie.spec link-requires note-requires returns)
+push-spec = tie.close (tie.spec (λ c κs. search needs) (λ c κs. search needs) returns)

@@ -7,12 +7,6 @@ use borrow.Author.Needs.{needs}
 use Rattle.memory_queues.proofs.unlink.Statement.{statement}
 use Rattle.memory_queues.proofs.unlink.Tie as tie
 
-links-at-requires : tie.Need-links-at-requires
-links-at-requires c κs = search needs
-
-links-end-requires : tie.Need-links-end-requires
-links-end-requires c κs = search needs
-
 leave-in-requires : tie.Need-leave-in-requires
 leave-in-requires c κs = let a = c .before .before .before in links-within (now (a .args .words)) (search needs) (a .args .rings) (c .before .links-at .ensures) (c .links-end .ensures)
 
@@ -21,4 +15,4 @@ unfolding unlinked
 returns c = let a = c .before .before .before .before in links-back (now (a .args .words)) (search needs) (a .args .rings) (c .before .before .links-at .ensures) (c .before .links-end .ensures) (left (a .args .i)) (c .leave-in .ensures)
 
 pub unlink-spec : {M : Type 1} → statement M
-unlink-spec = tie.close (tie.spec links-at-requires links-end-requires leave-in-requires returns)
+unlink-spec = tie.close (tie.spec (λ c κs. search needs) (λ c κs. search needs) leave-in-requires returns)

@@ -12,19 +12,10 @@ returns-2 : tie.Need-returns-2
 unfolding waitAnchor
 returns-2 c = simp (le-leb _ _ (c .before .if1 .left), lt-leb _ _ (c .if2 .taken))
 
-mul-result : tie.Need-mul-result
-mul-result c = search needs
-
-add-result : tie.Need-add-result
-add-result c = search needs
-
-add-result-2 : tie.Need-add-result-2
-add-result-2 c = search needs
-
 returns-3 : tie.Need-returns-3
 unfolding waitAnchor
 returns-3 c = simp (le-leb _ _ (c .before .if1 .left), le-leb _ _ (c .if2 .left))
 
 pub wait-anchor-spec : {M : Type 1} → statement M
 wait-anchor-spec =
-    tie.close (tie.spec returns returns-2 mul-result add-result add-result-2 returns-3)
+    tie.close (tie.spec returns returns-2 (λ c. search needs) (λ c. search needs) (λ c. search needs) returns-3)

@@ -5,9 +5,6 @@ use borrow.Author.Needs.{needs}
 use Rattle.memory_rings.proofs.first.Statement.{statement}
 use Rattle.memory_rings.proofs.first.Tie as tie
 
-next-requires : tie.Need-next-requires
-next-requires c κs = search needs
-
 returns : tie.Need-returns
 unfolding firstOf
 returns c = simp (← c .before .next .ensures, eq-eqb _ _ (c .if1 .taken))
@@ -17,4 +14,4 @@ unfolding firstOf
 returns-2 c = simp (← c .before .next .ensures, ne-eqb _ _ (c .if1 .left))
 
 pub first-spec : {M : Type 1} → statement M
-first-spec = tie.close (tie.spec next-requires returns returns-2)
+first-spec = tie.close (tie.spec (λ c κs. search needs) returns returns-2)

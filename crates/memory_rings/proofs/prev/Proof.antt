@@ -4,15 +4,6 @@ use borrow.Author.Needs.{needs}
 use Rattle.memory_rings.proofs.prev.Statement.{statement}
 use Rattle.memory_rings.proofs.prev.Tie as tie
 
-add-result : tie.Need-add-result
-add-result c = search needs
-
-mul-result : tie.Need-mul-result
-mul-result c = search needs
-
-shared-slice-read-result : tie.Need-shared-slice-read-result
-shared-slice-read-result c = search needs
-
 returns : tie.Need-returns
 returns c = prev-at _ _ (c .before .if1 .taken)
 
@@ -20,4 +11,4 @@ returns-2 : tie.Need-returns-2
 returns-2 c = prev-past _ _ (c .if1 .left)
 
 pub prev-spec : {M : Type 1} → statement M
-prev-spec = tie.close (tie.spec add-result mul-result shared-slice-read-result returns returns-2)
+prev-spec = tie.close (tie.spec (λ c. search needs) (λ c. search needs) (λ c. search needs) returns returns-2)

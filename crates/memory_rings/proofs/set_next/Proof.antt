@@ -4,15 +4,6 @@ use borrow.Author.Needs.{needs}
 use Rattle.memory_rings.proofs.set_next.Statement.{statement}
 use Rattle.memory_rings.proofs.set_next.Tie as tie
 
-mul-links : tie.Need-mul-links
-mul-links c = search needs
-
-slice-write-links : tie.Need-slice-write-links
-slice-write-links c = search needs
-
-same-length : tie.Need-same-length
-same-length c = search needs
-
 returns : tie.Need-returns
 returns c = set-next-at _ _ _ (c .if1 .taken)
 
@@ -20,4 +11,4 @@ returns-2 : tie.Need-returns-2
 returns-2 c = set-next-past _ _ _ (c .if1 .left)
 
 pub set-next-spec : {M : Type 1} → statement M
-set-next-spec = tie.close (tie.spec mul-links slice-write-links same-length returns returns-2)
+set-next-spec = tie.close (tie.spec (λ c. search needs) (λ c. search needs) (λ c. search needs) returns returns-2)

@@ -4,18 +4,6 @@ use borrow.Author.Needs.{needs}
 use Rattle.memory_rings.proofs.set_prev.Statement.{statement}
 use Rattle.memory_rings.proofs.set_prev.Tie as tie
 
-add-links : tie.Need-add-links
-add-links c = search needs
-
-mul-links : tie.Need-mul-links
-mul-links c = search needs
-
-slice-write-links : tie.Need-slice-write-links
-slice-write-links c = search needs
-
-same-length : tie.Need-same-length
-same-length c = search needs
-
 returns : tie.Need-returns
 returns c = set-prev-at _ _ _ (c .if1 .taken)
 
@@ -24,4 +12,4 @@ returns-2 c = set-prev-past _ _ _ (c .if1 .left)
 
 pub set-prev-spec : {M : Type 1} → statement M
 set-prev-spec =
-    tie.close (tie.spec add-links mul-links slice-write-links same-length returns returns-2)
+    tie.close (tie.spec (λ c. search needs) (λ c. search needs) (λ c. search needs) (λ c. search needs) returns returns-2)

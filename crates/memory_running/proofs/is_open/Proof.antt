@@ -4,11 +4,8 @@ use borrow.Author.Needs.{needs}
 use Rattle.memory_running.proofs.is_open.Statement.{statement}
 use Rattle.memory_running.proofs.is_open.Tie as tie
 
-handling-requires : tie.Need-handling-requires
-handling-requires c κs = search needs
-
 returns : tie.Need-returns
 returns c = open-read _ (c .handling .ensures)
 
 pub is-open-spec : {M : Type 1} → statement M
-is-open-spec = tie.close (tie.spec handling-requires returns)
+is-open-spec = tie.close (tie.spec (λ c κs. search needs) returns)

@@ -5,9 +5,6 @@ use borrow.Author.Needs.{needs}
 use Rattle.memory_running.proofs.lowest_mark.Statement.{statement}
 use Rattle.memory_running.proofs.lowest_mark.Tie as tie
 
-add-result : tie.Need-add-result
-add-result c = search needs
-
 returns : tie.Need-returns
 returns c = lowest-at _ 32 1 _ (omega arith) (c .if1 .taken)
 
@@ -15,4 +12,4 @@ returns-2 : tie.Need-returns-2
 returns-2 c = lowest-none _ 32 1 _ (omega arith) (c .if1 .left)
 
 pub lowest-mark-spec : {M : Type 1} → statement M
-lowest-mark-spec = tie.close (tie.spec add-result returns returns-2)
+lowest-mark-spec = tie.close (tie.spec (λ c. search needs) returns returns-2)

@@ -19,27 +19,6 @@ abbrev μ-loop : tie.MeasureT-loop
 loop-holds : tie.Need-loop-holds Inv-loop μ-loop
 loop-holds c = (refl, (let h = c .pre in omega (arith, h)), omega arith)
 
-ready-anchor-requires : tie.Need-ready-anchor-requires Inv-loop μ-loop
-ready-anchor-requires c κs = search needs
-
-first-requires : tie.Need-first-requires Inv-loop μ-loop
-first-requires c κs = search needs
-
-sub-marks : tie.Need-sub-marks Inv-loop μ-loop
-sub-marks c = search needs
-
-shl-marks : tie.Need-shl-marks Inv-loop μ-loop
-shl-marks c = search needs
-
-add-p : tie.Need-add-p Inv-loop μ-loop
-add-p c = search needs
-
-sub-left : tie.Need-sub-left Inv-loop μ-loop
-sub-left c = search needs
-
-loop-less : tie.Need-loop-less Inv-loop μ-loop
-loop-less c = search needs
-
 loop-again : tie.Need-loop-again Inv-loop μ-loop
 loop-again c =
     let f = c .before in
@@ -60,16 +39,6 @@ returns c = marks-none _ _ _ _ (c .loop-test .left) ∙ c .before .loop .inv .0
 pub marks-of-spec : {M : Type 1} → statement M
 marks-of-spec =
     tie.close
-    (tie.spec
-    Inv-loop
-    μ-loop
-    loop-holds
-    ready-anchor-requires
-    first-requires
-    sub-marks
-    shl-marks
-    add-p
-    sub-left
-    loop-less
-    loop-again
-    returns)
+    (tie.spec Inv-loop μ-loop loop-holds (λ c κs. search needs) (λ c κs. search needs)
+    (λ c. search needs) (λ c. search needs) (λ c. search needs) (λ c. search needs)
+    (λ c. search needs) loop-again returns)

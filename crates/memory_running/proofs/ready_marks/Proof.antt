@@ -4,18 +4,9 @@ use borrow.Author.Needs.{needs}
 use Rattle.memory_running.proofs.ready_marks.Statement.{statement}
 use Rattle.memory_running.proofs.ready_marks.Tie as tie
 
-system-requires : tie.Need-system-requires
-system-requires c κs = search needs
-
-at-most-requires : tie.Need-at-most-requires
-at-most-requires c κs = search needs
-
-marks-of-requires : tie.Need-marks-of-requires
-marks-of-requires c κs = search needs
-
 returns : tie.Need-returns
 unfolding readyMarks
 returns c = let a = c .before in rw (← a .before .system .ensures, ← a .at-most .ensures .0) (c .marks-of .ensures)
 
 pub ready-marks-spec : {M : Type 1} → statement M
-ready-marks-spec = tie.close (tie.spec system-requires at-most-requires marks-of-requires returns)
+ready-marks-spec = tie.close (tie.spec (λ c κs. search needs) (λ c κs. search needs) (λ c κs. search needs) returns)

@@ -4,20 +4,11 @@ use borrow.Author.Needs.{needs}
 use Rattle.memory_running.proofs.running_task.Statement.{statement}
 use Rattle.memory_running.proofs.running_task.Tie as tie
 
-is-open-requires : tie.Need-is-open-requires
-is-open-requires c κs = search needs
-
-handling-requires : tie.Need-handling-requires
-handling-requires c κs = search needs
-
 returns : tie.Need-returns
 returns c = running-interrupted _ (c .before .before .is-open .ensures) (c .before .if1 .taken) (c .handling .ensures)
-
-best-task-requires : tie.Need-best-task-requires
-best-task-requires c κs = search needs
 
 returns-2 : tie.Need-returns-2
 returns-2 c = running-best _ (c .before .before .is-open .ensures) (c .before .if1 .left) (c .best-task .ensures)
 
 pub running-task-spec : {M : Type 1} → statement M
-running-task-spec = tie.close (tie.spec is-open-requires handling-requires best-task-requires returns returns-2)
+running-task-spec = tie.close (tie.spec (λ c κs. search needs) (λ c κs. search needs) (λ c κs. search needs) returns returns-2)

@@ -4,15 +4,6 @@ use Rattle.memory_tasks.specs.Moves.{regraded}
 use Rattle.memory_tasks.proofs.regrade.Statement.{statement}
 use Rattle.memory_tasks.proofs.regrade.Tie as tie
 
-status-requires : tie.Need-status-requires
-status-requires c κs = search needs
-
-set-priority-requires : tie.Need-set-priority-requires
-set-priority-requires c κs = search needs
-
-rotate-requires : tie.Need-rotate-requires
-rotate-requires c κs = search needs
-
 returns : tie.Need-returns
 unfolding regraded
 returns c =
@@ -25,4 +16,4 @@ returns-2 c = simp (← c .before .before .before .status .ensures, ne-eqb _ _ (
 
 pub regrade-spec : {M : Type 1} → statement M
 regrade-spec =
-    tie.close (tie.spec status-requires set-priority-requires rotate-requires returns returns-2)
+    tie.close (tie.spec (λ c κs. search needs) (λ c κs. search needs) (λ c κs. search needs) returns returns-2)

@@ -4,29 +4,11 @@ use Rattle.memory_tasks.specs.Moves.{released}
 use Rattle.memory_tasks.proofs.release.Statement.{statement}
 use Rattle.memory_tasks.proofs.release.Tie as tie
 
-status-requires : tie.Need-status-requires
-status-requires c κs = search needs
-
-end-wait-requires : tie.Need-end-wait-requires
-end-wait-requires c κs = search needs
-
-make-ready-requires : tie.Need-make-ready-requires
-make-ready-requires c κs = search needs
-
 returns : tie.Need-returns
 unfolding released
 returns c =
     let i = c .before .before .before .before in
     simp (← i .before .status .ensures, eq-eqb _ _ (i .if1 .taken)) (cc)
-
-end-wait-requires-2 : tie.Need-end-wait-requires-2
-end-wait-requires-2 c κs = search needs
-
-set-status-requires : tie.Need-set-status-requires
-set-status-requires c κs = search needs
-
-leave-requires : tie.Need-leave-requires
-leave-requires c κs = search needs
 
 returns-2 : tie.Need-returns-2
 unfolding released
@@ -41,13 +23,5 @@ returns-3 c = simp (← c .before .before .status .ensures, ne-eqb _ _ (c .befor
 pub release-spec : {M : Type 1} → statement M
 release-spec =
     tie.close
-    (tie.spec
-    status-requires
-    end-wait-requires
-    make-ready-requires
-    returns
-    end-wait-requires-2
-    set-status-requires
-    leave-requires
-    returns-2
-    returns-3)
+    (tie.spec (λ c κs. search needs) (λ c κs. search needs) (λ c κs. search needs) returns
+    (λ c κs. search needs) (λ c κs. search needs) (λ c κs. search needs) returns-2 returns-3)

@@ -4,20 +4,11 @@ use Rattle.memory_tasks.specs.Moves.{resumed}
 use Rattle.memory_tasks.proofs.resume.Statement.{statement}
 use Rattle.memory_tasks.proofs.resume.Tie as tie
 
-status-requires : tie.Need-status-requires
-status-requires c κs = search needs
-
-make-ready-requires : tie.Need-make-ready-requires
-make-ready-requires c κs = search needs
-
 returns : tie.Need-returns
 unfolding resumed
 returns c =
     let i = c .before .before in
     simp (← i .before .status .ensures, eq-eqb _ _ (i .if1 .taken)) (c .make-ready .ensures)
-
-set-status-requires : tie.Need-set-status-requires
-set-status-requires c κs = search needs
 
 returns-2 : tie.Need-returns-2
 unfolding resumed
@@ -32,4 +23,4 @@ returns-3 c = simp (← c .before .before .status .ensures, ne-eqb _ _ (c .befor
 pub resume-spec : {M : Type 1} → statement M
 resume-spec =
     tie.close
-    (tie.spec status-requires make-ready-requires returns set-status-requires returns-2 returns-3)
+    (tie.spec (λ c κs. search needs) (λ c κs. search needs) returns (λ c κs. search needs) returns-2 returns-3)

@@ -4,23 +4,11 @@ use Rattle.memory_tasks.specs.Moves.{halted}
 use Rattle.memory_tasks.proofs.suspend.Statement.{statement}
 use Rattle.memory_tasks.proofs.suspend.Tie as tie
 
-status-requires : tie.Need-status-requires
-status-requires c κs = search needs
-
-set-status-requires : tie.Need-set-status-requires
-set-status-requires c κs = search needs
-
-leave-requires : tie.Need-leave-requires
-leave-requires c κs = search needs
-
 returns : tie.Need-returns
 unfolding halted
 returns c =
     let i = c .before .before .before .before in
     simp (← i .before .status .ensures, eq-eqb _ _ (i .if1 .taken)) (cc)
-
-set-status-requires-2 : tie.Need-set-status-requires-2
-set-status-requires-2 c κs = search needs
 
 returns-2 : tie.Need-returns-2
 unfolding halted
@@ -35,11 +23,5 @@ returns-3 c = simp (← c .before .before .status .ensures, ne-eqb _ _ (c .befor
 pub suspend-spec : {M : Type 1} → statement M
 suspend-spec =
     tie.close
-    (tie.spec
-    status-requires
-    set-status-requires
-    leave-requires
-    returns
-    set-status-requires-2
-    returns-2
-    returns-3)
+    (tie.spec (λ c κs. search needs) (λ c κs. search needs) (λ c κs. search needs) returns
+    (λ c κs. search needs) returns-2 returns-3)

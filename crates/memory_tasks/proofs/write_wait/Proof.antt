@@ -3,24 +3,6 @@ use Rattle.memory_tasks.proofs.Steps.{wait-steps}
 use Rattle.memory_tasks.proofs.write_wait.Statement.{statement}
 use Rattle.memory_tasks.proofs.write_wait.Tie as tie
 
-set-status-requires : tie.Need-set-status-requires
-set-status-requires c κs = search needs
-
-set-kind-requires : tie.Need-set-kind-requires
-set-kind-requires c κs = search needs
-
-set-object-requires : tie.Need-set-object-requires
-set-object-requires c κs = search needs
-
-set-wish-requires : tie.Need-set-wish-requires
-set-wish-requires c κs = search needs
-
-set-mode-requires : tie.Need-set-mode-requires
-set-mode-requires c κs = search needs
-
-set-ticks-requires : tie.Need-set-ticks-requires
-set-ticks-requires c κs = search needs
-
 returns : tie.Need-returns
 returns c =
     let m = c .before .before in
@@ -32,11 +14,5 @@ returns c =
 pub write-wait-spec : {M : Type 1} → statement M
 write-wait-spec =
     tie.close
-    (tie.spec
-    set-status-requires
-    set-kind-requires
-    set-object-requires
-    set-wish-requires
-    set-mode-requires
-    set-ticks-requires
-    returns)
+    (tie.spec (λ c κs. search needs) (λ c κs. search needs) (λ c κs. search needs)
+    (λ c κs. search needs) (λ c κs. search needs) (λ c κs. search needs) returns)

@@ -4,13 +4,10 @@ use borrow.Author.Needs.{needs}
 use Rattle.okrozumba.proofs.okrozumba_call.Statement.{statement}
 use Rattle.okrozumba.proofs.okrozumba_call.Tie as tie
 
-call-requires : tie.Need-call-requires
-call-requires c κs = search needs
-
 returns : tie.Need-returns
 returns c =
     let f = c .before .before .before .fits in
     rw (toZ-ofZ (f .context), toZ-ofZ (f .number), toZ-ofZ (f .a), toZ-ofZ (f .b), toZ-ofZ (f .c)) at (c .call .ensures)
 
 pub okrozumba-call-spec : {M : Type 1} → statement M
-okrozumba-call-spec = tie.close (tie.spec call-requires returns)
+okrozumba-call-spec = tie.close (tie.spec (λ c κs. search needs) returns)

@@ -4,11 +4,8 @@ use borrow.Author.Needs.{needs}
 use Rattle.okrozumba.proofs.okrozumba_cell.Statement.{statement}
 use Rattle.okrozumba.proofs.okrozumba_cell.Tie as tie
 
-cell-requires : tie.Need-cell-requires
-cell-requires c κs = search needs
-
 returns : tie.Need-returns
 returns c = rw (toZ-ofZ (c .before .fits .task)) at (c .cell .ensures)
 
 pub okrozumba-cell-spec : {M : Type 1} → statement M
-okrozumba-cell-spec = tie.close (tie.spec cell-requires returns)
+okrozumba-cell-spec = tie.close (tie.spec (λ c κs. search needs) returns)

@@ -3,14 +3,8 @@ use borrow.Author.Needs.{needs}
 use Rattle.okrozumba.proofs.okrozumba_curve_level.Statement.{statement}
 use Rattle.okrozumba.proofs.okrozumba_curve_level.Tie as tie
 
-level-of-requires : tie.Need-level-of-requires
-level-of-requires c κs = search needs
-
-leveled-told-requires : tie.Need-leveled-told-requires
-leveled-told-requires c κs = search needs
-
 returns : tie.Need-returns
 returns c = rw (c .before .level-of .ensures) at (c .leveled-told .ensures)
 
 pub okrozumba-curve-level-spec : {M : Type 1} → statement M
-okrozumba-curve-level-spec = tie.close (tie.spec level-of-requires leveled-told-requires returns)
+okrozumba-curve-level-spec = tie.close (tie.spec (λ c κs. search needs) (λ c κs. search needs) returns)

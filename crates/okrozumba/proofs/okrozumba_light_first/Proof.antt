@@ -3,14 +3,8 @@ use borrow.Author.Needs.{needs}
 use Rattle.okrozumba.proofs.okrozumba_light_first.Statement.{statement}
 use Rattle.okrozumba.proofs.okrozumba_light_first.Tie as tie
 
-first-light-requires : tie.Need-first-light-requires
-first-light-requires c κs = search needs
-
-shown-told-requires : tie.Need-shown-told-requires
-shown-told-requires c κs = search needs
-
 returns : tie.Need-returns
 returns c = rw (c .before .first-light .ensures) at (c .shown-told .ensures)
 
 pub okrozumba-light-first-spec : {M : Type 1} → statement M
-okrozumba-light-first-spec = tie.close (tie.spec first-light-requires shown-told-requires returns)
+okrozumba-light-first-spec = tie.close (tie.spec (λ c κs. search needs) (λ c κs. search needs) returns)

@@ -4,12 +4,6 @@ use borrow.Author.Needs.{needs}
 use Rattle.okrozumba.proofs.okrozumba_light_receive.Statement.{statement}
 use Rattle.okrozumba.proofs.okrozumba_light_receive.Tie as tie
 
-receive-requires : tie.Need-receive-requires
-receive-requires c κs = search needs
-
-shown-told-requires : tie.Need-shown-told-requires
-shown-told-requires c κs = search needs
-
 returns : tie.Need-returns
 returns c =
     let at-receive = c .before in
@@ -21,4 +15,4 @@ returns c =
     }
 
 pub okrozumba-light-receive-spec : {M : Type 1} → statement M
-okrozumba-light-receive-spec = tie.close (tie.spec receive-requires shown-told-requires returns)
+okrozumba-light-receive-spec = tie.close (tie.spec (λ c κs. search needs) (λ c κs. search needs) returns)

@@ -4,12 +4,6 @@ use borrow.Author.Needs.{needs}
 use Rattle.okrozumba.proofs.okrozumba_light_take.Statement.{statement}
 use Rattle.okrozumba.proofs.okrozumba_light_take.Tie as tie
 
-take-requires : tie.Need-take-requires
-take-requires c κs = search needs
-
-shown-told-requires : tie.Need-shown-told-requires
-shown-told-requires c κs = search needs
-
 returns : tie.Need-returns
 returns c =
     let at-take = c .before in
@@ -17,4 +11,4 @@ returns c =
     rw (rw (toZ-ofZ (start .fits .code)) at (at-take .take .ensures)) at (c .shown-told .ensures)
 
 pub okrozumba-light-take-spec : {M : Type 1} → statement M
-okrozumba-light-take-spec = tie.close (tie.spec take-requires shown-told-requires returns)
+okrozumba-light-take-spec = tie.close (tie.spec (λ c κs. search needs) (λ c κs. search needs) returns)

@@ -15,46 +15,15 @@ abbrev μ-loop : tie.MeasureT-loop
 loop-holds : tie.Need-loop-holds Inv-loop μ-loop
 loop-holds c = omega arith
 
-sub-play-part : tie.Need-sub-play-part Inv-loop μ-loop
-sub-play-part c = search needs
-
-part-play-part-start : tie.Need-part-play-part-start Inv-loop μ-loop
-part-play-part-start c = search needs
-
-part-play-part-end : tie.Need-part-play-part-end Inv-loop μ-loop
-part-play-part-end c = search needs
-
-play-part-requires : tie.Need-play-part-requires Inv-loop μ-loop
-play-part-requires c κs = search needs
-
-returns : tie.Need-returns Inv-loop μ-loop
-returns c = search needs
-
-add-i : tie.Need-add-i Inv-loop μ-loop
-add-i c = search needs
-
 loop-less : tie.Need-loop-less Inv-loop μ-loop
 loop-less c = omega arith
 
 loop-again : tie.Need-loop-again Inv-loop μ-loop
 loop-again c = omega arith
 
-returns-2 : tie.Need-returns-2 Inv-loop μ-loop
-returns-2 c = search needs
-
 pub play-read-spec : {M : Type 1} → statement M
 play-read-spec =
     tie.close
-    (tie.spec
-    Inv-loop
-    μ-loop
-    loop-holds
-    sub-play-part
-    part-play-part-start
-    part-play-part-end
-    play-part-requires
-    returns
-    add-i
-    loop-less
-    loop-again
-    returns-2)
+    (tie.spec Inv-loop μ-loop loop-holds (λ c. search needs) (λ c. search needs) (λ c. search needs)
+    (λ c κs. search needs) (λ c. search needs) (λ c. search needs) loop-less loop-again
+    (λ c. search needs))

@@ -8,24 +8,6 @@ use borrow.Author.Needs.{needs}
 use Rattle.run_compare.proofs.compare_in.Statement.{statement}
 use Rattle.run_compare.proofs.compare_in.Tie as tie
 
-judge-requires : tie.Need-judge-requires
-judge-requires c κs = search needs
-
-enum-known-d : tie.Need-enum-known-d
-enum-known-d c = search needs
-
-show-refusal-requires : tie.Need-show-refusal-requires
-show-refusal-requires c κs = search needs
-
-enum-known-second : tie.Need-enum-known-second
-enum-known-second c = search needs
-
-word-requires : tie.Need-word-requires
-word-requires c κs = search needs
-
-cast-n : tie.Need-cast-n
-cast-n c = search needs
-
 -- what was judged
 facts : (c : tie.After-word) → let A = c .before .before in Lies (A .before .before .before .before .before .args .input .now) (A .second .given .0 .0) (A .second .given .0 .1 .0)
 facts c = let A = c .before .before in as-good _ (A .before .before .judge .ensures) (A .second .given .1)
@@ -46,20 +28,11 @@ run-both-requires c κs =
       omega (arith, n, c .run-both-arg7 .given .0 .1),
     )
 
-show-changes-requires : tie.Need-show-changes-requires
-show-changes-requires c κs = search needs
-
-same-length : tie.Need-same-length
-same-length c = search needs
-
 returns : tie.Need-returns
 returns c =
     let r = c .before .before in
     let d = r .before .before .before in
     rw (refused-text _ (as-refused _ (d .before .before .judge .ensures) (d .d .given .1))) (r .show-refusal .ensures)
-
-same-length-2 : tie.Need-same-length-2
-same-length-2 c = search needs
 
 returns-2 : tie.Need-returns-2
 returns-2 c =
@@ -83,16 +56,6 @@ returns-2 c =
 pub compare-in-spec : {M : Type 1} → statement M
 compare-in-spec =
     tie.close
-    (tie.spec
-    judge-requires
-    enum-known-d
-    show-refusal-requires
-    enum-known-second
-    word-requires
-    cast-n
-    run-both-requires
-    show-changes-requires
-    same-length
-    returns
-    same-length-2
-    returns-2)
+    (tie.spec (λ c κs. search needs) (λ c. search needs) (λ c κs. search needs) (λ c. search needs)
+    (λ c κs. search needs) (λ c. search needs) run-both-requires (λ c κs. search needs)
+    (λ c. search needs) returns (λ c. search needs) returns-2)

@@ -4,45 +4,6 @@ use borrow.Author.Needs.{needs}
 use Rattle.run_compare.proofs.run_both.Statement.{statement}
 use Rattle.run_compare.proofs.run_both.Tie as tie
 
-mul-m : tie.Need-mul-m
-mul-m c = search needs
-
-add-decode : tie.Need-add-decode
-add-decode c = search needs
-
-decode-requires : tie.Need-decode-requires
-decode-requires c κs = search needs
-
-sub-given : tie.Need-sub-given
-sub-given c = search needs
-
-part-given-start : tie.Need-part-given-start
-part-given-start c = search needs
-
-part-given-end : tie.Need-part-given-end
-part-given-end c = search needs
-
-run-requires : tie.Need-run-requires
-run-requires c κs = search needs
-
-run-requires-2 : tie.Need-run-requires-2
-run-requires-2 c κs = search needs
-
-same-length : tie.Need-same-length
-same-length c = search needs
-
-same-length-2 : tie.Need-same-length-2
-same-length-2 c = search needs
-
-same-length-3 : tie.Need-same-length-3
-same-length-3 c = search needs
-
-same-length-4 : tie.Need-same-length-4
-same-length-4 c = search needs
-
-same-length-5 : tie.Need-same-length-5
-same-length-5 c = search needs
-
 returns : tie.Need-returns
 returns c =
     let y = c .before .before .before in
@@ -53,18 +14,7 @@ returns c =
 pub run-both-spec : {M : Type 1} → statement M
 run-both-spec =
     tie.close
-    (tie.spec
-    mul-m
-    add-decode
-    decode-requires
-    sub-given
-    part-given-start
-    part-given-end
-    run-requires
-    run-requires-2
-    same-length
-    same-length-2
-    same-length-3
-    same-length-4
-    same-length-5
-    returns)
+    (tie.spec (λ c. search needs) (λ c. search needs) (λ c κs. search needs) (λ c. search needs)
+    (λ c. search needs) (λ c. search needs) (λ c κs. search needs) (λ c κs. search needs)
+    (λ c. search needs) (λ c. search needs) (λ c. search needs) (λ c. search needs)
+    (λ c. search needs) returns)

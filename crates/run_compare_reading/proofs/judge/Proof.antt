@@ -5,21 +5,9 @@ use Rattle.run_compare_reading.proofs.judge.Statement.{statement}
 use Rattle.run_compare_reading.proofs.judge.Tie as tie
 
 -- src/lib.rt:108:11
-judge-requires : tie.Need-judge-requires
-judge-requires c κs = search needs
-
 -- src/lib.rt:109:21
-enum-known-d : tie.Need-enum-known-d
-enum-known-d c = search needs
-
 -- src/lib.rt:110:22
-enum-known-second : tie.Need-enum-known-second
-enum-known-second c = search needs
-
 -- src/lib.rt:110:33
-judge-rest-requires : tie.Need-judge-rest-requires
-judge-rest-requires c κs = search needs
-
 -- src/lib.rt:105:1
 returns : tie.Need-returns
 returns c = first-refused _ (c .before .before .before .judge .ensures) _ _ (c .before .d .given .1)
@@ -34,4 +22,4 @@ returns-2 c =
 pub judge-spec : {M : Type 1} → statement M
 judge-spec =
     tie.close
-    (tie.spec judge-requires enum-known-d enum-known-second judge-rest-requires returns returns-2)
+    (tie.spec (λ c κs. search needs) (λ c. search needs) (λ c. search needs) (λ c κs. search needs) returns returns-2)

@@ -13,15 +13,6 @@ use borrow.Author.Needs.{needs}
 use Rattle.run_compare_reading.proofs.judge_events.Statement.{statement}
 use Rattle.run_compare_reading.proofs.judge_events.Tie as tie
 
-judge-section-requires : tie.Need-judge-section-requires
-judge-section-requires c κs = search needs
-
-enum-known-d : tie.Need-enum-known-d
-enum-known-d c = search needs
-
-enum-known-end : tie.Need-enum-known-end
-enum-known-end c = search needs
-
 -- the whole goes by what was judged
 ended : (c : tie.After-judge-section) → let a = c .before .before .args in
     judgedOf (at-end (a .bytes .now) (readEvents (a .bytes .now) (a .at))) ≡ onGood (c .judge-section .result) (λ i. cond (leb (length (a .bytes .now)) i) (Good i) (Bad 4 i))
@@ -43,4 +34,4 @@ returns-3 c =
 pub judge-events-spec : {M : Type 1} → statement M
 judge-events-spec =
     tie.close
-    (tie.spec judge-section-requires enum-known-d enum-known-end returns returns-2 returns-3)
+    (tie.spec (λ c κs. search needs) (λ c. search needs) (λ c. search needs) returns returns-2 returns-3)

@@ -5,29 +5,11 @@ use Rattle.run_compare_reading.proofs.judge_rest.Statement.{statement}
 use Rattle.run_compare_reading.proofs.judge_rest.Tie as tie
 
 -- src/lib.rt:95:11
-judge-requires : tie.Need-judge-requires
-judge-requires c κs = search needs
-
 -- src/lib.rt:96:21
-enum-known-d : tie.Need-enum-known-d
-enum-known-d c = search needs
-
 -- src/lib.rt:97:22
-enum-known-events : tie.Need-enum-known-events
-enum-known-events c = search needs
-
 -- src/lib.rt:97:39
-judge-events-requires : tie.Need-judge-events-requires
-judge-events-requires c κs = search needs
-
 -- src/lib.rt:98:25
-enum-known-d-2 : tie.Need-enum-known-d-2
-enum-known-d-2 c = search needs
-
 -- src/lib.rt:99:32
-enum-told : tie.Need-enum-told
-enum-told c = search needs
-
 -- src/lib.rt:92:1
 returns : tie.Need-returns
 returns c = λ u e. second-refused _ u _ e (c .before .before .before .judge .ensures) _ _ (c .before .d .given .1)
@@ -50,13 +32,5 @@ returns-3 c =
 pub judge-rest-spec : {M : Type 1} → statement M
 judge-rest-spec =
     tie.close
-    (tie.spec
-    judge-requires
-    enum-known-d
-    enum-known-events
-    judge-events-requires
-    enum-known-d-2
-    enum-told
-    returns
-    returns-2
-    returns-3)
+    (tie.spec (λ c κs. search needs) (λ c. search needs) (λ c. search needs) (λ c κs. search needs)
+    (λ c. search needs) (λ c. search needs) returns returns-2 returns-3)

@@ -11,30 +11,6 @@ use borrow.Author.Needs.{needs}
 use Rattle.run_compare_reading.proofs.judge_section.Statement.{statement}
 use Rattle.run_compare_reading.proofs.judge_section.Tie as tie
 
-cast-t7 : tie.Need-cast-t7
-cast-t7 c = search needs
-
-judge-word-requires : tie.Need-judge-word-requires
-judge-word-requires c κs = search needs
-
-enum-known-d : tie.Need-enum-known-d
-enum-known-d c = search needs
-
-enum-known-next : tie.Need-enum-known-next
-enum-known-next c = search needs
-
-word-requires : tie.Need-word-requires
-word-requires c κs = search needs
-
-cast-judge-words : tie.Need-cast-judge-words
-cast-judge-words c = search needs
-
-mul-judge-words : tie.Need-mul-judge-words
-mul-judge-words c = search needs
-
-judge-words-requires : tie.Need-judge-words-requires
-judge-words-requires c κs = search needs
-
 -- the words go by what was judged of the count
 counted : (c : tie.After-judge-word) → let a = c .before .before .args in
     judgedOf (readEvents (a .bytes .now) (a .at)) ≡ onGood (c .judge-word .result) (λ j. judgedOf (readEntry (a .bytes .now) (replicate (5 * wordAt (a .bytes .now) (a .at)) anyWord) j))
@@ -51,14 +27,6 @@ returns-2 c =
 pub judge-section-spec : {M : Type 1} → statement M
 judge-section-spec =
     tie.close
-    (tie.spec
-    cast-t7
-    judge-word-requires
-    enum-known-d
-    enum-known-next
-    word-requires
-    cast-judge-words
-    mul-judge-words
-    judge-words-requires
-    returns
+    (tie.spec (λ c. search needs) (λ c κs. search needs) (λ c. search needs) (λ c. search needs)
+    (λ c κs. search needs) (λ c. search needs) (λ c. search needs) (λ c κs. search needs) returns
     returns-2)

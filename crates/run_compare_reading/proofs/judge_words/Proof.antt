@@ -21,12 +21,6 @@ abbrev μ-loop : tie.MeasureT-loop
 loop-holds : tie.Need-loop-holds Inv-loop μ-loop
 loop-holds c = refl
 
-judge-word-requires : tie.Need-judge-word-requires Inv-loop μ-loop
-judge-word-requires c κs = search needs
-
-enum-known-d : tie.Need-enum-known-d Inv-loop μ-loop
-enum-known-d c = search needs
-
 -- the rest goes by what was judged of the next word
 turn : (c : tie.After-judge-word Inv-loop μ-loop) → let loop = c .before .before in let a = loop .before .before .args in
     judgedOf (readEntry (a .bytes .now) (replicate (a .n) anyWord) (a .from))
@@ -35,9 +29,6 @@ turn c = c .before .before .loop .inv ∙ next-word _ _ _ (c .before .loop-test 
 
 returns : tie.Need-returns Inv-loop μ-loop
 returns c = sym (turn (c .before .before .before) ∙ simp (c .before .d .given .1))
-
-enum-known-next : tie.Need-enum-known-next Inv-loop μ-loop
-enum-known-next c = search needs
 
 sub-left : tie.Need-sub-left Inv-loop μ-loop
 sub-left c = omega arith
@@ -54,15 +45,5 @@ returns-2 c = sym (c .before .loop .inv ∙ no-words _ (c .before .loop .left) _
 pub judge-words-spec : {M : Type 1} → statement M
 judge-words-spec =
     tie.close
-    (tie.spec
-    Inv-loop
-    μ-loop
-    loop-holds
-    judge-word-requires
-    enum-known-d
-    returns
-    enum-known-next
-    sub-left
-    loop-less
-    loop-again
-    returns-2)
+    (tie.spec Inv-loop μ-loop loop-holds (λ c κs. search needs) (λ c. search needs) returns
+    (λ c. search needs) sub-left loop-less loop-again returns-2)

@@ -7,28 +7,10 @@ use borrow.Author.Needs.{needs}
 use Rattle.run_compare_text.proofs.answer_line.Statement.{statement}
 use Rattle.run_compare_text.proofs.answer_line.Tie as tie
 
-slice-aggregate-event-line : tie.Need-slice-aggregate-event-line
-slice-aggregate-event-line c = search needs
-
-event-line-requires : tie.Need-event-line-requires
-event-line-requires c κs = search needs
-
-slice-aggregate-all : tie.Need-slice-aggregate-all
-slice-aggregate-all c = search needs
-
 slice-aggregate-lay : tie.Need-slice-aggregate-lay
 slice-aggregate-lay c =
     let L = c .before .before .before .before in
     line-taken _ _ _ (L .event-line .ensures .0) (L .event-line .ensures .1)
-
-lay-requires : tie.Need-lay-requires
-lay-requires c κs = search needs
-
-add-result : tie.Need-add-result
-add-result c = search needs
-
-same-length : tie.Need-same-length
-same-length c = search needs
 
 returns : tie.Need-returns
 returns c =
@@ -43,12 +25,5 @@ returns c =
 pub answer-line-spec : {M : Type 1} → statement M
 answer-line-spec =
     tie.close
-    (tie.spec
-    slice-aggregate-event-line
-    event-line-requires
-    slice-aggregate-all
-    slice-aggregate-lay
-    lay-requires
-    add-result
-    same-length
-    returns)
+    (tie.spec (λ c. search needs) (λ c κs. search needs) (λ c. search needs) slice-aggregate-lay
+    (λ c κs. search needs) (λ c. search needs) (λ c. search needs) returns)

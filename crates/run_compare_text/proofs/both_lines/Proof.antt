@@ -5,15 +5,6 @@ use borrow.Author.Needs.{needs}
 use Rattle.run_compare_text.proofs.both_lines.Statement.{statement}
 use Rattle.run_compare_text.proofs.both_lines.Tie as tie
 
-answer-line-requires : tie.Need-answer-line-requires
-answer-line-requires c κs = search needs
-
-answer-line-requires-2 : tie.Need-answer-line-requires-2
-answer-line-requires-2 c κs = search needs
-
-same-length : tie.Need-same-length
-same-length c = search needs
-
 returns : tie.Need-returns
 returns c =
     let y = c .before .before in
@@ -22,4 +13,4 @@ returns c =
 
 pub both-lines-spec : {M : Type 1} → statement M
 both-lines-spec =
-    tie.close (tie.spec answer-line-requires answer-line-requires-2 same-length returns)
+    tie.close (tie.spec (λ c κs. search needs) (λ c κs. search needs) (λ c. search needs) returns)

@@ -6,28 +6,10 @@ use borrow.Author.Needs.{needs}
 use Rattle.run_compare_text.proofs.end_text.Statement.{statement}
 use Rattle.run_compare_text.proofs.end_text.Tie as tie
 
-slice-aggregate-count-line : tie.Need-slice-aggregate-count-line
-slice-aggregate-count-line c = search needs
-
-count-line-requires : tie.Need-count-line-requires
-count-line-requires c κs = search needs
-
-slice-aggregate-all : tie.Need-slice-aggregate-all
-slice-aggregate-all c = search needs
-
 slice-aggregate-lay : tie.Need-slice-aggregate-lay
 slice-aggregate-lay c =
     let L = c .before .before .before .before in
     line-taken _ _ _ (L .count-line .ensures .0) (L .count-line .ensures .1)
-
-lay-requires : tie.Need-lay-requires
-lay-requires c κs = search needs
-
-add-result : tie.Need-add-result
-add-result c = search needs
-
-same-length : tie.Need-same-length
-same-length c = search needs
 
 returns : tie.Need-returns
 returns c =
@@ -40,12 +22,5 @@ returns c =
 pub end-text-spec : {M : Type 1} → statement M
 end-text-spec =
     tie.close
-    (tie.spec
-    slice-aggregate-count-line
-    count-line-requires
-    slice-aggregate-all
-    slice-aggregate-lay
-    lay-requires
-    add-result
-    same-length
-    returns)
+    (tie.spec (λ c. search needs) (λ c κs. search needs) (λ c. search needs) slice-aggregate-lay
+    (λ c κs. search needs) (λ c. search needs) (λ c. search needs) returns)

@@ -11,9 +11,6 @@ returns c = sym (lent-many _ _ _ (c .if1 .taken))
 returns-2 : tie.Need-returns-2
 returns-2 c = sym (lent-few-codes _ _ _ (c .before .if1 .left) (c .if2 .taken))
 
-mul-if3 : tie.Need-mul-if3
-mul-if3 c = search needs
-
 returns-3 : tie.Need-returns-3
 returns-3 c = let e = c .before in sym (lent-few-words _ _ _ (e .before .if1 .left) (e .if2 .left) (c .if3 .taken))
 
@@ -21,4 +18,4 @@ returns-4 : tie.Need-returns-4
 returns-4 c = let e = c .before in sym (lent-all _ _ _ (e .before .if1 .left) (e .if2 .left) (c .if3 .left))
 
 pub lent-spec : {M : Type 1} → statement M
-lent-spec = tie.close (tie.spec returns returns-2 mul-if3 returns-3 returns-4)
+lent-spec = tie.close (tie.spec returns returns-2 (λ c. search needs) returns-3 returns-4)

@@ -5,18 +5,6 @@ use borrow.Author.Needs.{needs}
 use Rattle.run_compare_text.proofs.list_event.Statement.{statement}
 use Rattle.run_compare_text.proofs.list_event.Tie as tie
 
-is-change-requires : tie.Need-is-change-requires
-is-change-requires c κs = search needs
-
-both-lines-requires : tie.Need-both-lines-requires
-both-lines-requires c κs = search needs
-
-add-t11 : tie.Need-add-t11
-add-t11 c = search needs
-
-same-length : tie.Need-same-length
-same-length c = search needs
-
 returns : tie.Need-returns
 returns c =
     let y = c .before .before .before in
@@ -29,4 +17,4 @@ returns-2 c = event-passed _ _ _ (sym (c .before .is-change .ensures) ∙ c .if1
 pub list-event-spec : {M : Type 1} → statement M
 list-event-spec =
     tie.close
-    (tie.spec is-change-requires both-lines-requires add-t11 same-length returns returns-2)
+    (tie.spec (λ c κs. search needs) (λ c κs. search needs) (λ c. search needs) (λ c. search needs) returns returns-2)

@@ -28,9 +28,6 @@ answer-at-requires-2 c κs =
     let h = l .loop-test .taken in
     (omega (arith, h, p .3), omega (arith, h, p .4), omega (arith, h, p .0))
 
-add-i : tie.Need-add-i Inv-loop μ-loop
-add-i c = search needs
-
 cast-list-event : tie.Need-cast-list-event Inv-loop μ-loop
 cast-list-event c =
     let l = c .before .before .before in
@@ -64,16 +61,5 @@ returns c = listing-all _ _ _ _ _ _ _ (c .loop-test .left) (c .before .loop .inv
 pub list-events-spec : {M : Type 1} → statement M
 list-events-spec =
     tie.close
-    (tie.spec
-    Inv-loop
-    μ-loop
-    loop-holds
-    answer-at-requires
-    answer-at-requires-2
-    add-i
-    cast-list-event
-    list-event-requires
-    loop-less
-    loop-again
-    same-length
-    returns)
+    (tie.spec Inv-loop μ-loop loop-holds answer-at-requires answer-at-requires-2 (λ c. search needs)
+    cast-list-event list-event-requires loop-less loop-again same-length returns)

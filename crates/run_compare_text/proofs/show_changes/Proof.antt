@@ -6,15 +6,6 @@ use borrow.Author.Needs.{needs}
 use Rattle.run_compare_text.proofs.show_changes.Statement.{statement}
 use Rattle.run_compare_text.proofs.show_changes.Tie as tie
 
-lent-requires : tie.Need-lent-requires
-lent-requires c κs = search needs
-
-lent-requires-2 : tie.Need-lent-requires-2
-lent-requires-2 c κs = search needs
-
-slice-aggregate-text-of : tie.Need-slice-aggregate-text-of
-slice-aggregate-text-of c = search needs
-
 -- how many are shown
 lent-of : (c : tie.After-lent2) → let a = c .before .before .before .before .before .args in
     Lent (c .lent2 .result) (a .codes1 .now) (a .answers1 .now) (a .codes2 .now) (a .answers2 .now)
@@ -34,9 +25,6 @@ returns c =
 text-of-requires-2 : tie.Need-text-of-requires-2
 text-of-requires-2 c κs = lent-of (c .before .before .before .before .before) .0
 
-same-length : tie.Need-same-length
-same-length c = search needs
-
 returns-2 : tie.Need-returns-2
 returns-2 c =
     let w = c .before .before in
@@ -46,12 +34,5 @@ returns-2 c =
 pub show-changes-spec : {M : Type 1} → statement M
 show-changes-spec =
     tie.close
-    (tie.spec
-    lent-requires
-    lent-requires-2
-    slice-aggregate-text-of
-    text-of-requires
-    returns
-    text-of-requires-2
-    same-length
-    returns-2)
+    (tie.spec (λ c κs. search needs) (λ c κs. search needs) (λ c. search needs) text-of-requires
+    returns text-of-requires-2 (λ c. search needs) returns-2)

@@ -5,15 +5,6 @@ use borrow.Author.Needs.{needs}
 use Rattle.run_compare_text.proofs.text_of.Statement.{statement}
 use Rattle.run_compare_text.proofs.text_of.Tie as tie
 
-list-events-requires : tie.Need-list-events-requires
-list-events-requires c κs = search needs
-
-end-text-requires : tie.Need-end-text-requires
-end-text-requires c κs = search needs
-
-same-length : tie.Need-same-length
-same-length c = search needs
-
 returns : tie.Need-returns
 returns c =
     let y = c .before .before in
@@ -22,4 +13,4 @@ returns c =
     (text-ended _ _ _ _ _ (L .0) (L .1) (y .end-text .ensures .0), omega (arith, L .2, y .end-text .ensures .1, l .before .before .before .before .before .pre .0))
 
 pub text-of-spec : {M : Type 1} → statement M
-text-of-spec = tie.close (tie.spec list-events-requires end-text-requires same-length returns)
+text-of-spec = tie.close (tie.spec (λ c κs. search needs) (λ c κs. search needs) (λ c. search needs) returns)

@@ -14,9 +14,6 @@ returns-2 : tie.Need-returns-2
 unfolding refusal
 returns-2 c = (simp (le-ltb _ _ (c .before .if1 .left), ne-eqb _ _ (c .if2 .taken)), refl)
 
-all-fit-requires : tie.Need-all-fit-requires
-all-fit-requires c κs = search needs
-
 returns-3 : tie.Need-returns-3
 unfolding refusal
 returns-3 c =
@@ -29,9 +26,6 @@ write-requires c κs =
     let e = c .before in
     (e .before .before .if2 .left, sym (e .before .all-fit .ensures) ∙ not-false _ (e .if3 .left))
 
-same-length : tie.Need-same-length
-same-length c = search needs
-
 returns-4 : tie.Need-returns-4
 unfolding refusal
 returns-4 c =
@@ -43,4 +37,4 @@ returns-4 c =
 pub report-spec : {M : Type 1} → statement M
 report-spec =
     tie.close
-    (tie.spec returns returns-2 all-fit-requires returns-3 write-requires same-length returns-4)
+    (tie.spec returns returns-2 (λ c κs. search needs) returns-3 write-requires (λ c. search needs) returns-4)

@@ -9,18 +9,6 @@ use borrow.Author.Needs.{needs}
 use Rattle.run_reading.proofs.judge_head.Statement.{statement}
 use Rattle.run_reading.proofs.judge_head.Tie as tie
 
-judge-requires : tie.Need-judge-requires
-judge-requires c κs = search needs
-
-enum-known-d : tie.Need-enum-known-d
-enum-known-d c = search needs
-
-enum-known-at : tie.Need-enum-known-at
-enum-known-at c = search needs
-
-judge-word-requires : tie.Need-judge-word-requires
-judge-word-requires c κs = search needs
-
 -- the count goes by what was judged
 judged : (c : tie.After-judge) → let a = c .before .before .args in
     judgedOf (readHead (a .bytes .now)) ≡ onGood (c .judge .result) (λ i. judgedOf (readWord (a .bytes .now) (to 0 mostEvents) S2 i))
@@ -37,4 +25,4 @@ returns-2 c =
 pub judge-head-spec : {M : Type 1} → statement M
 judge-head-spec =
     tie.close
-    (tie.spec judge-requires enum-known-d enum-known-at judge-word-requires returns returns-2)
+    (tie.spec (λ c κs. search needs) (λ c. search needs) (λ c. search needs) (λ c κs. search needs) returns returns-2)

@@ -4,17 +4,8 @@ use borrow.Author.Needs.{needs}
 use Rattle.run_reading.proofs.signed.Statement.{statement}
 use Rattle.run_reading.proofs.signed.Tie as tie
 
-cast-result : tie.Need-cast-result
-cast-result c = search needs
-
 returns : tie.Need-returns
 returns c = low-word _ (c .if1 .taken)
-
-sub-below : tie.Need-sub-below
-sub-below c = search needs
-
-cast-result-2 : tie.Need-cast-result-2
-cast-result-2 c = search needs
 
 sub-result : tie.Need-sub-result
 sub-result c = high-fits _ (c .if1 .left) (c .before .fits .w .fits)
@@ -23,4 +14,4 @@ returns-2 : tie.Need-returns-2
 returns-2 c = high-word _ (c .if1 .left) (c .before .fits .w .fits)
 
 pub signed-spec : {M : Type 1} → statement M
-signed-spec = tie.close (tie.spec cast-result returns sub-below cast-result-2 sub-result returns-2)
+signed-spec = tie.close (tie.spec (λ c. search needs) returns (λ c. search needs) (λ c. search needs) sub-result returns-2)

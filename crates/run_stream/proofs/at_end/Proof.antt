@@ -4,18 +4,6 @@ use borrow.Author.Needs.{needs}
 use Rattle.run_stream.proofs.at_end.Statement.{statement}
 use Rattle.run_stream.proofs.at_end.Tie as tie
 
-element-copy-out-phase : tie.Need-element-copy-out-phase
-element-copy-out-phase c = search needs
-
-head-end-requires : tie.Need-head-end-requires
-head-end-requires c κs = search needs
-
-event-end-requires : tie.Need-event-end-requires
-event-end-requires c κs = search needs
-
-returns : tie.Need-returns
-returns c = search needs
-
 returns-2 : tie.Need-returns-2
 returns-2 c = c .event-end .ensures
 
@@ -25,10 +13,5 @@ returns-3 c = closed-end _ _ (c .match .rest .0 .1) (c .match .rest .1)
 pub at-end-spec : {M : Type 1} → statement M
 at-end-spec =
     tie.close
-    (tie.spec
-    element-copy-out-phase
-    head-end-requires
-    event-end-requires
-    returns
-    returns-2
-    returns-3)
+    (tie.spec (λ c. search needs) (λ c κs. search needs) (λ c κs. search needs) (λ c. search needs)
+    returns-2 returns-3)

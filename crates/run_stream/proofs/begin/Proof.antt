@@ -4,11 +4,8 @@ use borrow.Author.Needs.{needs}
 use Rattle.run_stream.proofs.begin.Statement.{statement}
 use Rattle.run_stream.proofs.begin.Tie as tie
 
-write-requires : tie.Need-write-requires
-write-requires c κs = search needs
-
 returns : tie.Need-returns
 returns c = begun-is _ (c .write .ensures)
 
 pub begin-spec : {M : Type 1} → statement M
-begin-spec = tie.close (tie.spec write-requires returns)
+begin-spec = tie.close (tie.spec (λ c κs. search needs) returns)

@@ -4,11 +4,8 @@ use borrow.Author.Needs.{needs}
 use Rattle.run_stream.proofs.close.Statement.{statement}
 use Rattle.run_stream.proofs.close.Tie as tie
 
-write-requires : tie.Need-write-requires
-write-requires c κs = search needs
-
 returns : tie.Need-returns
 returns c = ended-is _ (c .write .ensures)
 
 pub close-spec : {M : Type 1} → statement M
-close-spec = tie.close (tie.spec write-requires returns)
+close-spec = tie.close (tie.spec (λ c κs. search needs) returns)

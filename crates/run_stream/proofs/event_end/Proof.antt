@@ -7,17 +7,8 @@ use borrow.Author.Needs.{needs}
 use Rattle.run_stream.proofs.event_end.Statement.{statement}
 use Rattle.run_stream.proofs.event_end.Tie as tie
 
-element-copy-out-if1 : tie.Need-element-copy-out-if1
-element-copy-out-if1 c = search needs
-
-element-copy-out-if1-2 : tie.Need-element-copy-out-if1-2
-element-copy-out-if1-2 c = search needs
-
 returns : tie.Need-returns
 returns c = event-end-none _ _ (c .before .before .before .pre) (c .if1 .taken)
-
-held-count-requires : tie.Need-held-count-requires
-held-count-requires c κs = search needs
 
 held : (c : tie.After-held-count) → length (take (c .held-count .result) (c .before .before .before .before .args .held .now)) < 20
 held c = omega (arith, length-take (c .held-count .result) (c .before .before .before .before .args .held .now), c .held-count .ensures .1)
@@ -26,9 +17,6 @@ slice-aggregate-front : tie.Need-slice-aggregate-front
 slice-aggregate-front c =
     let N = c .before .before in
     omega (arith, length-take (N .held-count .result) (N .before .before .before .before .args .held .now), N .held-count .ensures .1, c .before .all .given)
-
-place-requires : tie.Need-place-requires
-place-requires c κs = search needs
 
 mul-t18 : tie.Need-mul-t18
 mul-t18 c = record { fits = omega (arith, held (c .before .before .before)) }
@@ -44,13 +32,5 @@ returns-2 c =
 pub event-end-spec : {M : Type 1} → statement M
 event-end-spec =
     tie.close
-    (tie.spec
-    element-copy-out-if1
-    element-copy-out-if1-2
-    returns
-    held-count-requires
-    slice-aggregate-front
-    place-requires
-    mul-t18
-    add-t19
-    returns-2)
+    (tie.spec (λ c. search needs) (λ c. search needs) returns (λ c κs. search needs)
+    slice-aggregate-front (λ c κs. search needs) mul-t18 add-t19 returns-2)

@@ -8,15 +8,6 @@ use borrow.Author.Needs.{needs}
 use Rattle.run_stream.proofs.head_byte.Statement.{statement}
 use Rattle.run_stream.proofs.head_byte.Tie as tie
 
-held-count-requires : tie.Need-held-count-requires
-held-count-requires c κs = search needs
-
-hold-requires : tie.Need-hold-requires
-hold-requires c κs = search needs
-
-add-front : tie.Need-add-front
-add-front c = search needs
-
 -- the bytes that may be held
 room : (c : tie.After-hold) → headBytes ≤ length (c .hold .last .0)
 room c = omega (arith, c .before .hold-arg .given .0 .1, c .hold .kept .0)
@@ -26,21 +17,6 @@ slice-aggregate-front c =
     let H = c .before .before .before in
     omega (arith, length-take (H .before .before .held-count .result + 1) (H .hold .last .0), room H, H .before .before .held-count .ensures .1)
 
-judge-head-requires : tie.Need-judge-head-requires
-judge-head-requires c κs = search needs
-
-enum-known-d : tie.Need-enum-known-d
-enum-known-d c = search needs
-
-cast-write : tie.Need-cast-write
-cast-write c = search needs
-
-add-write : tie.Need-add-write
-add-write c = search needs
-
-write-requires : tie.Need-write-requires
-write-requires c κs = search needs
-
 returns : tie.Need-returns
 returns c =
     let d = c .before .before .before .before in
@@ -48,12 +24,6 @@ returns c =
     let H = J .before .before .before .before in
     let N = H .before .before in
     takes-with (c .write .ensures) (head-more _ _ _ _ (N .before .before .pre) _ (N .held-count .ensures .0) (room H) (H .hold .ensures) (J .judge-head .ensures) _ _ (d .d .given .1) (c .before .before .if1 .taken))
-
-write-requires-2 : tie.Need-write-requires-2
-write-requires-2 c κs = search needs
-
-enum-known-i : tie.Need-enum-known-i
-enum-known-i c = search needs
 
 -- the count stands behind the setup
 sizes : (c : tie.After-i) → (4 ≤ c .i .given .0 .0) × (c .i .given .0 .0 ≤ headBytes)
@@ -67,14 +37,8 @@ sizes c =
 sub-word : tie.Need-sub-word
 sub-word c = sizes (c .before) .0
 
-word-requires : tie.Need-word-requires
-word-requires c κs = search needs
-
 cast-write-2 : tie.Need-cast-write-2
 cast-write-2 c = record { fits = omega (arith, sizes (c .before .before .before) .1) }
-
-write-requires-3 : tie.Need-write-requires-3
-write-requires-3 c κs = search needs
 
 sub-t27 : tie.Need-sub-t27
 sub-t27 c = sizes (c .before .before .before .before) .0
@@ -98,23 +62,7 @@ returns-3 c =
 pub head-byte-spec : {M : Type 1} → statement M
 head-byte-spec =
     tie.close
-    (tie.spec
-    held-count-requires
-    hold-requires
-    add-front
-    slice-aggregate-front
-    judge-head-requires
-    enum-known-d
-    cast-write
-    add-write
-    write-requires
-    returns
-    write-requires-2
-    enum-known-i
-    sub-word
-    word-requires
-    cast-write-2
-    write-requires-3
-    sub-t27
-    returns-2
-    returns-3)
+    (tie.spec (λ c κs. search needs) (λ c κs. search needs) (λ c. search needs)
+    slice-aggregate-front (λ c κs. search needs) (λ c. search needs) (λ c. search needs)
+    (λ c. search needs) (λ c κs. search needs) returns (λ c κs. search needs) (λ c. search needs)
+    sub-word (λ c κs. search needs) cast-write-2 (λ c κs. search needs) sub-t27 returns-2 returns-3)

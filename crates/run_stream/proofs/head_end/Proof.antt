@@ -6,22 +6,10 @@ use borrow.Author.Needs.{needs}
 use Rattle.run_stream.proofs.head_end.Statement.{statement}
 use Rattle.run_stream.proofs.head_end.Tie as tie
 
-held-count-requires : tie.Need-held-count-requires
-held-count-requires c κs = search needs
-
 slice-aggregate-judge-head : tie.Need-slice-aggregate-judge-head
 slice-aggregate-judge-head c =
     let N = c .before .before in
     omega (arith, length-take (N .held-count .result) (N .before .args .held .now), N .held-count .ensures .1, c .before .all .given)
-
-judge-head-requires : tie.Need-judge-head-requires
-judge-head-requires c κs = search needs
-
-enum-known-d : tie.Need-enum-known-d
-enum-known-d c = search needs
-
-enum-told : tie.Need-enum-told
-enum-told c = search needs
 
 returns : tie.Need-returns
 returns c =
@@ -39,11 +27,5 @@ returns-2 c =
 pub head-end-spec : {M : Type 1} → statement M
 head-end-spec =
     tie.close
-    (tie.spec
-    held-count-requires
-    slice-aggregate-judge-head
-    judge-head-requires
-    enum-known-d
-    enum-told
-    returns
-    returns-2)
+    (tie.spec (λ c κs. search needs) slice-aggregate-judge-head (λ c κs. search needs)
+    (λ c. search needs) (λ c. search needs) returns returns-2)

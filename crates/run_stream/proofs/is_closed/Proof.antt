@@ -5,11 +5,8 @@ use borrow.Author.Needs.{needs}
 use Rattle.run_stream.proofs.is_closed.Statement.{statement}
 use Rattle.run_stream.proofs.is_closed.Tie as tie
 
-element-copy-out-result : tie.Need-element-copy-out-result
-element-copy-out-result c = search needs
-
 returns : tie.Need-returns
 returns c = λ h. closed-tests _ h refl
 
 pub is-closed-spec : {M : Type 1} → statement M
-is-closed-spec = tie.close (tie.spec element-copy-out-result returns)
+is-closed-spec = tie.close (tie.spec (λ c. search needs) returns)

@@ -5,11 +5,8 @@ use borrow.Author.Needs.{needs}
 use Rattle.run_stream.proofs.is_ended.Statement.{statement}
 use Rattle.run_stream.proofs.is_ended.Tie as tie
 
-element-copy-out-result : tie.Need-element-copy-out-result
-element-copy-out-result c = search needs
-
 returns : tie.Need-returns
 returns c = λ h. ended-tests _ h refl
 
 pub is-ended-spec : {M : Type 1} → statement M
-is-ended-spec = tie.close (tie.spec element-copy-out-result returns)
+is-ended-spec = tie.close (tie.spec (λ c. search needs) returns)

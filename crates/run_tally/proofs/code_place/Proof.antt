@@ -22,12 +22,6 @@ abbrev μ-loop : tie.MeasureT-loop
 loop-holds : tie.Need-loop-holds Inv-loop μ-loop
 loop-holds c = (place-start _ _, omega arith)
 
-mul-if1 : tie.Need-mul-if1 Inv-loop μ-loop
-mul-if1 c = search needs
-
-array-copy-out-if1 : tie.Need-array-copy-out-if1 Inv-loop μ-loop
-array-copy-out-if1 c = search needs
-
 -- of equal bits
 found : {x y : ℤ} → SFits w32 x → SFits w32 y → ofZ w32 x ≡ ofZ w32 y → x ≡ y
 found f g e = sym (toZ-ofZ f) ∙ ap (toZ w32) e ∙ toZ-ofZ g
@@ -37,12 +31,6 @@ returns c =
     let L = c .before .before .before in
     let f = L .before .fits .code in
     place-here codes (L .before .args .code) (L .loop .i) (omega (arith, c .before .before .loop-test .taken)) (rw (toZ-ofZ f) at (L .loop .inv .0)) (found (record { sfits = c .before .if12 .given }) f (c .if1 .taken))
-
-add-i : tie.Need-add-i Inv-loop μ-loop
-add-i c = search needs
-
-loop-less : tie.Need-loop-less Inv-loop μ-loop
-loop-less c = search needs
 
 loop-again : tie.Need-loop-again Inv-loop μ-loop
 loop-again c =
@@ -60,14 +48,5 @@ returns-2 c =
 pub code-place-spec : {M : Type 1} → statement M
 code-place-spec =
     tie.close
-    (tie.spec
-    Inv-loop
-    μ-loop
-    loop-holds
-    mul-if1
-    array-copy-out-if1
-    returns
-    add-i
-    loop-less
-    loop-again
-    returns-2)
+    (tie.spec Inv-loop μ-loop loop-holds (λ c. search needs) (λ c. search needs) returns
+    (λ c. search needs) (λ c. search needs) loop-again returns-2)

@@ -6,24 +6,6 @@ use borrow.Author.Needs.{needs}
 use Rattle.run_tally.proofs.codes_counted.Statement.{statement}
 use Rattle.run_tally.proofs.codes_counted.Tie as tie
 
-code-place-requires : tie.Need-code-place-requires
-code-place-requires c κs = search needs
-
-mul-more : tie.Need-mul-more
-mul-more c = search needs
-
-array-read-more : tie.Need-array-read-more
-array-read-more c = search needs
-
-more-requires : tie.Need-more-requires
-more-requires c κs = search needs
-
-mul-c : tie.Need-mul-c
-mul-c c = search needs
-
-array-write-c : tie.Need-array-write-c
-array-write-c c = search needs
-
 returns : tie.Need-returns
 returns c =
     let P = c .before .before in
@@ -39,12 +21,5 @@ returns-2 c =
 pub codes-counted-spec : {M : Type 1} → statement M
 codes-counted-spec =
     tie.close
-    (tie.spec
-    code-place-requires
-    mul-more
-    array-read-more
-    more-requires
-    mul-c
-    array-write-c
-    returns
-    returns-2)
+    (tie.spec (λ c κs. search needs) (λ c. search needs) (λ c. search needs) (λ c κs. search needs)
+    (λ c. search needs) (λ c. search needs) returns returns-2)

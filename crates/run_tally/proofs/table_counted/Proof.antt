@@ -16,53 +16,8 @@ Inv-loop states n m t₀ i₀ t i = (onward i m (λ k. getD states k 0) t ≡ ta
 abbrev μ-loop : tie.MeasureT-loop
 μ-loop states n m t₀ i₀ t i = m - i
 
-rows-requires : tie.Need-rows-requires Inv-loop μ-loop
-rows-requires c κs = search needs
-
 loop-holds : tie.Need-loop-holds Inv-loop μ-loop
 loop-holds c = (onward-start _ _ _, omega arith)
-
-mul-wide : tie.Need-mul-wide Inv-loop μ-loop
-mul-wide c = search needs
-
-element-copy-out-wide : tie.Need-element-copy-out-wide Inv-loop μ-loop
-element-copy-out-wide c = search needs
-
-wide-requires : tie.Need-wide-requires Inv-loop μ-loop
-wide-requires c κs = search needs
-
-mul-more : tie.Need-mul-more Inv-loop μ-loop
-mul-more c = search needs
-
-mul-more-2 : tie.Need-mul-more-2 Inv-loop μ-loop
-mul-more-2 c = search needs
-
-index-1-more : tie.Need-index-1-more Inv-loop μ-loop
-index-1-more c = search needs
-
-index-2-more : tie.Need-index-2-more Inv-loop μ-loop
-index-2-more c = search needs
-
-more-requires : tie.Need-more-requires Inv-loop μ-loop
-more-requires c κs = search needs
-
-mul-t : tie.Need-mul-t Inv-loop μ-loop
-mul-t c = search needs
-
-mul-t-2 : tie.Need-mul-t-2 Inv-loop μ-loop
-mul-t-2 c = search needs
-
-index-1-t : tie.Need-index-1-t Inv-loop μ-loop
-index-1-t c = search needs
-
-index-2-t : tie.Need-index-2-t Inv-loop μ-loop
-index-2-t c = search needs
-
-add-i : tie.Need-add-i Inv-loop μ-loop
-add-i c = search needs
-
-loop-less : tie.Need-loop-less Inv-loop μ-loop
-loop-less c = search needs
 
 loop-again : tie.Need-loop-again Inv-loop μ-loop
 loop-again c =
@@ -82,24 +37,8 @@ returns c =
 pub table-counted-spec : {M : Type 1} → statement M
 table-counted-spec =
     tie.close
-    (tie.spec
-    Inv-loop
-    μ-loop
-    rows-requires
-    loop-holds
-    mul-wide
-    element-copy-out-wide
-    wide-requires
-    mul-more
-    mul-more-2
-    index-1-more
-    index-2-more
-    more-requires
-    mul-t
-    mul-t-2
-    index-1-t
-    index-2-t
-    add-i
-    loop-less
-    loop-again
-    returns)
+    (tie.spec Inv-loop μ-loop (λ c κs. search needs) loop-holds (λ c. search needs)
+    (λ c. search needs) (λ c κs. search needs) (λ c. search needs) (λ c. search needs)
+    (λ c. search needs) (λ c. search needs) (λ c κs. search needs) (λ c. search needs)
+    (λ c. search needs) (λ c. search needs) (λ c. search needs) (λ c. search needs)
+    (λ c. search needs) loop-again returns)

@@ -7,17 +7,11 @@ use borrow.Author.Needs.{needs}
 use Rattle.run_text.proofs.count_line.Statement.{statement}
 use Rattle.run_text.proofs.count_line.Tie as tie
 
-number-requires : tie.Need-number-requires
-number-requires c κs = search needs
-
 after-number : (c : tie.After-number) → c .number .result ≤ 10
 after-number c = let h = c .before .before .before .fits .n .fits in number-short 9 (omega (arith, h)) (c .number .ensures)
 
 end-line-requires : tie.Need-end-line-requires
 end-line-requires c κs = omega (arith, after-number (c .before .before .before))
-
-same-length : tie.Need-same-length
-same-length c = search needs
 
 returns : tie.Need-returns
 unfolding countLine fields
@@ -27,4 +21,4 @@ returns c =
     (wrote-then (n .number .ensures) (e .end-line .ensures), omega (arith, after-number n, e .end-line .ensures .next))
 
 pub count-line-spec : {M : Type 1} → statement M
-count-line-spec = tie.close (tie.spec number-requires end-line-requires same-length returns)
+count-line-spec = tie.close (tie.spec (λ c κs. search needs) end-line-requires (λ c. search needs) returns)

@@ -8,9 +8,6 @@ use borrow.Author.Needs.{needs}
 use Rattle.run_text.proofs.event_line.Statement.{statement}
 use Rattle.run_text.proofs.event_line.Tie as tie
 
-number-requires : tie.Need-number-requires
-number-requires c κs = search needs
-
 -- where it stands after each part, at most
 after-number : (c : tie.After-number) → c .number .result ≤ 10
 after-number c = let h = c .before .before .before .fits .i .fits in number-short 9 (omega (arith, h)) (c .number .ensures)
@@ -48,9 +45,6 @@ field-requires-4 c κs = omega (arith, after-runs (c .before .before .before))
 end-line-requires : tie.Need-end-line-requires
 end-line-requires c κs = omega (arith, after-released (c .before .before .before))
 
-same-length : tie.Need-same-length
-same-length c = search needs
-
 returns : tie.Need-returns
 unfolding fields signed eventLine
 returns c =
@@ -67,13 +61,5 @@ returns c =
 pub event-line-spec : {M : Type 1} → statement M
 event-line-spec =
     tie.close
-    (tie.spec
-    number-requires
-    code-field-requires
-    field-requires
-    field-requires-2
-    field-requires-3
-    field-requires-4
-    end-line-requires
-    same-length
-    returns)
+    (tie.spec (λ c κs. search needs) code-field-requires field-requires field-requires-2
+    field-requires-3 field-requires-4 end-line-requires (λ c. search needs) returns)

@@ -7,15 +7,6 @@ use borrow.Author.Needs.{needs}
 use Rattle.run_text.proofs.refusal_line.Statement.{statement}
 use Rattle.run_text.proofs.refusal_line.Tie as tie
 
-slice-aggregate-letters : tie.Need-slice-aggregate-letters
-slice-aggregate-letters c = search needs
-
-letters-requires : tie.Need-letters-requires
-letters-requires c κs = search needs
-
-field-requires : tie.Need-field-requires
-field-requires c κs = search needs
-
 -- where it stands after each part, at most
 after-fault : (c : tie.After-field) → c .field .result ≤ 18
 after-fault c =
@@ -34,9 +25,6 @@ field-requires-2 c κs = omega (arith, after-fault (c .before .before .before))
 end-line-requires : tie.Need-end-line-requires
 end-line-requires c κs = omega (arith, after-place (c .before .before .before))
 
-same-length : tie.Need-same-length
-same-length c = search needs
-
 returns : tie.Need-returns
 unfolding refusal fields signed
 returns c =
@@ -49,11 +37,5 @@ returns c =
 pub refusal-line-spec : {M : Type 1} → statement M
 refusal-line-spec =
     tie.close
-    (tie.spec
-    slice-aggregate-letters
-    letters-requires
-    field-requires
-    field-requires-2
-    end-line-requires
-    same-length
-    returns)
+    (tie.spec (λ c. search needs) (λ c κs. search needs) (λ c κs. search needs) field-requires-2
+    end-line-requires (λ c. search needs) returns)

@@ -7,15 +7,6 @@ use borrow.Author.Needs.{needs}
 use Rattle.run_text.proofs.start_line.Statement.{statement}
 use Rattle.run_text.proofs.start_line.Tie as tie
 
-slice-aggregate-letters : tie.Need-slice-aggregate-letters
-slice-aggregate-letters c = search needs
-
-letters-requires : tie.Need-letters-requires
-letters-requires c κs = search needs
-
-field-requires : tie.Need-field-requires
-field-requires c κs = search needs
-
 -- where it stands then, at most
 after-runs : (c : tie.After-field) → c .field .result ≤ 16
 after-runs c =
@@ -25,9 +16,6 @@ after-runs c =
 
 end-line-requires : tie.Need-end-line-requires
 end-line-requires c κs = omega (arith, after-runs (c .before .before .before))
-
-same-length : tie.Need-same-length
-same-length c = search needs
 
 returns : tie.Need-returns
 unfolding startLine fields signed
@@ -40,10 +28,5 @@ returns c =
 pub start-line-spec : {M : Type 1} → statement M
 start-line-spec =
     tie.close
-    (tie.spec
-    slice-aggregate-letters
-    letters-requires
-    field-requires
-    end-line-requires
-    same-length
-    returns)
+    (tie.spec (λ c. search needs) (λ c κs. search needs) (λ c κs. search needs) end-line-requires
+    (λ c. search needs) returns)

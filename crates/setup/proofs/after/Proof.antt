@@ -4,15 +4,6 @@ use borrow.Author.Needs.{needs}
 use Rattle.setup.proofs.after.Statement.{statement}
 use Rattle.setup.proofs.after.Tie as tie
 
-enum-known-earlier : tie.Need-enum-known-earlier
-enum-known-earlier c = search needs
-
-enum-known-earlier-2 : tie.Need-enum-known-earlier-2
-enum-known-earlier-2 c = search needs
-
-judge-section-requires : tie.Need-judge-section-requires
-judge-section-requires c κs = search needs
-
 returns : tie.Need-returns
 returns c = rw (c .before .earlier .given .1)
 
@@ -22,4 +13,4 @@ returns-2 c = c .judge-section .ensures ∙ rw (c .before .before .earlier2 .giv
 pub after-spec : {M : Type 1} → statement M
 after-spec =
     tie.close
-    (tie.spec enum-known-earlier enum-known-earlier-2 judge-section-requires returns returns-2)
+    (tie.spec (λ c. search needs) (λ c. search needs) (λ c κs. search needs) returns returns-2)

@@ -10,17 +10,8 @@ use Rattle.setup.proofs.byte.Tie as tie
 returns : tie.Need-returns
 returns c = (sym (List·getD-eq-default (c .before .args .bytes .now) 0 (omega arith)), search needs)
 
-sub-if2 : tie.Need-sub-if2
-sub-if2 c = search needs
-
 returns-2 : tie.Need-returns-2
 returns-2 c = (sym (List·getD-eq-default (c .before .before .args .bytes .now) 0 (omega arith)), search needs)
-
-add-result : tie.Need-add-result
-add-result c = search needs
-
-shared-slice-read-result : tie.Need-shared-slice-read-result
-shared-slice-read-result c = search needs
 
 below : (c : tie.After-shared-slice-known) → let a = c .before .before .before .args in getD (a .bytes .now) (a .at + a .k) 0 < 256
 below c = let a = c .before .before .before .args in omega (arith, c .shared-slice-known .given (a .at + a .k))
@@ -34,4 +25,4 @@ returns-3 c = (refl, omega (arith, below c))
 pub byte-spec : {M : Type 1} → statement M
 byte-spec =
     tie.close
-    (tie.spec returns sub-if2 returns-2 add-result shared-slice-read-result cast-result returns-3)
+    (tie.spec returns (λ c. search needs) returns-2 (λ c. search needs) (λ c. search needs) cast-result returns-3)

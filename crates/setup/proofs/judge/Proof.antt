@@ -8,21 +8,6 @@ use borrow.Author.Needs.{needs}
 use Rattle.setup.proofs.judge.Statement.{statement}
 use Rattle.setup.proofs.judge.Tie as tie
 
-judge-seven-requires : tie.Need-judge-seven-requires
-judge-seven-requires c κs = search needs
-
-enum-known-d : tie.Need-enum-known-d
-enum-known-d c = search needs
-
-enum-known-next : tie.Need-enum-known-next
-enum-known-next c = search needs
-
-task-count-requires : tie.Need-task-count-requires
-task-count-requires c κs = search needs
-
-judge-counters-requires : tie.Need-judge-counters-requires
-judge-counters-requires c κs = search needs
-
 behind : (c : tie.After-judge-seven) → let a = c .before .before .args in
     judgedOf (readSetup (a .bytes .now) (a .at)) ≡ onGood (c .judge-seven .result) (λ k. judgedOf (readSection (a .bytes .now) (counters (wordAt (a .bytes .now) (onward (a .bytes .now) (a .at) 4))) k))
 unfolding readSetup
@@ -39,11 +24,5 @@ returns-2 c =
 pub judge-spec : {M : Type 1} → statement M
 judge-spec =
     tie.close
-    (tie.spec
-    judge-seven-requires
-    enum-known-d
-    enum-known-next
-    task-count-requires
-    judge-counters-requires
-    returns
-    returns-2)
+    (tie.spec (λ c κs. search needs) (λ c. search needs) (λ c. search needs) (λ c κs. search needs)
+    (λ c κs. search needs) returns returns-2)

@@ -9,15 +9,6 @@ use borrow.Author.Needs.{needs}
 use Rattle.setup.proofs.judge_alone.Statement.{statement}
 use Rattle.setup.proofs.judge_alone.Tie as tie
 
-judge-seven-requires : tie.Need-judge-seven-requires
-judge-seven-requires c κs = search needs
-
-enum-known-d : tie.Need-enum-known-d
-enum-known-d c = search needs
-
-enum-known-next : tie.Need-enum-known-next
-enum-known-next c = search needs
-
 behind : (c : tie.After-judge-seven) → let s = c .before .before .args .bytes .now in
     judgedOf (readWith perhaps s 0) ≡ onGood (c .judge-seven .result) (λ k. judgedOf (perhaps s (counters (wordAt s (onward s 0 4))) k))
 behind c = eight-judged _ perhaps _ ∙ simp (c .judge-seven .ensures)
@@ -27,12 +18,6 @@ unfolding perhaps
 returns c =
     let next = c .before .before in
     sym (behind (next .before .before) ∙ simp (next .next .given .1, le-leb _ _ (c .if1 .taken)))
-
-task-count-requires : tie.Need-task-count-requires
-task-count-requires c κs = search needs
-
-judge-counters-requires : tie.Need-judge-counters-requires
-judge-counters-requires c κs = search needs
 
 returns-2 : tie.Need-returns-2
 returns-2 c = sym (behind (c .before .before .before) ∙ simp (c .before .d .given .1))
@@ -47,12 +32,5 @@ returns-3 c =
 pub judge-alone-spec : {M : Type 1} → statement M
 judge-alone-spec =
     tie.close
-    (tie.spec
-    judge-seven-requires
-    enum-known-d
-    enum-known-next
-    returns
-    task-count-requires
-    judge-counters-requires
-    returns-2
-    returns-3)
+    (tie.spec (λ c κs. search needs) (λ c. search needs) (λ c. search needs) returns
+    (λ c κs. search needs) (λ c κs. search needs) returns-2 returns-3)

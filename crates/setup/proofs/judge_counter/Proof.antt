@@ -8,21 +8,6 @@ use borrow.Author.Needs.{needs}
 use Rattle.setup.proofs.judge_counter.Statement.{statement}
 use Rattle.setup.proofs.judge_counter.Tie as tie
 
-judge-word-requires : tie.Need-judge-word-requires
-judge-word-requires c κs = search needs
-
-enum-known-d : tie.Need-enum-known-d
-enum-known-d c = search needs
-
-enum-known-next : tie.Need-enum-known-next
-enum-known-next c = search needs
-
-two-words-requires : tie.Need-two-words-requires
-two-words-requires c κs = search needs
-
-judge-entries-requires : tie.Need-judge-entries-requires
-judge-entries-requires c κs = search needs
-
 -- the alarms go by what was judged of m
 sized : (c : tie.After-judge-word) → let a = c .before .before .args in
     judgedOf (readEntry (a .bytes .now) (counters (a .tasks) .entry) (a .at))
@@ -40,11 +25,5 @@ returns-2 c =
 pub judge-counter-spec : {M : Type 1} → statement M
 judge-counter-spec =
     tie.close
-    (tie.spec
-    judge-word-requires
-    enum-known-d
-    enum-known-next
-    two-words-requires
-    judge-entries-requires
-    returns
-    returns-2)
+    (tie.spec (λ c κs. search needs) (λ c. search needs) (λ c. search needs) (λ c κs. search needs)
+    (λ c κs. search needs) returns returns-2)

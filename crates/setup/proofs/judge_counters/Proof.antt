@@ -11,18 +11,6 @@ use borrow.Author.Needs.{needs}
 use Rattle.setup.proofs.judge_counters.Statement.{statement}
 use Rattle.setup.proofs.judge_counters.Tie as tie
 
-judge-word-requires : tie.Need-judge-word-requires
-judge-word-requires c κs = search needs
-
-enum-known-d : tie.Need-enum-known-d
-enum-known-d c = search needs
-
-enum-known-next : tie.Need-enum-known-next
-enum-known-next c = search needs
-
-word-requires : tie.Need-word-requires
-word-requires c κs = search needs
-
 -- the entry goes by what was judged of the count
 counted : (c : tie.After-judge-word) → let a = c .before .before .args in
     judgedOf (readSection (a .bytes .now) (counters (a .tasks)) (a .at))
@@ -33,9 +21,6 @@ returns : tie.Need-returns
 returns c =
     let next = c .before .before .before in
     sym (counted (next .before .before) ∙ simp (next .next .given .1, ← c .before .word .ensures, eq-eqb _ _ (c .if1 .taken)))
-
-judge-counter-requires : tie.Need-judge-counter-requires
-judge-counter-requires c κs = search needs
 
 returns-2 : tie.Need-returns-2
 returns-2 c = sym (counted (c .before .before .before) ∙ simp (c .before .d .given .1))
@@ -49,12 +34,5 @@ returns-3 c =
 pub judge-counters-spec : {M : Type 1} → statement M
 judge-counters-spec =
     tie.close
-    (tie.spec
-    judge-word-requires
-    enum-known-d
-    enum-known-next
-    word-requires
-    returns
-    judge-counter-requires
-    returns-2
-    returns-3)
+    (tie.spec (λ c κs. search needs) (λ c. search needs) (λ c. search needs) (λ c κs. search needs)
+    returns (λ c κs. search needs) returns-2 returns-3)

@@ -18,12 +18,6 @@ abbrev μ-loop : tie.MeasureT-loop
 loop-holds : tie.Need-loop-holds Inv-loop μ-loop
 loop-holds c = refl
 
-judge-entry-requires : tie.Need-judge-entry-requires Inv-loop μ-loop
-judge-entry-requires c κs = search needs
-
-enum-known-d : tie.Need-enum-known-d Inv-loop μ-loop
-enum-known-d c = search needs
-
 -- the rest goes by what was judged of the next entry
 turn : (c : tie.After-judge-entry Inv-loop μ-loop) → let loop = c .before .before in let a = loop .before .before .args in
     judgedOf (readEntries (a .bytes .now) (rangesOf (a .e)) (a .n) (a .from))
@@ -32,9 +26,6 @@ turn c = c .before .before .loop .inv ∙ entries-judged _ _ _ _ (c .before .loo
 
 returns : tie.Need-returns Inv-loop μ-loop
 returns c = sym (turn (c .before .before .before) ∙ simp (c .before .d .given .1))
-
-enum-known-next : tie.Need-enum-known-next Inv-loop μ-loop
-enum-known-next c = search needs
 
 sub-left : tie.Need-sub-left Inv-loop μ-loop
 sub-left c = omega arith
@@ -51,15 +42,5 @@ returns-2 c = sym (c .before .loop .inv ∙ no-entries-judged _ _ _ _ (omega ari
 pub judge-entries-spec : {M : Type 1} → statement M
 judge-entries-spec =
     tie.close
-    (tie.spec
-    Inv-loop
-    μ-loop
-    loop-holds
-    judge-entry-requires
-    enum-known-d
-    returns
-    enum-known-next
-    sub-left
-    loop-less
-    loop-again
-    returns-2)
+    (tie.spec Inv-loop μ-loop loop-holds (λ c κs. search needs) (λ c. search needs) returns
+    (λ c. search needs) sub-left loop-less loop-again returns-2)

@@ -12,9 +12,6 @@ use Rattle.setup.proofs.judge_entry.Tie as tie
 returns : tie.Need-returns
 returns c = rw (c .if1 .taken) (sym (nothing-judged _ _))
 
-judge-word-requires : tie.Need-judge-word-requires
-judge-word-requires c κs = search needs
-
 returns-2 : tie.Need-returns-2
 returns-2 c = rw (c .if2 .taken) (word-told _ _ S3 _ (c .before .before .judge-word .ensures) ∙ sym (word-judged _ _ _))
 
@@ -31,15 +28,6 @@ both c =
     let first = c .before .before in
     rw (two _ _ _ (first .before .if1 .left) (c .if2 .left)) (pair-judged _ _ _ _ ∙ simp (word-told _ _ S3 _ (first .judge-word .ensures)))
 
-enum-known-first : tie.Need-enum-known-first
-enum-known-first c = search needs
-
-enum-known-first-2 : tie.Need-enum-known-first-2
-enum-known-first-2 c = search needs
-
-judge-word-requires-2 : tie.Need-judge-word-requires-2
-judge-word-requires-2 c κs = search needs
-
 returns-3 : tie.Need-returns-3
 returns-3 c = sym (both (c .before .before .before) ∙ simp (c .before .first .given .1))
 
@@ -49,12 +37,5 @@ returns-4 c = word-told _ _ S3 _ (c .judge-word2 .ensures) ∙ sym (both (c .bef
 pub judge-entry-spec : {M : Type 1} → statement M
 judge-entry-spec =
     tie.close
-    (tie.spec
-    returns
-    judge-word-requires
-    returns-2
-    enum-known-first
-    enum-known-first-2
-    judge-word-requires-2
-    returns-3
-    returns-4)
+    (tie.spec returns (λ c κs. search needs) returns-2 (λ c. search needs) (λ c. search needs)
+    (λ c κs. search needs) returns-3 returns-4)

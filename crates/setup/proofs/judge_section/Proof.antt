@@ -7,21 +7,6 @@ use borrow.Author.Needs.{needs}
 use Rattle.setup.proofs.judge_section.Statement.{statement}
 use Rattle.setup.proofs.judge_section.Tie as tie
 
-judge-word-requires : tie.Need-judge-word-requires
-judge-word-requires c κs = search needs
-
-enum-known-d : tie.Need-enum-known-d
-enum-known-d c = search needs
-
-enum-known-next : tie.Need-enum-known-next
-enum-known-next c = search needs
-
-word-requires : tie.Need-word-requires
-word-requires c κs = search needs
-
-judge-entries-requires : tie.Need-judge-entries-requires
-judge-entries-requires c κs = search needs
-
 -- the entries go by what was judged of the count
 counted : (c : tie.After-judge-word) → let a = c .before .before .args in
     judgedOf (readSection (a .bytes .now) (section (to (a .least) (a .most)) (rangesOf (a .e))) (a .at))
@@ -39,11 +24,5 @@ returns-2 c =
 pub judge-section-spec : {M : Type 1} → statement M
 judge-section-spec =
     tie.close
-    (tie.spec
-    judge-word-requires
-    enum-known-d
-    enum-known-next
-    word-requires
-    judge-entries-requires
-    returns
-    returns-2)
+    (tie.spec (λ c κs. search needs) (λ c. search needs) (λ c. search needs) (λ c κs. search needs)
+    (λ c κs. search needs) returns returns-2)

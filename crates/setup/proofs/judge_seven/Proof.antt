@@ -4,51 +4,6 @@ use borrow.Author.Needs.{needs}
 use Rattle.setup.proofs.judge_seven.Statement.{statement}
 use Rattle.setup.proofs.judge_seven.Tie as tie
 
-no-words-requires : tie.Need-no-words-requires
-no-words-requires c κs = search needs
-
-judge-section-requires : tie.Need-judge-section-requires
-judge-section-requires c κs = search needs
-
-word-requires : tie.Need-word-requires
-word-requires c κs = search needs
-
-two-words-requires : tie.Need-two-words-requires
-two-words-requires c κs = search needs
-
-after-requires : tie.Need-after-requires
-after-requires c κs = search needs
-
-one-word-requires : tie.Need-one-word-requires
-one-word-requires c κs = search needs
-
-after-requires-2 : tie.Need-after-requires-2
-after-requires-2 c κs = search needs
-
-one-word-requires-2 : tie.Need-one-word-requires-2
-one-word-requires-2 c κs = search needs
-
-after-requires-3 : tie.Need-after-requires-3
-after-requires-3 c κs = search needs
-
-no-words-requires-2 : tie.Need-no-words-requires-2
-no-words-requires-2 c κs = search needs
-
-after-requires-4 : tie.Need-after-requires-4
-after-requires-4 c κs = search needs
-
-no-words-requires-3 : tie.Need-no-words-requires-3
-no-words-requires-3 c κs = search needs
-
-after-requires-5 : tie.Need-after-requires-5
-after-requires-5 c κs = search needs
-
-one-word-requires-3 : tie.Need-one-word-requires-3
-one-word-requires-3 c κs = search needs
-
-after-requires-6 : tie.Need-after-requires-6
-after-requires-6 c κs = search needs
-
 returns : tie.Need-returns
 returns c =
     let messages = c .before .before in
@@ -79,20 +34,8 @@ returns c =
 pub judge-seven-spec : {M : Type 1} → statement M
 judge-seven-spec =
     tie.close
-    (tie.spec
-    no-words-requires
-    judge-section-requires
-    word-requires
-    two-words-requires
-    after-requires
-    one-word-requires
-    after-requires-2
-    one-word-requires-2
-    after-requires-3
-    no-words-requires-2
-    after-requires-4
-    no-words-requires-3
-    after-requires-5
-    one-word-requires-3
-    after-requires-6
+    (tie.spec (λ c κs. search needs) (λ c κs. search needs) (λ c κs. search needs)
+    (λ c κs. search needs) (λ c κs. search needs) (λ c κs. search needs) (λ c κs. search needs)
+    (λ c κs. search needs) (λ c κs. search needs) (λ c κs. search needs) (λ c κs. search needs)
+    (λ c κs. search needs) (λ c κs. search needs) (λ c κs. search needs) (λ c κs. search needs)
     returns)

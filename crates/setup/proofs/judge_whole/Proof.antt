@@ -12,15 +12,6 @@ use borrow.Author.Needs.{needs}
 use Rattle.setup.proofs.judge_whole.Statement.{statement}
 use Rattle.setup.proofs.judge_whole.Tie as tie
 
-judge-alone-requires : tie.Need-judge-alone-requires
-judge-alone-requires c κs = search needs
-
-enum-known-judged : tie.Need-enum-known-judged
-enum-known-judged c = search needs
-
-enum-known-judged-2 : tie.Need-enum-known-judged-2
-enum-known-judged-2 c = search needs
-
 -- the whole goes by what was judged
 ended : (c : tie.After-judge-alone) → let s = c .before .before .args .bytes .now in
     judgedOf (setup s) ≡ onGood (c .judge-alone .result) (λ i. cond (leb (length s) i) (Good i) (Bad 4 i))
@@ -42,4 +33,4 @@ returns-3 c =
 pub judge-whole-spec : {M : Type 1} → statement M
 judge-whole-spec =
     tie.close
-    (tie.spec judge-alone-requires enum-known-judged enum-known-judged-2 returns returns-2 returns-3)
+    (tie.spec (λ c κs. search needs) (λ c. search needs) (λ c. search needs) returns returns-2 returns-3)

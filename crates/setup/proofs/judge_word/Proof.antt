@@ -11,9 +11,6 @@ use borrow.Author.Needs.{needs}
 use Rattle.setup.proofs.judge_word.Statement.{statement}
 use Rattle.setup.proofs.judge_word.Tie as tie
 
-has-word-requires : tie.Need-has-word-requires
-has-word-requires c κs = search needs
-
 -- whether the word is whole
 held : (c : tie.Else1) → let a = c .before .before .before .args in leb (a .at + 4) (length (a .bytes .now)) ≡ true
 held c = sym (c .before .has-word .ensures) ∙ not-false (c .before .has-word .result) (c .if1 .left)
@@ -21,9 +18,6 @@ held c = sym (c .before .has-word .ensures) ∙ not-false (c .before .has-word .
 returns : tie.Need-returns
 unfolding readWord
 returns c = simp (← c .before .has-word .ensures, not-true (c .before .has-word .result) (c .if1 .taken))
-
-word-requires : tie.Need-word-requires
-word-requires c κs = search needs
 
 returns-2 : tie.Need-returns-2
 unfolding readWord
@@ -54,4 +48,4 @@ returns-4 c =
 pub judge-word-spec : {M : Type 1} → statement M
 judge-word-spec =
     tie.close
-    (tie.spec has-word-requires returns word-requires returns-2 returns-3 add-next returns-4)
+    (tie.spec (λ c κs. search needs) returns (λ c κs. search needs) returns-2 returns-3 add-next returns-4)

@@ -8,22 +8,10 @@ use borrow.Author.Needs.{needs}
 use Rattle.setup.proofs.part_at.Statement.{statement}
 use Rattle.setup.proofs.part_at.Tie as tie
 
-count-at-requires : tie.Need-count-at-requires
-count-at-requires c κs = search needs
-
-onward-requires : tie.Need-onward-requires
-onward-requires c κs = search needs
-
-cast-onward : tie.Need-cast-onward
-cast-onward c = search needs
-
 mul-onward : tie.Need-mul-onward
 mul-onward c =
     let few : c .before .count-at .result ≤ 4294967295 = omega arith in
     record { fits = lt-of-le-of-lt (mul-le-mul (c .before .before .before .pre) few) (lit< tt) }
-
-onward-requires-2 : tie.Need-onward-requires-2
-onward-requires-2 c κs = search needs
 
 returns : tie.Need-returns
 unfolding partAt
@@ -32,4 +20,4 @@ returns c = simp (c .onward2 .ensures, c .before .onward .ensures, c .before .be
 pub part-at-spec : {M : Type 1} → statement M
 part-at-spec =
     tie.close
-    (tie.spec count-at-requires onward-requires cast-onward mul-onward onward-requires-2 returns)
+    (tie.spec (λ c κs. search needs) (λ c κs. search needs) (λ c. search needs) mul-onward (λ c κs. search needs) returns)

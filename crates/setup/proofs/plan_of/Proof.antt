@@ -4,30 +4,6 @@ use borrow.Author.Needs.{needs}
 use Rattle.setup.proofs.plan_of.Statement.{statement}
 use Rattle.setup.proofs.plan_of.Tie as tie
 
-part-at-requires : tie.Need-part-at-requires
-part-at-requires c κs = search needs
-
-part-at-requires-2 : tie.Need-part-at-requires-2
-part-at-requires-2 c κs = search needs
-
-part-at-requires-3 : tie.Need-part-at-requires-3
-part-at-requires-3 c κs = search needs
-
-part-at-requires-4 : tie.Need-part-at-requires-4
-part-at-requires-4 c κs = search needs
-
-part-at-requires-5 : tie.Need-part-at-requires-5
-part-at-requires-5 c κs = search needs
-
-part-at-requires-6 : tie.Need-part-at-requires-6
-part-at-requires-6 c κs = search needs
-
-part-at-requires-7 : tie.Need-part-at-requires-7
-part-at-requires-7 c κs = search needs
-
-part-at-requires-8 : tie.Need-part-at-requires-8
-part-at-requires-8 c κs = search needs
-
 returns : tie.Need-returns
 unfolding planOf
 returns c =
@@ -51,13 +27,6 @@ returns c =
 pub plan-of-spec : {M : Type 1} → statement M
 plan-of-spec =
     tie.close
-    (tie.spec
-    part-at-requires
-    part-at-requires-2
-    part-at-requires-3
-    part-at-requires-4
-    part-at-requires-5
-    part-at-requires-6
-    part-at-requires-7
-    part-at-requires-8
-    returns)
+    (tie.spec (λ c κs. search needs) (λ c κs. search needs) (λ c κs. search needs)
+    (λ c κs. search needs) (λ c κs. search needs) (λ c κs. search needs) (λ c κs. search needs)
+    (λ c κs. search needs) returns)

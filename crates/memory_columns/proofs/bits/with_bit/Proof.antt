@@ -8,17 +8,11 @@ use Rattle.memory_columns.proofs.bits.with_bit.Tie as tie
 returns : tie.Need-returns
 returns c = rw (le-ltb _ 32 (c .if1 .taken))
 
-shl-result : tie.Need-shl-result
-shl-result c = search needs
-
 returns-2 : tie.Need-returns-2
 returns-2 c = let h = c .before .if1 .left in rw (lt-ltb _ 32 h, one-bit _ h, c .if2 .taken)
-
-shl-result-2 : tie.Need-shl-result-2
-shl-result-2 c = search needs
 
 returns-3 : tie.Need-returns-3
 returns-3 c = let h = c .before .if1 .left in rw (lt-ltb _ 32 h, one-bit _ h, c .if2 .left)
 
 pub with-bit-spec : {M : Type 1} → statement M
-with-bit-spec = tie.close (tie.spec returns shl-result returns-2 shl-result-2 returns-3)
+with-bit-spec = tie.close (tie.spec returns (λ c. search needs) returns-2 (λ c. search needs) returns-3)

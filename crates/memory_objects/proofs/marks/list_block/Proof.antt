@@ -4,18 +4,6 @@ use borrow.Author.Needs.{needs}
 use Rattle.memory_objects.proofs.marks.list_block.Statement.{statement}
 use Rattle.memory_objects.proofs.marks.list_block.Tie as tie
 
-block-node-requires : tie.Need-block-node-requires
-block-node-requires c κs = search needs
-
-unlink-requires : tie.Need-unlink-requires
-unlink-requires c κs = search needs
-
-free-anchor-requires : tie.Need-free-anchor-requires
-free-anchor-requires c κs = search needs
-
-link-requires : tie.Need-link-requires
-link-requires c κs = search needs
-
 returns : tie.Need-returns
 returns c =
     let i = c .before .before .before in
@@ -28,10 +16,5 @@ returns-2 c = let u = c .before in rw (c .if1 .left) (block-off _ _ _ (u .before
 pub list-block-spec : {M : Type 1} → statement M
 list-block-spec =
     tie.close
-    (tie.spec
-    block-node-requires
-    unlink-requires
-    free-anchor-requires
-    link-requires
-    returns
-    returns-2)
+    (tie.spec (λ c κs. search needs) (λ c κs. search needs) (λ c κs. search needs)
+    (λ c κs. search needs) returns returns-2)

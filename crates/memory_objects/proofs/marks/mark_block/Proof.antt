@@ -9,21 +9,6 @@ returns c = block-none _ _ _ _ (c .if1 .taken)
 returns-2 : tie.Need-returns-2
 returns-2 c = block-past _ _ _ _ (c .if2 .taken)
 
-free-requires : tie.Need-free-requires
-free-requires c κs = search needs
-
-sub-with-bit : tie.Need-sub-with-bit
-sub-with-bit c = search needs
-
-with-bit-requires : tie.Need-with-bit-requires
-with-bit-requires c κs = search needs
-
-set-free-requires : tie.Need-set-free-requires
-set-free-requires c κs = search needs
-
-list-block-requires : tie.Need-list-block-requires
-list-block-requires c κs = search needs
-
 returns-3 : tie.Need-returns-3
 returns-3 c =
     let s = c .before .before in
@@ -35,12 +20,5 @@ returns-3 c =
 pub mark-block-spec : {M : Type 1} → statement M
 mark-block-spec =
     tie.close
-    (tie.spec
-    returns
-    returns-2
-    free-requires
-    sub-with-bit
-    with-bit-requires
-    set-free-requires
-    list-block-requires
-    returns-3)
+    (tie.spec returns returns-2 (λ c κs. search needs) (λ c. search needs) (λ c κs. search needs)
+    (λ c κs. search needs) (λ c κs. search needs) returns-3)

@@ -3,21 +3,6 @@ use Rattle.memory_objects.proofs.Steps.{of-at, of-past}
 use Rattle.memory_objects.proofs.marks.mark_of.Statement.{statement}
 use Rattle.memory_objects.proofs.marks.mark_of.Tie as tie
 
-returns : tie.Need-returns
-returns c = search needs
-
-sub-k : tie.Need-sub-k
-sub-k c = search needs
-
-cast-k : tie.Need-cast-k
-cast-k c = search needs
-
-mul-result : tie.Need-mul-result
-mul-result c = search needs
-
-shared-slice-read-result : tie.Need-shared-slice-read-result
-shared-slice-read-result c = search needs
-
 returns-2 : tie.Need-returns-2
 returns-2 c = of-at _ _ (c .before .before .before .if1 .left)
 
@@ -27,4 +12,4 @@ returns-3 c = of-past _ _ (c .before .before .if1 .left) (search needs)
 pub mark-of-spec : {M : Type 1} → statement M
 mark-of-spec =
     tie.close
-    (tie.spec returns sub-k cast-k mul-result shared-slice-read-result returns-2 returns-3)
+    (tie.spec (λ c. search needs) (λ c. search needs) (λ c. search needs) (λ c. search needs) (λ c. search needs) returns-2 returns-3)

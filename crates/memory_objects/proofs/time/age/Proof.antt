@@ -3,17 +3,8 @@ use Rattle.memory_objects.proofs.Steps.{age-one}
 use Rattle.memory_objects.proofs.time.age.Statement.{statement}
 use Rattle.memory_objects.proofs.time.age.Tie as tie
 
-ticks-requires : tie.Need-ticks-requires
-ticks-requires c κs = search needs
-
-one-less-requires : tie.Need-one-less-requires
-one-less-requires c κs = search needs
-
-set-ticks-requires : tie.Need-set-ticks-requires
-set-ticks-requires c κs = search needs
-
 returns : tie.Need-returns
 returns c = let m = c .before .before in age-one _ _ (m .before .ticks .ensures) (m .one-less .ensures) (c .set-ticks .ensures)
 
 pub age-spec : {M : Type 1} → statement M
-age-spec = tie.close (tie.spec ticks-requires one-less-requires set-ticks-requires returns)
+age-spec = tie.close (tie.spec (λ c κs. search needs) (λ c κs. search needs) (λ c κs. search needs) returns)

@@ -16,15 +16,6 @@ abbrev μ-loop : tie.MeasureT-loop
 loop-holds : tie.Need-loop-holds Inv-loop μ-loop
 loop-holds c = (age-first _ _, omega arith)
 
-age-requires : tie.Need-age-requires Inv-loop μ-loop
-age-requires c κs = search needs
-
-add-t : tie.Need-add-t Inv-loop μ-loop
-add-t c = search needs
-
-loop-less : tie.Need-loop-less Inv-loop μ-loop
-loop-less c = search needs
-
 loop-again : tie.Need-loop-again Inv-loop μ-loop
 loop-again c =
     let i = c .before .before in
@@ -34,4 +25,4 @@ returns : tie.Need-returns Inv-loop μ-loop
 returns c = age-none _ _ _ (omega arith) ∙ c .before .loop .inv .0
 
 pub age-tasks-spec : {M : Type 1} → statement M
-age-tasks-spec = tie.close (tie.spec Inv-loop μ-loop loop-holds age-requires add-t loop-less loop-again returns)
+age-tasks-spec = tie.close (tie.spec Inv-loop μ-loop loop-holds (λ c κs. search needs) (λ c. search needs) (λ c. search needs) loop-again returns)

@@ -3,31 +3,10 @@ use Rattle.memory_objects.proofs.Steps.{clock-low, clock-high}
 use Rattle.memory_objects.proofs.time.step_clock.Statement.{statement}
 use Rattle.memory_objects.proofs.time.step_clock.Tie as tie
 
-system-requires : tie.Need-system-requires
-system-requires c κs = search needs
-
-add-set-system : tie.Need-add-set-system
-add-set-system c = search needs
-
-set-system-requires : tie.Need-set-system-requires
-set-system-requires c κs = search needs
-
 returns : tie.Need-returns
 returns c =
     let i = c .before .before in
     clock-low _ (i .before .system .ensures) (i .if1 .taken) (c .set-system .ensures)
-
-system-requires-2 : tie.Need-system-requires-2
-system-requires-2 c κs = search needs
-
-set-system-requires-2 : tie.Need-set-system-requires-2
-set-system-requires-2 c κs = search needs
-
-add-set-system-2 : tie.Need-add-set-system-2
-add-set-system-2 c = search needs
-
-set-system-requires-3 : tie.Need-set-system-requires-3
-set-system-requires-3 c κs = search needs
 
 returns-2 : tie.Need-returns-2
 returns-2 c =
@@ -39,13 +18,6 @@ returns-2 c =
 pub step-clock-spec : {M : Type 1} → statement M
 step-clock-spec =
     tie.close
-    (tie.spec
-    system-requires
-    add-set-system
-    set-system-requires
-    returns
-    system-requires-2
-    set-system-requires-2
-    add-set-system-2
-    set-system-requires-3
+    (tie.spec (λ c κs. search needs) (λ c. search needs) (λ c κs. search needs) returns
+    (λ c κs. search needs) (λ c κs. search needs) (λ c. search needs) (λ c κs. search needs)
     returns-2)

@@ -3,23 +3,8 @@ use Rattle.memory_objects.proofs.Steps.{count-none, count-up, count-rou
 use Rattle.memory_objects.proofs.time.step_counter.Statement.{statement}
 use Rattle.memory_objects.proofs.time.step_counter.Tie as tie
 
-counter-requires : tie.Need-counter-requires
-counter-requires c κs = search needs
-
 returns : tie.Need-returns
 returns c = count-none _ (c .before .counter .ensures) (c .if1 .taken)
-
-counter-requires-2 : tie.Need-counter-requires-2
-counter-requires-2 c κs = search needs
-
-sub-if2 : tie.Need-sub-if2
-sub-if2 c = search needs
-
-add-set-counter : tie.Need-add-set-counter
-add-set-counter c = search needs
-
-set-counter-requires : tie.Need-set-counter-requires
-set-counter-requires c κs = search needs
 
 returns-2 : tie.Need-returns-2
 returns-2 c =
@@ -27,9 +12,6 @@ returns-2 c =
     let n = t .before in
     let i = n .before .before in
     count-up _ (i .before .counter .ensures) (i .if1 .left) (n .counter2 .ensures) (t .if2 .taken) (c .set-counter .ensures)
-
-set-counter-requires-2 : tie.Need-set-counter-requires-2
-set-counter-requires-2 c κs = search needs
 
 returns-3 : tie.Need-returns-3
 returns-3 c =
@@ -41,13 +23,5 @@ returns-3 c =
 pub step-counter-spec : {M : Type 1} → statement M
 step-counter-spec =
     tie.close
-    (tie.spec
-    counter-requires
-    returns
-    counter-requires-2
-    sub-if2
-    add-set-counter
-    set-counter-requires
-    returns-2
-    set-counter-requires-2
-    returns-3)
+    (tie.spec (λ c κs. search needs) returns (λ c κs. search needs) (λ c. search needs)
+    (λ c. search needs) (λ c κs. search needs) returns-2 (λ c κs. search needs) returns-3)
