@@ -1,6 +1,9 @@
 /* The clock, timed waits, the counter and its alarms. A tick looks at waits and alarms only when one of them may be due. */
 #include "calls.h"
 
+/* Kept out of the tick, which then saves fewer registers. */
+#define RARE __attribute__((noinline))
+
 int32_t get_tim(struct peer *k, int32_t me, const struct peer_event *e, struct peer_answer *r)
 {
     (void)e;
@@ -93,7 +96,7 @@ static void fire(struct peer *k, struct alarm *alarm, uint32_t *released)
 }
 
 /* The alarms that are due, by number; those with a period are set again, and the next look is at the first that is left. */
-static void look_at_alarms(struct peer *k, uint32_t *released)
+RARE static void look_at_alarms(struct peer *k, uint32_t *released)
 {
     uint32_t before = k->used;
     k->used = 0;
@@ -120,7 +123,7 @@ static void count_on(struct peer *k, uint32_t *released)
 /* ---- the tick */
 
 /* The waits that end now, by id; the next look is when the first of the others ends. */
-static void look_at_waits(struct peer *k, uint32_t now, uint32_t *released)
+RARE static void look_at_waits(struct peer *k, uint32_t now, uint32_t *released)
 {
     uint32_t soonest = UINT32_MAX;
     for (uint32_t left = k->timed; left != 0; left &= left - 1) {
