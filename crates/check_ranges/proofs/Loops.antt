@@ -1,7 +1,7 @@
 -- The loops over ids: what the rest gives from here is what the whole gives. Assumes nothing.
 use Prim.Native.Nat.{ℕ, suc, _+_, _-_, _≤_, _<_}
 use mathlib.Core.Path.{_≡_, refl, sym, ap, _∙_, subst}
-use mathlib.Core.Bool.{Bool, true, false, not, true≢false}
+use mathlib.Core.Bool.{Bool, true, false, not, _&&_, and-true, and-assoc, true≢false}
 use native.Mathlib.Numerals.{add-one}
 use native.Mathlib.Omega.{arith}
 use borrow.Author.Tests.{le-leb, lt-leb, not-true}
@@ -30,6 +30,21 @@ module _ (f : ℕ → Bool) (n i left : ℕ) (g : Going f n i left) where
     pub going-on : f i ≡ true → Going f n (i + 1) (left - 1)
     unfolding every
     going-on e = (rw add-one ((rw e at (sym one)) ∙ g .0), omega arith)
+
+-- what was said of the ids before i, and those from i on, decide as all n do
+abbrev pub Saying : (ℕ → Bool) → ℕ → ℕ → ℕ → Bool → Type 0
+Saying f n i left fine = ((fine && every left i f) ≡ every n 1 f) × (i + left ≡ n + 1)
+
+module _ (f : ℕ → Bool) (n i left : ℕ) (fine : Bool) (g : Saying f n i left fine) where
+  pub said-all : left ≤ 0 → fine ≡ every n 1 f
+  unfolding every
+  said-all h = let z : left ≡ 0 = omega arith in sym (and-true fine) ∙ (rw z at (g .0))
+
+  pub said-on : 0 < left → {t : Bool} → t ≡ (fine && f i) → Saying f n (i + 1) (left - 1) t
+  unfolding every
+  said-on h e =
+      let z : left ≡ suc (left - 1) = omega arith in
+      (rw (e, add-one) (and-assoc fine (f i) (every (left - 1) (suc i) f) ∙ ap (λ (k : ℕ). fine && every k i f) (sym z) ∙ g .0), omega arith)
 
 -- the first i ids have passed
 abbrev pub Passing : (ℕ → Bool) → ℕ → ℕ → Type 0

@@ -70,6 +70,7 @@ use memory_columns::wish;
 use memory_columns::word;
 use memory_objects::marks::mark_of;
 ghost use mathlib.Core.Path.{_≡_};
+ghost use mathlib.Core.Bool.{_&&_};
 ghost use Prim.Native.Nat.{_≤_};
 ghost use Rattle.memory_columns.specs.Layout.{maxMessages, maxAlarms};
 ghost use Rattle.check_ranges.specs.Ranges as Ranges;
@@ -324,21 +325,27 @@ fn pools_ok(words: &[u32; STATE_WORDS], n: u32) -> bool
     true
 }
 
+fn both(a: bool, b: bool) -> bool
+    ensures { λ r. ⌜ r ≡ (a && b) ⌝ }
+{
+    if a { b } else { false }
+}
+
+// All are tried, whatever the first ones said: so the compiler can take several at once.
 fn messages_ok(words: &[u32; STATE_WORDS], messages: &[u32; MESSAGE_WORDS], n: u32) -> bool
     requires { ⌜ n ≤ maxMessages ⌝ }
     ensures { λ r. ⌜ r ≡ every n 1 (Ranges.messageOk (now (words .entry)) (now (messages .entry))) ⌝ }
 {
     let mailboxes = system(words, MAILBOXES);
+    let mut fine = true;
     let mut j: u32 = 1;
     let mut left = n;
     while 0 < left {
-        if mailboxes < mark_of(messages, j) {
-            return false;
-        }
+        fine = both(fine, mark_of(messages, j) <= mailboxes);
         j += 1;
         left -= 1;
     }
-    true
+    fine
 }
 
 // Task t can be the interrupted one, 0 where nobody ran: it does not wait while the handler is open, but can be suspended.
