@@ -1,17 +1,17 @@
 -- Counting ids: a list of distinct ids that pass a test is at most as long as the count of those that pass it, and holds each of them just where
 -- it is as long. Assumes nothing.
 use Prim.Native.Nat.{ℕ, zero, suc, _+_, _≤_}
-use mathlib.Core.Path.{_≡_, refl, sym, ap, _∙_, subst}
+use mathlib.Core.Path.{_≡_, refl, sym, ap, _∙_}
 use mathlib.Core.Bool.{Bool, true, false, not, _&&_, true≢false, and-true}
-use mathlib.Core.Logic.{_≢_, _⊎_, inl, inr}
+use mathlib.Core.Logic.{_≢_, inl, inr}
 use mathlib.Core.List.{List, [], _∷_}
 use native.Mathlib.Decide.{ℕ-discrete}
 use native.Mathlib.Omega.{arith}
 use lib.Dec.{eqb}
 use lib.ListN.{length}
-use borrow.Author.Tests.{eqb-false, eq-eqb, ne-eqb}
+use borrow.Author.Tests.{eq-eqb, ne-eqb}
 use Rattle.rules.specs.Ids.{once}
-use Rattle.memory_rings.specs.Rings.{IsId, All, Out, Stands, Distinct}
+use Rattle.memory_rings.specs.Rings.{IsId, All, Stands, Distinct}
 use Rattle.check_links.specs.Survey.{counted}
 use Rattle.memory_rings.proofs.Lists.{and-of, all-at, all-of, stands-or-out}
 

@@ -82,6 +82,10 @@ shiftOf Tasks = 0
 shiftOf Messages = mailNode 0
 shiftOf Blocks = 0
 
+-- the rings of anchors from a on, as many as the count k says
+abbrev pub rangeIn : List ℕ → Rings → List ℕ → ℕ → ℕ → ℕ → ℕ
+rangeIn b r hs a k n = ranged (words (linksOf r) b) hs (shiftOf r) a (many b k) n
+
 -- the ranges of anchors (the first, and how many) surveyed one after the other: what they leave of a budget
 unfoldable pub ranges : List ℕ → List ℕ → ℕ → List (ℕ × ℕ) → ℕ → ℕ
 ranges l hs s [] k = k

@@ -42,10 +42,7 @@ ghost use mathlib.Core.List.{[]};
 ghost use Prim.Native.Nat.{_+_, _*_, _≤_, _<_};
 ghost use lib.ListN.{length};
 ghost use Rattle.memory_columns.specs.declared.Rings.the-variants.{Tasks, Messages, Blocks};
-ghost use Rattle.check_links.specs.Survey.{ranged};
-ghost use Rattle.memory_columns.specs.Layout.{maxPools, maxBlocks, linksOf};
-ghost use Rattle.memory_columns.specs.Layout.{words as wordsOf};
-ghost use Rattle.check_ranges.specs.Ranges.{many};
+ghost use Rattle.memory_columns.specs.Layout.{maxPools, maxBlocks};
 ghost use Rattle.check_queues.specs.Queues as Queues;
 
 // The most tasks, and the most blocks of all pools.
@@ -177,7 +174,7 @@ fn survey_queues(
     k: u32,
     budget: u32,
 ) -> u32
-    ensures { λ r. ⌜ r ≡ ranged (wordsOf (linksOf rings) (now (words .entry))) (now (homes .entry)) (Queues.shiftOf rings) anchor (many (now (words .entry)) k) budget ⌝ }
+    ensures { λ r. ⌜ r ≡ Queues.rangeIn (now (words .entry)) rings (now (homes .entry)) anchor k budget ⌝ }
 {
     check_links::survey(
         links(words, rings),

@@ -3,9 +3,6 @@ use Rattle.check_links.proofs.Steps.{budget-ids, budget-short, budget-i
 use borrow.Author.Needs.{needs}
 use Rattle.check_links.proofs.budget.Statement.{statement}
 use Rattle.check_links.proofs.budget.Tie as tie
-use Rattle.check_links.proofs.budget.Reads as reads
-use Rattle.check_links.proofs.budget.Lts as lts
-use Rattle.check_links.proofs.filled.Reads as filled-reads
 
 returns : tie.Need-returns
 returns c = budget-ids _ _ (c .if1 .taken)

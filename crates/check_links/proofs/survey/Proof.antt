@@ -1,6 +1,6 @@
 -- `check_links::survey` meets its contract. The invariant: the rings from b on, from the budget as it is, are all the rings from the budget at the start. Assumes nothing.
-use mathlib.Core.Path.{_≡_, refl, _∙_}
-use Prim.Native.Nat.{ℕ, _-_, _≤_, _<_}
+use mathlib.Core.Path.{_≡_, _∙_}
+use Prim.Native.Nat.{_-_, _≤_, _<_}
 use native.Mathlib.Omega.{arith}
 use lib.ListN.{length}
 use Rattle.check_links.proofs.Steps.{survey-on, survey-stopped, survey-done, range-ids, range-over, range-under, range-start}

@@ -1,7 +1,6 @@
 -- `check_links::tour` meets its contract. The invariant: what is left of the tour from here is the whole tour. Assumes nothing.
 use mathlib.Core.Path.{_≡_, refl, _∙_}
 use Prim.Native.Nat.{_<_}
-use native.Mathlib.Omega.{arith}
 use Rattle.check_links.proofs.Steps.{node, tour-strays, tour-open, tour-closed, tour-turned, tour-on, tour-spent}
 use Rattle.check_links.specs.Survey.{belongs, toured}
 use Rattle.memory_rings.specs.Links.{half, nexts, prevs}
