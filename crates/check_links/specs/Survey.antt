@@ -23,14 +23,14 @@ belongs hs v y = leb 1 y && (leb y (length hs) && eqb (of hs y 0) v)
 
 -- ---- a budget: one more than the ids that are still to be met, 0 once something is wrong
 
--- The ring of anchor a from node x on, whose ids pass the test f: what it leaves of a budget. An id takes one, and the last one is kept.
+-- The ring of anchor a from node x on, whose ids pass the test f: what it leaves of a budget. Each id takes one; the last one is never taken.
 unfoldable pub toured : ℕ → (ℕ → Bool) → List ℕ → List ℕ → ℕ → ℕ → ℕ
 toured zero f nx pv a x = 0
 toured (suc k) f nx pv a x =
     cond (f (getD nx x 0)) (cond (eqb (getD pv (getD nx x 0) 0) x) (toured k f nx pv a (getD nx x 0)) 0)
     (cond (eqb (getD nx x 0) a) (cond (eqb (getD pv a 0) x) (suc k) 0) 0)
 
--- the rings of the anchors qs, one after the other; those of anchor a pass the test f a
+-- the rings of the anchors qs, one after the other; the ids in the ring of anchor a pass the test f a
 unfoldable pub surveyed : (ℕ → ℕ → Bool) → List ℕ → List ℕ → List ℕ → ℕ → ℕ
 surveyed f nx pv [] k = k
 surveyed f nx pv (a ∷ qs) k = surveyed f nx pv qs (toured k (f a) nx pv a a)
@@ -40,7 +40,7 @@ unfoldable pub from : ℕ → ℕ → List ℕ
 from a zero = []
 from a (suc k) = a ∷ from (suc a) k
 
--- the rings of `count` anchors from a on, which are nodes, as the ids are; the home s less is that of anchor a
+-- the rings of `count` anchors from a on; anchors and ids are nodes, and the home of the ids in the ring of anchor a is a - s
 unfoldable pub ranged : List ℕ → List ℕ → ℕ → ℕ → ℕ → ℕ → ℕ
 ranged l hs s a count k =
     cond (ltb (length hs) (half l) && (leb (a + count) (half l) && leb s a)) (surveyed (λ a. belongs hs (a - s)) (nexts l) (prevs l) (from a count) k) 0
