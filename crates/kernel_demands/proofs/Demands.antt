@@ -27,7 +27,7 @@ use Rattle.rules.proofs.Blocks.{event-balance}
 use Rattle.rules_runs.proofs.Wear.{worn-evenly}
 use Rattle.rules_runs.proofs.Demand3.{demand3}
 use Rattle.rules.proofs.Broken.{stays-broken}
-use Rattle.rules_runs.proofs.OnlyBroken.{only-rel-wai, never-answered}
+use Rattle.rules.proofs.OnlyBroken.{only-rel-wai, never-answered}
 use Rattle.memory_picture.specs.Picture.{viewShown, Accepted}
 use Rattle.kernel_start.specs.Starting.{Starts}
 use Rattle.kernel_start.specs.declared.Started.{Started}

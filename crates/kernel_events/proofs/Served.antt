@@ -24,7 +24,7 @@ use Rattle.rules.specs.Kernel as Kernel
 use Rattle.rules.specs.Kernel.{event, next, served}
 use Rattle.rules.proofs.Breach.{breach-tells}
 use Rattle.rules.proofs.Events.{event-served}
-use Rattle.rules_runs.proofs.Released.{released-by-acts}
+use Rattle.rules.proofs.Released.{released-by-acts}
 use Rattle.memory_picture.specs.Picture.{handlersShown, bodyShown, viewShown, Accepted}
 use Rattle.memory_running.specs.Running.{runningOf}
 use Rattle.memory_running.proofs.Running.{running-law}

@@ -27,7 +27,9 @@ pub mod Interrupted
 pub mod Absent
 pub mod Deleted
 pub mod Broken
+pub mod OnlyBroken
 pub mod Alarms
 pub mod Agree
 pub mod Blocks
+pub mod Released
 pub mod Ahead

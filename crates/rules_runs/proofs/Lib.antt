@@ -1,7 +1,5 @@
 -- The theorems about runs, in the order in which to read them.
 pub mod Rising
-pub mod OnlyBroken
-pub mod Released
 pub mod Fresh
 pub mod Demand3
 pub mod Wear
