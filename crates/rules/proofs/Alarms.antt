@@ -301,7 +301,8 @@ module _ (v : View) where
         go true = append-nil (fire (when-due k) k) ∙ ap (firing (when-due k) k) (due-alarm k r)
         go false = refl
 
-    due-next : when-due (suc k) ≡ afters (share k) (when-due k)
+    -- what the first one finds is what the timeouts left (`when-due` of 1), and what each leaves the next one finds
+    pub due-next : when-due (suc k) ≡ afters (share k) (when-due k)
     due-next =
         ap (λ (l : List Act). afters l lapsed) (rings-split (pred k) 1 k 1 k lapsed (omega (arith, r .0)) (omega (arith, r .0)))
         ∙ afters-append (rings lapsed (pred k) 1) (rings (when-due k) 1 k) lapsed ∙ ap (λ (l : List Act). afters l (when-due k)) share-alone
