@@ -1,5 +1,6 @@
-// The check of rings that may be damaged (crate `memory_rings` says what they are). `homes` says of each id to whose ring it belongs. A survey
-// walks the rings of some anchors; each id that it meets belongs there and is taken off a budget, which is one more than the ids still to be met.
+// The check of rings that may be damaged (crate `memory_rings` says what they are). `homes` says of each id to whose
+// ring it belongs. A survey walks the rings of some anchors; each id that it meets belongs there and is taken off a
+// budget, which is one more than the ids still to be met.
 ghost use mathlib.Core.Path.{_≡_};
 ghost use Prim.Native.Nat.{_≤_, _<_};
 ghost use mathlib.Core.Bool.{not};

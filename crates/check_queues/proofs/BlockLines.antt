@@ -1,7 +1,7 @@
 -- The line of a pool's free blocks, as nodes and as blocks: it holds the nodes of just those that belong to it where it holds just those. Assumes nothing.
 use mathlib.Core.Bool.{Bool, true, false, _&&_, false≢true}
 use mathlib.Core.List.{List, [], _∷_, map}
-use mathlib.Core.Logic.{_⊎_, inl, inr, _≢_}
+use mathlib.Core.Logic.{inl, inr, _≢_}
 use mathlib.Core.Path.{_≡_, refl, sym, ap, _∙_}
 use Prim.Native.Nat.{ℕ, zero, suc, _+_, _-_, _*_, _/_, _%_, _≤_}
 use native.Mathlib.Decide.{ℕ-discrete, decLe}
@@ -10,7 +10,7 @@ use lib.Dec.{eqb}
 use borrow.Author.Tests.{eqb-true, eqb-false, eq-eqb, ne-eqb}
 use Rattle.rules.specs.Ids.{In, once, times}
 use Rattle.rules.specs.Sound.{Known}
-use Rattle.memory_rings.specs.Rings.{Stands, Out}
+use Rattle.memory_rings.specs.Rings.{Stands}
 use Rattle.memory_rings.proofs.Lists.{and-of, stands-or-out}
 use Rattle.memory_columns.specs.Layout.{maxBlocks, beforePool, blockNode}
 use Rattle.memory_picture.proofs.Counts.{stands-times}

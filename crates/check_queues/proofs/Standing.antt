@@ -5,7 +5,7 @@ use mathlib.Core.List.{List, []}
 use mathlib.Core.Logic.{inl, inr, _↔_}
 use mathlib.Core.Option.{Option, none, some}
 use mathlib.Core.Path.{_≡_, refl, sym, ap, _∙_, subst}
-use Prim.Native.Nat.{ℕ, zero, suc, _+_, _-_, _*_, _/_, _%_, _^_, _≤_, _<_}
+use Prim.Native.Nat.{ℕ, zero, suc, _-_, _/_, _%_, _^_, _≤_, _<_}
 use native.Mathlib.Omega.{arith}
 use lib.Dec.{eqb, leb, lit≤}
 use lib.ListN.{length}
@@ -22,13 +22,11 @@ use Rattle.memory_columns.specs.declared.Rings.the-variants.{Tasks, Messages, B
 use Rattle.memory_columns.specs.Layout as Layout
 use Rattle.memory_columns.specs.Layout.{stateWords, maxPriorities, maxTasks, maxObjects, maxMessages, maxPools, maxBlocks, readyNode, waitNode, mailNode, freeNode, nextOf, prevOf, linksOf, words, entry}
 use Rattle.memory_columns.proofs.Frame.{words-length}
-use Rattle.memory_columns.proofs.Tiling.{column-fits}
 use Rattle.memory_queues.specs.Moves.{readyAnchor, waitAnchor, mailAnchor, freeAnchor}
 use Rattle.memory_picture.specs.Picture.{waitShown, stateShown, taskShown, messageShown, poolShown, tasksShown, messagesShown, poolsShown, storeShown, bodyShown, kindNumber, anchor, ringsAt, idsShown, nodesShown, lineShown, Used, WholeRings}
 use Rattle.memory_picture.specs.Form as Form
 use Rattle.memory_picture.specs.Form.{homeOf, placeOf}
 use Rattle.memory_queues.proofs.Parts.{nexts-links, prevs-links}
-use Rattle.memory_picture.proofs.Lines.{differ}
 use Rattle.memory_picture.proofs.PoolBits.{pool-at}
 use Rattle.memory_picture.proofs.FormWords.{few-objects}
 use Rattle.memory_picture.proofs.FormHomes.{place-back, ready-home, wait-home, lies-home, block-home, TaskHolds, task-holds}
@@ -39,7 +37,7 @@ use Rattle.memory_picture.proofs.Cases.{asked, kind-cases, status-cases}
 use Rattle.check_ranges.proofs.Ranges.{manyOf, objects-shown, Ranges}
 use Rattle.check_queues.proofs.Homes.{anchorsOf, InRange, anchor-range, range-anchor, Rising, rising-from, rising-distinct, anchorOf, Belongs, Homes, Keeps}
 use Rattle.check_queues.proofs.Homes as Laws
-use Rattle.check_queues.proofs.BlockLines.{nodeHas, has-block, block-has, lines-numbers, numbers-lines}
+use Rattle.check_queues.proofs.BlockLines.{nodeHas, block-has, lines-numbers, numbers-lines}
 
 -- ---- the home of a task, by its words
 

@@ -1,5 +1,6 @@
-// The second part of the check of a memory: each task, message and free block stands where it belongs, once, and nowhere else. Each ring is walked
-// once. One set of functions serves the rings of every sort, told the home of each id.
+// The second part of the check of a memory: each task, message and free block stands where it belongs, once, and
+// nowhere else. Each ring is walked once. One set of functions serves the rings of every sort, told the home of each
+// id.
 use check_links::budget;
 use memory_columns::FIRST_FLAG;
 use memory_columns::FIRST_FREE;

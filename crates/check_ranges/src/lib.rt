@@ -1,5 +1,5 @@
-// The first part of the check of a memory: numbers lie in their ranges. Each task, object and message that the counts name is looked at once,
-// the interrupted task once more; each alarm, where there is a counter.
+// The first part of the check of a memory: numbers lie in their ranges. Each task, object and message that the counts
+// name is looked at once, the interrupted task once more; each alarm, where there is a counter.
 use memory_columns::ABSENT;
 use memory_columns::ASLEEP;
 use memory_columns::CELL_OK;

@@ -10,27 +10,6 @@ returns c = budget-ids _ _ (c .if1 .taken)
 returns-2 : tie.Need-returns-2
 returns-2 c = budget-short _ _ (c .if2 .taken)
 
-filled-requires : tie.Need-filled-requires
-filled-requires c κs = search needs
-
-add-e : tie.Need-add-e
-add-e c = search needs
-
-sub-filled : tie.Need-sub-filled
-sub-filled c = search needs
-
-part-filled-start : tie.Need-part-filled-start
-part-filled-start c = search needs
-
-part-filled-end : tie.Need-part-filled-end
-part-filled-end c = search needs
-
-filled-requires-2 : tie.Need-filled-requires-2
-filled-requires-2 c κs = search needs
-
-add-result : tie.Need-add-result
-add-result c = search needs
-
 returns-3 : tie.Need-returns-3
 returns-3 c =
     let f = c .before in
@@ -46,15 +25,6 @@ returns-4 c =
 pub budget-spec : {M : Type 1} → statement M
 budget-spec =
     tie.close
-    (tie.spec
-    returns
-    returns-2
-    filled-requires
-    add-e
-    sub-filled
-    part-filled-start
-    part-filled-end
-    filled-requires-2
-    add-result
-    returns-3
+    (tie.spec returns returns-2 (λ c κs. search needs) (λ c. search needs) (λ c. search needs)
+    (λ c. search needs) (λ c. search needs) (λ c κs. search needs) (λ c. search needs) returns-3
     returns-4)

@@ -19,23 +19,8 @@ loop-holds : tie.Need-loop-holds Inv-loop μ-loop
 unfolding counted
 loop-holds c = (refl, omega arith, omega arith)
 
-mul-one-unless-zero : tie.Need-mul-one-unless-zero Inv-loop μ-loop
-mul-one-unless-zero c = search needs
-
-shared-slice-read-one-unless-zero : tie.Need-shared-slice-read-one-unless-zero Inv-loop μ-loop
-shared-slice-read-one-unless-zero c = search needs
-
-one-unless-zero-requires : tie.Need-one-unless-zero-requires Inv-loop μ-loop
-one-unless-zero-requires c κs = search needs
-
 add-n : tie.Need-add-n Inv-loop μ-loop
 add-n c = omega arith
-
-add-i : tie.Need-add-i Inv-loop μ-loop
-add-i c = search needs
-
-loop-less : tie.Need-loop-less Inv-loop μ-loop
-loop-less c = search needs
 
 loop-again : tie.Need-loop-again Inv-loop μ-loop
 loop-again c = (filled-on _ _ (c .before .before .before .loop .inv .0) (c .one-unless-zero .ensures .0), omega arith, omega arith)
@@ -49,15 +34,5 @@ returns c =
 pub filled-spec : {M : Type 1} → statement M
 filled-spec =
     tie.close
-    (tie.spec
-    Inv-loop
-    μ-loop
-    loop-holds
-    mul-one-unless-zero
-    shared-slice-read-one-unless-zero
-    one-unless-zero-requires
-    add-n
-    add-i
-    loop-less
-    loop-again
-    returns)
+    (tie.spec Inv-loop μ-loop loop-holds (λ c. search needs) (λ c. search needs)
+    (λ c κs. search needs) add-n (λ c. search needs) (λ c. search needs) loop-again returns)

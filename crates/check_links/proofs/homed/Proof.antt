@@ -11,17 +11,8 @@ returns c = below-ids _ _ _ (c .if1 .taken)
 returns-2 : tie.Need-returns-2
 returns-2 c = above-ids _ _ _ (c .if2 .taken)
 
-mul-wide : tie.Need-mul-wide
-mul-wide c = search needs
-
-shared-slice-read-wide : tie.Need-shared-slice-read-wide
-shared-slice-read-wide c = search needs
-
-wide-requires : tie.Need-wide-requires
-wide-requires c κs = search needs
-
 returns-3 : tie.Need-returns-3
 returns-3 c = at-home _ _ _ (omega arith) (omega arith) (c .wide .ensures)
 
 pub homed-spec : {M : Type 1} → statement M
-homed-spec = tie.close (tie.spec returns returns-2 mul-wide shared-slice-read-wide wide-requires returns-3)
+homed-spec = tie.close (tie.spec returns returns-2 (λ c. search needs) (λ c. search needs) (λ c κs. search needs) returns-3)

@@ -21,9 +21,6 @@ Inv-loop links homes shift a count budget h b₀ e s k₀ b k =
 abbrev μ-loop : tie.MeasureT-loop
 μ-loop links homes shift a count budget h b₀ e s k₀ b k = e - b
 
-add-e : tie.Need-add-e Inv-loop μ-loop
-add-e c = search needs
-
 returns : tie.Need-returns Inv-loop μ-loop
 returns c = range-ids _ _ _ _ _ _ (c .if1 .taken)
 
@@ -36,20 +33,11 @@ returns-3 c = range-under _ _ _ _ _ _ (c .if3 .taken)
 loop-holds : tie.Need-loop-holds Inv-loop μ-loop
 loop-holds c = (range-start _ _ _ _ _ _ (c .before .before .if1 .left) (c .before .if2 .left) (c .if3 .left), c .if3 .left, omega arith, c .before .if2 .left, c .before .before .if1 .left)
 
-sub-tour : tie.Need-sub-tour Inv-loop μ-loop
-sub-tour c = search needs
-
 tour-requires : tie.Need-tour-requires Inv-loop μ-loop
 tour-requires c κs = let i = c .before .loop .inv in (i .4, omega (arith, c .loop-test .taken, i .3))
 
 returns-4 : tie.Need-returns-4 Inv-loop μ-loop
 returns-4 c = let l = c .before .before in survey-stopped _ _ _ _ _ _ (l .loop-test .taken) (c .before .tour .ensures) (c .if4 .taken) ∙ l .before .loop .inv .0
-
-add-b : tie.Need-add-b Inv-loop μ-loop
-add-b c = search needs
-
-loop-less : tie.Need-loop-less Inv-loop μ-loop
-loop-less c = search needs
 
 loop-again : tie.Need-loop-again Inv-loop μ-loop
 loop-again c = let l = c .before .before in let i = l .before .loop .inv in (survey-on _ _ _ _ _ _ (l .loop-test .taken) (c .before .tour .ensures) ∙ i .0, omega (arith, i .1), omega (arith, l .loop-test .taken), i .3, i .4)
@@ -60,18 +48,6 @@ returns-5 c = survey-done _ _ _ _ _ _ (c .loop-test .left) ∙ c .before .loop .
 pub survey-spec : {M : Type 1} → statement M
 survey-spec =
     tie.close
-    (tie.spec
-    Inv-loop
-    μ-loop
-    add-e
-    returns
-    returns-2
-    returns-3
-    loop-holds
-    sub-tour
-    tour-requires
-    returns-4
-    add-b
-    loop-less
-    loop-again
+    (tie.spec Inv-loop μ-loop (λ c. search needs) returns returns-2 returns-3 loop-holds
+    (λ c. search needs) tour-requires returns-4 (λ c. search needs) (λ c. search needs) loop-again
     returns-5)

@@ -19,21 +19,12 @@ abbrev μ-loop : tie.MeasureT-loop
 loop-holds : tie.Need-loop-holds Inv-loop μ-loop
 loop-holds c = (refl, c .before .before .pre .1)
 
-next-requires : tie.Need-next-requires Inv-loop μ-loop
-next-requires c κs = search needs
-
-homed-requires : tie.Need-homed-requires Inv-loop μ-loop
-homed-requires c κs = search needs
-
 returns : tie.Need-returns Inv-loop μ-loop
 returns c =
     let i = c .before in
     let h = i .before in
     let l = h .before .before in
     tour-strays _ _ _ _ _ _ (l .loop-test .taken) (h .before .next .ensures) (h .homed .ensures) (i .if1 .taken) (c .if2 .taken) ∙ l .before .loop .inv .0
-
-prev-requires : tie.Need-prev-requires Inv-loop μ-loop
-prev-requires c κs = search needs
 
 returns-2 : tie.Need-returns-2 Inv-loop μ-loop
 returns-2 c =
@@ -59,12 +50,6 @@ returns-4 c =
     let l = h .before .before in
     tour-turned _ _ _ _ _ _ (l .loop-test .taken) (h .before .next .ensures) (h .homed .ensures) (i .if1 .left) (c .before .prev2 .ensures) (c .if4 .taken) ∙ l .before .loop .inv .0
 
-sub-k : tie.Need-sub-k Inv-loop μ-loop
-sub-k c = search needs
-
-loop-less : tie.Need-loop-less Inv-loop μ-loop
-loop-less c = search needs
-
 loop-again : tie.Need-loop-again Inv-loop μ-loop
 loop-again c =
     let i = c .before .before in
@@ -80,19 +65,6 @@ returns-5 c = tour-spent _ _ _ _ _ _ (c .loop-test .left) ∙ c .before .loop .i
 pub tour-spec : {M : Type 1} → statement M
 tour-spec =
     tie.close
-    (tie.spec
-    Inv-loop
-    μ-loop
-    loop-holds
-    next-requires
-    homed-requires
-    returns
-    prev-requires
-    returns-2
-    returns-3
-    prev-requires-2
-    returns-4
-    sub-k
-    loop-less
-    loop-again
-    returns-5)
+    (tie.spec Inv-loop μ-loop loop-holds (λ c κs. search needs) (λ c κs. search needs) returns
+    (λ c κs. search needs) returns-2 returns-3 prev-requires-2 returns-4 (λ c. search needs)
+    (λ c. search needs) loop-again returns-5)

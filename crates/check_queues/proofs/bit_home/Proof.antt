@@ -6,9 +6,6 @@ use borrow.Author.Needs.{needs}
 use Rattle.check_queues.proofs.bit_home.Statement.{statement}
 use Rattle.check_queues.proofs.bit_home.Tie as tie
 
-shr-if1 : tie.Need-shr-if1
-shr-if1 c = search needs
-
 returns : tie.Need-returns
 returns c = sym (ap (λ (t : Bool). cond t (c .before .args .anchor) 0) (eq-eqb _ 1 (c .if1 .taken)))
 
@@ -16,4 +13,4 @@ returns-2 : tie.Need-returns-2
 returns-2 c = sym (ap (λ (t : Bool). cond t (c .before .args .anchor) 0) (ne-eqb _ 1 (c .if1 .left)))
 
 pub bit-home-spec : {M : Type 1} → statement M
-bit-home-spec = tie.close (tie.spec shr-if1 returns returns-2)
+bit-home-spec = tie.close (tie.spec (λ c. search needs) returns returns-2)

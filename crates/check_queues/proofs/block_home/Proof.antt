@@ -7,24 +7,6 @@ use Rattle.check_queues.proofs.block_home.Tie as tie
 returns : tie.Need-returns
 returns c = block-none _ _ (c .if1 .taken)
 
-sub-p : tie.Need-sub-p
-sub-p c = search needs
-
-add-p : tie.Need-add-p
-add-p c = search needs
-
-free-requires : tie.Need-free-requires
-free-requires c κs = search needs
-
-sub-if2 : tie.Need-sub-if2
-sub-if2 c = search needs
-
-shr-if2 : tie.Need-shr-if2
-shr-if2 c = search needs
-
-free-anchor-requires : tie.Need-free-anchor-requires
-free-anchor-requires c κs = search needs
-
 returns-2 : tie.Need-returns-2
 returns-2 c = let f = c .before .before in block-free _ _ (f .before .if1 .left) (f .free .ensures) (c .before .if2 .taken) (c .free-anchor .ensures)
 
@@ -34,13 +16,5 @@ returns-3 c = let f = c .before in block-out _ _ (f .before .if1 .left) (f .free
 pub block-home-spec : {M : Type 1} → statement M
 block-home-spec =
     tie.close
-    (tie.spec
-    returns
-    sub-p
-    add-p
-    free-requires
-    sub-if2
-    shr-if2
-    free-anchor-requires
-    returns-2
-    returns-3)
+    (tie.spec returns (λ c. search needs) (λ c. search needs) (λ c κs. search needs)
+    (λ c. search needs) (λ c. search needs) (λ c κs. search needs) returns-2 returns-3)

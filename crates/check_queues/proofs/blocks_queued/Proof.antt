@@ -13,32 +13,8 @@ use borrow.Author.Needs.{needs}
 use Rattle.check_queues.proofs.blocks_queued.Statement.{statement}
 use Rattle.check_queues.proofs.blocks_queued.Tie as tie
 
-system-requires : tie.Need-system-requires
-system-requires c κs = search needs
-
-at-most-requires : tie.Need-at-most-requires
-at-most-requires c κs = search needs
-
-slice-aggregate-block-homes : tie.Need-slice-aggregate-block-homes
-slice-aggregate-block-homes c = search needs
-
-block-homes-requires : tie.Need-block-homes-requires
-block-homes-requires c κs = search needs
-
-mul-e : tie.Need-mul-e
-mul-e c = search needs
-
-cast-e : tie.Need-cast-e
-cast-e c = search needs
-
-array-share-prefix-homes : tie.Need-array-share-prefix-homes
-array-share-prefix-homes c = search needs
-
 slice-aggregate-blocks-settled : tie.Need-slice-aggregate-blocks-settled
 slice-aggregate-blocks-settled c = sym (length-take-le _ _ (search needs))
-
-blocks-settled-requires : tie.Need-blocks-settled-requires
-blocks-settled-requires c κs = search needs
 
 returns : tie.Need-returns
 unfolding queuedIn
@@ -53,14 +29,6 @@ returns c =
 pub blocks-queued-spec : {M : Type 1} → statement M
 blocks-queued-spec =
     tie.close
-    (tie.spec
-    system-requires
-    at-most-requires
-    slice-aggregate-block-homes
-    block-homes-requires
-    mul-e
-    cast-e
-    array-share-prefix-homes
-    slice-aggregate-blocks-settled
-    blocks-settled-requires
-    returns)
+    (tie.spec (λ c κs. search needs) (λ c κs. search needs) (λ c. search needs)
+    (λ c κs. search needs) (λ c. search needs) (λ c. search needs) (λ c. search needs)
+    slice-aggregate-blocks-settled (λ c κs. search needs) returns)

@@ -5,40 +5,13 @@ use borrow.Author.Needs.{needs}
 use Rattle.check_queues.proofs.home.Statement.{statement}
 use Rattle.check_queues.proofs.home.Tie as tie
 
-status-requires : tie.Need-status-requires
-status-requires c κs = search needs
-
-priority-requires : tie.Need-priority-requires
-priority-requires c κs = search needs
-
-ready-anchor-requires : tie.Need-ready-anchor-requires
-ready-anchor-requires c κs = search needs
-
 returns : tie.Need-returns
 unfolding home
 returns c = let i = c .before .before in rw (← i .before .status .ensures, i .if1 .taken, ← c .before .priority .ensures) (c .ready-anchor .ensures)
 
-kind-requires : tie.Need-kind-requires
-kind-requires c κs = search needs
-
-object-requires : tie.Need-object-requires
-object-requires c κs = search needs
-
-wait-home-requires : tie.Need-wait-home-requires
-wait-home-requires c κs = search needs
-
 returns-2 : tie.Need-returns-2
 unfolding home
 returns-2 c = let i = c .before .before .before in rw (← i .before .before .status .ensures, i .if2 .taken, ← c .before .before .kind .ensures, ← c .before .object .ensures) (c .wait-home .ensures)
-
-kind-requires-2 : tie.Need-kind-requires-2
-kind-requires-2 c κs = search needs
-
-object-requires-2 : tie.Need-object-requires-2
-object-requires-2 c κs = search needs
-
-wait-home-requires-2 : tie.Need-wait-home-requires-2
-wait-home-requires-2 c κs = search needs
 
 returns-3 : tie.Need-returns-3
 unfolding home
@@ -51,17 +24,6 @@ returns-4 c = let i = c .before .before in rw (← i .before .status .ensures, n
 pub home-spec : {M : Type 1} → statement M
 home-spec =
     tie.close
-    (tie.spec
-    status-requires
-    priority-requires
-    ready-anchor-requires
-    returns
-    kind-requires
-    object-requires
-    wait-home-requires
-    returns-2
-    kind-requires-2
-    object-requires-2
-    wait-home-requires-2
-    returns-3
-    returns-4)
+    (tie.spec (λ c κs. search needs) (λ c κs. search needs) (λ c κs. search needs) returns
+    (λ c κs. search needs) (λ c κs. search needs) (λ c κs. search needs) returns-2
+    (λ c κs. search needs) (λ c κs. search needs) (λ c κs. search needs) returns-3 returns-4)

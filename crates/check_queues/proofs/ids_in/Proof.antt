@@ -2,37 +2,12 @@
 use mathlib.Core.Path.{sym, ap, _∙_}
 use Prim.Native.Nat.{ℕ, _*_}
 use denote.Ref.{now}
-use Rattle.memory_columns.specs.declared.Rings.{Rings}
 use Rattle.memory_columns.specs.Layout as Layout
 use Rattle.memory_columns.specs.Layout.{maxPools, maxBlocks, atMost}
 use Rattle.check_queues.specs.Queues.{idsIn}
 use borrow.Author.Needs.{needs}
 use Rattle.check_queues.proofs.ids_in.Statement.{statement}
 use Rattle.check_queues.proofs.ids_in.Tie as tie
-
-enum-told : tie.Need-enum-told
-enum-told c = search needs
-
-system-requires : tie.Need-system-requires
-system-requires c κs = search needs
-
-enum-told-2 : tie.Need-enum-told-2
-enum-told-2 c = search needs
-
-system-requires-2 : tie.Need-system-requires-2
-system-requires-2 c κs = search needs
-
-enum-told-3 : tie.Need-enum-told-3
-enum-told-3 c = search needs
-
-system-requires-3 : tie.Need-system-requires-3
-system-requires-3 c κs = search needs
-
-at-most-requires : tie.Need-at-most-requires
-at-most-requires c κs = search needs
-
-mul-result : tie.Need-mul-result
-mul-result c = search needs
 
 returns : tie.Need-returns
 returns c = let b = now (c .before .before .before .args .words) in c .system .ensures ∙ sym (ap (idsIn b) (c .before .enum-told .given .1))
@@ -49,15 +24,6 @@ returns-3 c =
 pub ids-in-spec : {M : Type 1} → statement M
 ids-in-spec =
     tie.close
-    (tie.spec
-    enum-told
-    system-requires
-    enum-told-2
-    system-requires-2
-    enum-told-3
-    system-requires-3
-    at-most-requires
-    mul-result
-    returns
-    returns-2
-    returns-3)
+    (tie.spec (λ c. search needs) (λ c κs. search needs) (λ c. search needs) (λ c κs. search needs)
+    (λ c. search needs) (λ c κs. search needs) (λ c κs. search needs) (λ c. search needs) returns
+    returns-2 returns-3)

@@ -14,20 +14,8 @@ use borrow.Author.Needs.{needs}
 use Rattle.check_queues.proofs.mail_queued.Statement.{statement}
 use Rattle.check_queues.proofs.mail_queued.Tie as tie
 
-ids-in-requires : tie.Need-ids-in-requires
-ids-in-requires c κs = search needs
-
-at-most-requires : tie.Need-at-most-requires
-at-most-requires c κs = search needs
-
-cast-n : tie.Need-cast-n
-cast-n c = search needs
-
 slice-aggregate-mail-settled : tie.Need-slice-aggregate-mail-settled
 slice-aggregate-mail-settled c = let k = c .before .at-most .ensures .1 in sym (length-take-le _ _ (omega (arith, k)))
-
-mail-settled-requires : tie.Need-mail-settled-requires
-mail-settled-requires c κs = search needs
 
 returns : tie.Need-returns
 unfolding queuedIn
@@ -42,10 +30,5 @@ returns c =
 pub mail-queued-spec : {M : Type 1} → statement M
 mail-queued-spec =
     tie.close
-    (tie.spec
-    ids-in-requires
-    at-most-requires
-    cast-n
-    slice-aggregate-mail-settled
-    mail-settled-requires
-    returns)
+    (tie.spec (λ c κs. search needs) (λ c κs. search needs) (λ c. search needs)
+    slice-aggregate-mail-settled (λ c κs. search needs) returns)

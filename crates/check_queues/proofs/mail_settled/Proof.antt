@@ -7,15 +7,6 @@ use borrow.Author.Needs.{needs}
 use Rattle.check_queues.proofs.mail_settled.Statement.{statement}
 use Rattle.check_queues.proofs.mail_settled.Tie as tie
 
-links-requires : tie.Need-links-requires
-links-requires c κs = search needs
-
-budget-requires : tie.Need-budget-requires
-budget-requires c κs = search needs
-
-survey-queues-requires : tie.Need-survey-queues-requires
-survey-queues-requires c κs = search needs
-
 returns : tie.Need-returns
 unfolding ranges
 returns c =
@@ -25,4 +16,4 @@ returns c =
 
 pub mail-settled-spec : {M : Type 1} → statement M
 mail-settled-spec =
-    tie.close (tie.spec links-requires budget-requires survey-queues-requires returns)
+    tie.close (tie.spec (λ c κs. search needs) (λ c κs. search needs) (λ c κs. search needs) returns)

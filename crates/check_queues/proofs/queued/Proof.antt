@@ -6,24 +6,6 @@ use borrow.Author.Needs.{needs}
 use Rattle.check_queues.proofs.queued.Statement.{statement}
 use Rattle.check_queues.proofs.queued.Tie as tie
 
-enum-told : tie.Need-enum-told
-enum-told c = search needs
-
-tasks-queued-requires : tie.Need-tasks-queued-requires
-tasks-queued-requires c κs = search needs
-
-enum-told-2 : tie.Need-enum-told-2
-enum-told-2 c = search needs
-
-mail-queued-requires : tie.Need-mail-queued-requires
-mail-queued-requires c κs = search needs
-
-enum-told-3 : tie.Need-enum-told-3
-enum-told-3 c = search needs
-
-blocks-queued-requires : tie.Need-blocks-queued-requires
-blocks-queued-requires c κs = search needs
-
 returns : tie.Need-returns
 unfolding queuedIn
 returns c = let a = c .before .before .before .args in c .tasks-queued .ensures ∙ sym (ap (queuedIn (now (a .words)) (now (a .messages))) (c .before .enum-told .given .1))
@@ -38,13 +20,5 @@ returns-3 c = let a = c .before .before .before .args in c .blocks-queued .ensur
 pub queued-spec : {M : Type 1} → statement M
 queued-spec =
     tie.close
-    (tie.spec
-    enum-told
-    tasks-queued-requires
-    enum-told-2
-    mail-queued-requires
-    enum-told-3
-    blocks-queued-requires
-    returns
-    returns-2
-    returns-3)
+    (tie.spec (λ c. search needs) (λ c κs. search needs) (λ c. search needs) (λ c κs. search needs)
+    (λ c. search needs) (λ c κs. search needs) returns returns-2 returns-3)

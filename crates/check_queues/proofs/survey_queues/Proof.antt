@@ -4,18 +4,6 @@ use borrow.Author.Needs.{needs}
 use Rattle.check_queues.proofs.survey_queues.Statement.{statement}
 use Rattle.check_queues.proofs.survey_queues.Tie as tie
 
-links-requires : tie.Need-links-requires
-links-requires c κs = search needs
-
-shift-of-requires : tie.Need-shift-of-requires
-shift-of-requires c κs = search needs
-
-system-requires : tie.Need-system-requires
-system-requires c κs = search needs
-
-survey-requires : tie.Need-survey-requires
-survey-requires c κs = search needs
-
 returns : tie.Need-returns
 returns c =
     let s = c .before in
@@ -23,4 +11,4 @@ returns c =
     ranged-at _ _ _ (f .before .links .ensures .0) (f .shift-of .ensures) (s .system .ensures) (c .survey .ensures)
 
 pub survey-queues-spec : {M : Type 1} → statement M
-survey-queues-spec = tie.close (tie.spec links-requires shift-of-requires system-requires survey-requires returns)
+survey-queues-spec = tie.close (tie.spec (λ c κs. search needs) (λ c κs. search needs) (λ c κs. search needs) (λ c κs. search needs) returns)

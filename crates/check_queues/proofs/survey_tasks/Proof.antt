@@ -4,21 +4,6 @@ use borrow.Author.Needs.{needs}
 use Rattle.check_queues.proofs.survey_tasks.Statement.{statement}
 use Rattle.check_queues.proofs.survey_tasks.Tie as tie
 
-survey-queues-requires : tie.Need-survey-queues-requires
-survey-queues-requires c κs = search needs
-
-survey-queues-requires-2 : tie.Need-survey-queues-requires-2
-survey-queues-requires-2 c κs = search needs
-
-survey-queues-requires-3 : tie.Need-survey-queues-requires-3
-survey-queues-requires-3 c κs = search needs
-
-survey-queues-requires-4 : tie.Need-survey-queues-requires-4
-survey-queues-requires-4 c κs = search needs
-
-survey-queues-requires-5 : tie.Need-survey-queues-requires-5
-survey-queues-requires-5 c κs = search needs
-
 returns : tie.Need-returns
 returns c =
     let s4 = c .before in
@@ -32,10 +17,5 @@ returns c =
 pub survey-tasks-spec : {M : Type 1} → statement M
 survey-tasks-spec =
     tie.close
-    (tie.spec
-    survey-queues-requires
-    survey-queues-requires-2
-    survey-queues-requires-3
-    survey-queues-requires-4
-    survey-queues-requires-5
-    returns)
+    (tie.spec (λ c κs. search needs) (λ c κs. search needs) (λ c κs. search needs)
+    (λ c κs. search needs) (λ c κs. search needs) returns)

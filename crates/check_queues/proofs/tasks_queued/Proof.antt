@@ -13,29 +13,8 @@ use borrow.Author.Needs.{needs}
 use Rattle.check_queues.proofs.tasks_queued.Statement.{statement}
 use Rattle.check_queues.proofs.tasks_queued.Tie as tie
 
-ids-in-requires : tie.Need-ids-in-requires
-ids-in-requires c κs = search needs
-
-at-most-requires : tie.Need-at-most-requires
-at-most-requires c κs = search needs
-
-slice-aggregate-task-homes : tie.Need-slice-aggregate-task-homes
-slice-aggregate-task-homes c = search needs
-
-task-homes-requires : tie.Need-task-homes-requires
-task-homes-requires c κs = search needs
-
-cast-e : tie.Need-cast-e
-cast-e c = search needs
-
-array-share-prefix-homes : tie.Need-array-share-prefix-homes
-array-share-prefix-homes c = search needs
-
 slice-aggregate-tasks-settled : tie.Need-slice-aggregate-tasks-settled
 slice-aggregate-tasks-settled c = sym (length-take-le _ _ (search needs))
-
-tasks-settled-requires : tie.Need-tasks-settled-requires
-tasks-settled-requires c κs = search needs
 
 returns : tie.Need-returns
 unfolding queuedIn
@@ -49,13 +28,6 @@ returns c =
 pub tasks-queued-spec : {M : Type 1} → statement M
 tasks-queued-spec =
     tie.close
-    (tie.spec
-    ids-in-requires
-    at-most-requires
-    slice-aggregate-task-homes
-    task-homes-requires
-    cast-e
-    array-share-prefix-homes
-    slice-aggregate-tasks-settled
-    tasks-settled-requires
-    returns)
+    (tie.spec (λ c κs. search needs) (λ c κs. search needs) (λ c. search needs)
+    (λ c κs. search needs) (λ c. search needs) (λ c. search needs) slice-aggregate-tasks-settled
+    (λ c κs. search needs) returns)

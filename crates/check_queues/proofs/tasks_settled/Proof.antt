@@ -7,15 +7,6 @@ use borrow.Author.Needs.{needs}
 use Rattle.check_queues.proofs.tasks_settled.Statement.{statement}
 use Rattle.check_queues.proofs.tasks_settled.Tie as tie
 
-links-requires : tie.Need-links-requires
-links-requires c κs = search needs
-
-budget-requires : tie.Need-budget-requires
-budget-requires c κs = search needs
-
-survey-tasks-requires : tie.Need-survey-tasks-requires
-survey-tasks-requires c κs = search needs
-
 returns : tie.Need-returns
 returns c =
     let g = c .before in
@@ -24,4 +15,4 @@ returns c =
 
 pub tasks-settled-spec : {M : Type 1} → statement M
 tasks-settled-spec =
-    tie.close (tie.spec links-requires budget-requires survey-tasks-requires returns)
+    tie.close (tie.spec (λ c κs. search needs) (λ c κs. search needs) (λ c κs. search needs) returns)

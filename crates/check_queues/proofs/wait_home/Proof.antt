@@ -5,9 +5,6 @@ use borrow.Author.Needs.{needs}
 use Rattle.check_queues.proofs.wait_home.Statement.{statement}
 use Rattle.check_queues.proofs.wait_home.Tie as tie
 
-wait-anchor-requires : tie.Need-wait-anchor-requires
-wait-anchor-requires c κs = search needs
-
 returns : tie.Need-returns
 unfolding waitHome
 returns c = rw (le-leb 2 _ (c .before .if1 .taken)) (c .wait-anchor .ensures)
@@ -17,4 +14,4 @@ unfolding waitHome
 returns-2 c = rw (lt-leb 2 _ (c .if1 .left))
 
 pub wait-home-spec : {M : Type 1} → statement M
-wait-home-spec = tie.close (tie.spec wait-anchor-requires returns returns-2)
+wait-home-spec = tie.close (tie.spec (λ c κs. search needs) returns returns-2)

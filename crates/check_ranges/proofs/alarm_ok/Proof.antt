@@ -7,21 +7,9 @@ use borrow.Author.Needs.{needs}
 use Rattle.check_ranges.proofs.alarm_ok.Statement.{statement}
 use Rattle.check_ranges.proofs.alarm_ok.Tie as tie
 
-alarm-wakes-requires : tie.Need-alarm-wakes-requires
-alarm-wakes-requires c κs = search needs
-
 returns : tie.Need-returns
 unfolding alarmOk
 returns c = simp (above (c .before .alarm-wakes .ensures) refl (c .if1 .taken))
-
-alarm-task-requires : tie.Need-alarm-task-requires
-alarm-task-requires c κs = search needs
-
-system-requires : tie.Need-system-requires
-system-requires c κs = search needs
-
-within-requires : tie.Need-within-requires
-within-requires c κs = search needs
 
 returns-2 : tie.Need-returns-2
 unfolding alarmOk
@@ -29,27 +17,12 @@ returns-2 c =
     let s = c .before .before in
     simp (failed (within-at (s .before .alarm-task .ensures) (s .system .ensures) (c .before .within .ensures)) (c .if2 .taken), and-false)
 
-alarm-code-requires : tie.Need-alarm-code-requires
-alarm-code-requires c κs = search needs
-
-kept-ok-requires : tie.Need-kept-ok-requires
-kept-ok-requires c κs = search needs
-
 returns-3 : tie.Need-returns-3
 unfolding alarmOk
 returns-3 c =
     let k = c .before .before in
     let w = k .before .before .before .before .before .before in
     simp (failed (kept-at (w .alarm-wakes .ensures) (k .alarm-code .ensures) (c .before .kept-ok .ensures)) (c .if3 .taken), and-false)
-
-alarm-due-requires : tie.Need-alarm-due-requires
-alarm-due-requires c κs = search needs
-
-alarm-period-requires : tie.Need-alarm-period-requires
-alarm-period-requires c κs = search needs
-
-setting-ok-requires : tie.Need-setting-ok-requires
-setting-ok-requires c κs = search needs
 
 returns-4 : tie.Need-returns-4
 unfolding alarmOk
@@ -68,17 +41,6 @@ returns-4 c =
 pub alarm-ok-spec : {M : Type 1} → statement M
 alarm-ok-spec =
     tie.close
-    (tie.spec
-    alarm-wakes-requires
-    returns
-    alarm-task-requires
-    system-requires
-    within-requires
-    returns-2
-    alarm-code-requires
-    kept-ok-requires
-    returns-3
-    alarm-due-requires
-    alarm-period-requires
-    setting-ok-requires
-    returns-4)
+    (tie.spec (λ c κs. search needs) returns (λ c κs. search needs) (λ c κs. search needs)
+    (λ c κs. search needs) returns-2 (λ c κs. search needs) (λ c κs. search needs) returns-3
+    (λ c κs. search needs) (λ c κs. search needs) (λ c κs. search needs) returns-4)

@@ -6,9 +6,6 @@ use borrow.Author.Needs.{needs}
 use Rattle.check_ranges.proofs.counter_ok.Statement.{statement}
 use Rattle.check_ranges.proofs.counter_ok.Tie as tie
 
-counter-requires : tie.Need-counter-requires
-counter-requires c κs = search needs
-
 returns : tie.Need-returns
 unfolding countOk
 returns c = rw (← c .before .counter .ensures, c .if1 .taken)
@@ -17,9 +14,6 @@ returns-2 : tie.Need-returns-2
 unfolding countOk
 returns-2 c = let m = c .before .before .counter in rw (← m .ensures, ne-eqb _ 0 (c .before .if1 .left), lt-leb (m .result) 65535 (omega arith))
 
-counter-requires-2 : tie.Need-counter-requires-2
-counter-requires-2 c κs = search needs
-
 returns-3 : tie.Need-returns-3
 unfolding countOk
 returns-3 c =
@@ -27,9 +21,6 @@ returns-3 c =
     let m = i2 .before .before .counter in
     let n = c .before .counter2 in
     rw (← m .ensures, ← n .ensures, ne-eqb _ 0 (i2 .before .if1 .left), le-leb (m .result) 65535 (omega arith), le-ltb (n .result) (m .result) (omega arith))
-
-alarms-ok-requires : tie.Need-alarms-ok-requires
-alarms-ok-requires c κs = search needs
 
 returns-4 : tie.Need-returns-4
 unfolding countOk
@@ -44,11 +35,5 @@ returns-4 c =
 pub counter-ok-spec : {M : Type 1} → statement M
 counter-ok-spec =
     tie.close
-    (tie.spec
-    counter-requires
-    returns
-    returns-2
-    counter-requires-2
-    returns-3
-    alarms-ok-requires
-    returns-4)
+    (tie.spec (λ c κs. search needs) returns returns-2 (λ c κs. search needs) returns-3
+    (λ c κs. search needs) returns-4)

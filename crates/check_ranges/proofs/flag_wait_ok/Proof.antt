@@ -6,12 +6,6 @@ use borrow.Author.Needs.{needs}
 use Rattle.check_ranges.proofs.flag_wait_ok.Statement.{statement}
 use Rattle.check_ranges.proofs.flag_wait_ok.Tie as tie
 
-within-requires : tie.Need-within-requires
-within-requires c κs = search needs
-
-wish-ok-requires : tie.Need-wish-ok-requires
-wish-ok-requires c κs = search needs
-
 returns : tie.Need-returns
 unfolding flagWaitOk
 returns c = also (sym (c .before .before .within .ensures) ∙ c .before .if1 .taken) (c .wish-ok .ensures)
@@ -21,4 +15,4 @@ unfolding flagWaitOk
 returns-2 c = simp (sym (c .before .within .ensures) ∙ c .if1 .left)
 
 pub flag-wait-ok-spec : {M : Type 1} → statement M
-flag-wait-ok-spec = tie.close (tie.spec within-requires wish-ok-requires returns returns-2)
+flag-wait-ok-spec = tie.close (tie.spec (λ c κs. search needs) (λ c κs. search needs) returns returns-2)

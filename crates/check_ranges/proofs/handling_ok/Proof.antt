@@ -7,9 +7,6 @@ use borrow.Author.Needs.{needs}
 use Rattle.check_ranges.proofs.handling_ok.Statement.{statement}
 use Rattle.check_ranges.proofs.handling_ok.Tie as tie
 
-handling-requires : tie.Need-handling-requires
-handling-requires c κs = search needs
-
 returns : tie.Need-returns
 unfolding openOk
 returns c = rw (← c .before .handling .ensures, c .if1 .taken)
@@ -17,12 +14,6 @@ returns c = rw (← c .before .handling .ensures, c .if1 .taken)
 returns-2 : tie.Need-returns-2
 unfolding openOk
 returns-2 c = let d = c .before .before .handling in rw (← d .ensures, ne-eqb _ 0 (c .before .if1 .left), lt-leb (d .result) maxDepth (omega arith))
-
-handling-requires-2 : tie.Need-handling-requires-2
-handling-requires-2 c κs = search needs
-
-interrupted-ok-requires : tie.Need-interrupted-ok-requires
-interrupted-ok-requires c κs = search needs
 
 returns-3 : tie.Need-returns-3
 unfolding openOk
@@ -35,10 +26,5 @@ returns-3 c =
 pub handling-ok-spec : {M : Type 1} → statement M
 handling-ok-spec =
     tie.close
-    (tie.spec
-    handling-requires
-    returns
-    returns-2
-    handling-requires-2
-    interrupted-ok-requires
+    (tie.spec (λ c κs. search needs) returns returns-2 (λ c κs. search needs) (λ c κs. search needs)
     returns-3)

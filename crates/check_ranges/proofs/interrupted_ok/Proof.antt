@@ -12,20 +12,11 @@ returns : tie.Need-returns
 unfolding interruptedOk
 returns c = rw (c .if1 .taken)
 
-system-requires : tie.Need-system-requires
-system-requires c κs = search needs
-
-within-requires : tie.Need-within-requires
-within-requires c κs = search needs
-
 returns-2 : tie.Need-returns-2
 unfolding interruptedOk
 returns-2 c =
     let s = c .before .before in
     simp (ne-eqb _ 0 (s .before .if1 .left), failed (within-at {r = s .before .before .args .t} refl (s .system .ensures) (c .before .within .ensures)) (c .if2 .taken))
-
-status-requires : tie.Need-status-requires
-status-requires c κs = search needs
 
 returns-3 : tie.Need-returns-3
 returns-3 c =
@@ -45,4 +36,4 @@ returns-4 c =
 pub interrupted-ok-spec : {M : Type 1} → statement M
 interrupted-ok-spec =
     tie.close
-    (tie.spec returns system-requires within-requires returns-2 status-requires returns-3 returns-4)
+    (tie.spec returns (λ c κs. search needs) (λ c κs. search needs) returns-2 (λ c κs. search needs) returns-3 returns-4)

@@ -16,26 +16,8 @@ Inv-loop words messages n mailboxes fine₀ j₀ left₀ fine j left = Saying (m
 abbrev μ-loop : tie.MeasureT-loop
 μ-loop words messages n mailboxes fine₀ j₀ left₀ fine j left = left
 
-system-requires : tie.Need-system-requires Inv-loop μ-loop
-system-requires c κs = search needs
-
 loop-holds : tie.Need-loop-holds Inv-loop μ-loop
 loop-holds c = (refl, omega arith)
-
-mark-of-requires : tie.Need-mark-of-requires Inv-loop μ-loop
-mark-of-requires c κs = search needs
-
-both-requires : tie.Need-both-requires Inv-loop μ-loop
-both-requires c κs = search needs
-
-add-j : tie.Need-add-j Inv-loop μ-loop
-add-j c = search needs
-
-sub-left : tie.Need-sub-left Inv-loop μ-loop
-sub-left c = search needs
-
-loop-less : tie.Need-loop-less Inv-loop μ-loop
-loop-less c = search needs
 
 loop-again : tie.Need-loop-again Inv-loop μ-loop
 loop-again c =
@@ -49,15 +31,6 @@ returns c = said-all _ _ _ _ (c .before .loop .fine) (c .before .loop .inv) (c .
 pub messages-ok-spec : {M : Type 1} → statement M
 messages-ok-spec =
     tie.close
-    (tie.spec
-    Inv-loop
-    μ-loop
-    system-requires
-    loop-holds
-    mark-of-requires
-    both-requires
-    add-j
-    sub-left
-    loop-less
-    loop-again
+    (tie.spec Inv-loop μ-loop (λ c κs. search needs) loop-holds (λ c κs. search needs)
+    (λ c κs. search needs) (λ c. search needs) (λ c. search needs) (λ c. search needs) loop-again
     returns)

@@ -7,18 +7,9 @@ use borrow.Author.Needs.{needs}
 use Rattle.check_ranges.proofs.pool_ok.Statement.{statement}
 use Rattle.check_ranges.proofs.pool_ok.Tie as tie
 
-size-requires : tie.Need-size-requires
-size-requires c κs = search needs
-
-free-requires : tie.Need-free-requires
-free-requires c κs = search needs
-
 returns : tie.Need-returns
 unfolding poolOk
 returns c = rw (← c .before .before .size .ensures, c .if1 .taken)
-
-shr-result : tie.Need-shr-result
-shr-result c = search needs
 
 returns-2 : tie.Need-returns-2
 unfolding poolOk
@@ -30,4 +21,4 @@ returns-3 c = let f = c .before .before in pool-full _ _ (f .before .size .ensur
 
 pub pool-ok-spec : {M : Type 1} → statement M
 pool-ok-spec =
-    tie.close (tie.spec size-requires free-requires returns shr-result returns-2 returns-3)
+    tie.close (tie.spec (λ c κs. search needs) (λ c κs. search needs) returns (λ c. search needs) returns-2 returns-3)

@@ -7,24 +7,9 @@ use borrow.Author.Needs.{needs}
 use Rattle.check_ranges.proofs.present_ok.Statement.{statement}
 use Rattle.check_ranges.proofs.present_ok.Tie as tie
 
-system-requires : tie.Need-system-requires
-system-requires c κs = search needs
-
-priority-requires : tie.Need-priority-requires
-priority-requires c κs = search needs
-
-within-requires : tie.Need-within-requires
-within-requires c κs = search needs
-
 returns : tie.Need-returns
 unfolding presentOk
 returns c = let p = c .before .before in simp (failed (within-at (p .priority .ensures) (p .before .system .ensures) (c .before .within .ensures)) (c .if1 .taken))
-
-start-requires : tie.Need-start-requires
-start-requires c κs = search needs
-
-within-requires-2 : tie.Need-within-requires-2
-within-requires-2 c κs = search needs
 
 returns-2 : tie.Need-returns-2
 unfolding presentOk
@@ -32,30 +17,15 @@ returns-2 c =
     let s = c .before .before in
     simp (failed (within-at (s .start .ensures) (s .before .before .before .before .system .ensures) (c .before .within2 .ensures)) (c .if2 .taken), and-false)
 
-wakeups-requires : tie.Need-wakeups-requires
-wakeups-requires c κs = search needs
-
 returns-3 : tie.Need-returns-3
 unfolding presentOk
 returns-3 c = simp (above (c .before .wakeups .ensures) refl (c .if3 .taken), and-false)
-
-code-requires : tie.Need-code-requires
-code-requires c κs = search needs
-
-word-requires : tie.Need-word-requires
-word-requires c κs = search needs
-
-cell-ok-requires : tie.Need-cell-ok-requires
-cell-ok-requires c κs = search needs
 
 returns-4 : tie.Need-returns-4
 unfolding presentOk
 returns-4 c =
     let w = c .before .before in
     simp (failed (cell-at (w .before .code .ensures) (w .word .ensures) (c .before .cell-ok .ensures)) (c .if4 .taken), and-false)
-
-state-ok-requires : tie.Need-state-ok-requires
-state-ok-requires c κs = search needs
 
 returns-5 : tie.Need-returns-5
 unfolding presentOk
@@ -75,19 +45,7 @@ returns-5 c =
 pub present-ok-spec : {M : Type 1} → statement M
 present-ok-spec =
     tie.close
-    (tie.spec
-    system-requires
-    priority-requires
-    within-requires
-    returns
-    start-requires
-    within-requires-2
-    returns-2
-    wakeups-requires
-    returns-3
-    code-requires
-    word-requires
-    cell-ok-requires
-    returns-4
-    state-ok-requires
-    returns-5)
+    (tie.spec (λ c κs. search needs) (λ c κs. search needs) (λ c κs. search needs) returns
+    (λ c κs. search needs) (λ c κs. search needs) returns-2 (λ c κs. search needs) returns-3
+    (λ c κs. search needs) (λ c κs. search needs) (λ c κs. search needs) returns-4
+    (λ c κs. search needs) returns-5)

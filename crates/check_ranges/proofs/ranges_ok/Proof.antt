@@ -7,87 +7,33 @@ use borrow.Author.Needs.{needs}
 use Rattle.check_ranges.proofs.ranges_ok.Statement.{statement}
 use Rattle.check_ranges.proofs.ranges_ok.Tie as tie
 
-sizes-ok-requires : tie.Need-sizes-ok-requires
-sizes-ok-requires c κs = search needs
-
 returns : tie.Need-returns
 unfolding rangesOk
 returns c = simp (failed (c .before .sizes-ok .ensures) (c .if1 .taken))
-
-system-requires : tie.Need-system-requires
-system-requires c κs = search needs
-
-at-most-requires : tie.Need-at-most-requires
-at-most-requires c κs = search needs
-
-tasks-ok-requires : tie.Need-tasks-ok-requires
-tasks-ok-requires c κs = search needs
 
 returns-2 : tie.Need-returns-2
 unfolding rangesOk
 returns-2 c = let a = c .before .before in simp (loop-fails _ (a .before .system .ensures) (a .at-most .ensures) (c .before .tasks-ok .ensures) (c .if2 .taken), and-false)
 
-system-requires-2 : tie.Need-system-requires-2
-system-requires-2 c κs = search needs
-
-at-most-requires-2 : tie.Need-at-most-requires-2
-at-most-requires-2 c κs = search needs
-
-semaphores-ok-requires : tie.Need-semaphores-ok-requires
-semaphores-ok-requires c κs = search needs
-
 returns-3 : tie.Need-returns-3
 unfolding rangesOk
 returns-3 c = let a = c .before .before in simp (loop-fails _ (a .before .system2 .ensures) (a .at-most2 .ensures) (c .before .semaphores-ok .ensures) (c .if3 .taken), and-false)
-
-system-requires-3 : tie.Need-system-requires-3
-system-requires-3 c κs = search needs
-
-at-most-requires-3 : tie.Need-at-most-requires-3
-at-most-requires-3 c κs = search needs
-
-flags-ok-requires : tie.Need-flags-ok-requires
-flags-ok-requires c κs = search needs
 
 returns-4 : tie.Need-returns-4
 unfolding rangesOk
 returns-4 c = let a = c .before .before in simp (loop-fails _ (a .before .system3 .ensures) (a .at-most3 .ensures) (c .before .flags-ok .ensures) (c .if4 .taken), and-false)
 
-system-requires-4 : tie.Need-system-requires-4
-system-requires-4 c κs = search needs
-
-at-most-requires-4 : tie.Need-at-most-requires-4
-at-most-requires-4 c κs = search needs
-
-pools-ok-requires : tie.Need-pools-ok-requires
-pools-ok-requires c κs = search needs
-
 returns-5 : tie.Need-returns-5
 unfolding rangesOk
 returns-5 c = let a = c .before .before in simp (loop-fails _ (a .before .system4 .ensures) (a .at-most4 .ensures) (c .before .pools-ok .ensures) (c .if5 .taken), and-false)
-
-system-requires-5 : tie.Need-system-requires-5
-system-requires-5 c κs = search needs
-
-at-most-requires-5 : tie.Need-at-most-requires-5
-at-most-requires-5 c κs = search needs
-
-messages-ok-requires : tie.Need-messages-ok-requires
-messages-ok-requires c κs = search needs
 
 returns-6 : tie.Need-returns-6
 unfolding rangesOk
 returns-6 c = let a = c .before .before in simp (loop-fails _ (a .before .system5 .ensures) (a .at-most5 .ensures) (c .before .messages-ok .ensures) (c .if6 .taken), and-false)
 
-handling-ok-requires : tie.Need-handling-ok-requires
-handling-ok-requires c κs = search needs
-
 returns-7 : tie.Need-returns-7
 unfolding rangesOk
 returns-7 c = simp (failed (c .before .handling-ok .ensures) (c .if7 .taken), and-false)
-
-counter-ok-requires : tie.Need-counter-ok-requires
-counter-ok-requires c κs = search needs
 
 returns-8 : tie.Need-returns-8
 unfolding rangesOk
@@ -117,30 +63,10 @@ returns-8 c =
 pub ranges-ok-spec : {M : Type 1} → statement M
 ranges-ok-spec =
     tie.close
-    (tie.spec
-    sizes-ok-requires
-    returns
-    system-requires
-    at-most-requires
-    tasks-ok-requires
-    returns-2
-    system-requires-2
-    at-most-requires-2
-    semaphores-ok-requires
-    returns-3
-    system-requires-3
-    at-most-requires-3
-    flags-ok-requires
-    returns-4
-    system-requires-4
-    at-most-requires-4
-    pools-ok-requires
-    returns-5
-    system-requires-5
-    at-most-requires-5
-    messages-ok-requires
-    returns-6
-    handling-ok-requires
-    returns-7
-    counter-ok-requires
+    (tie.spec (λ c κs. search needs) returns (λ c κs. search needs) (λ c κs. search needs)
+    (λ c κs. search needs) returns-2 (λ c κs. search needs) (λ c κs. search needs)
+    (λ c κs. search needs) returns-3 (λ c κs. search needs) (λ c κs. search needs)
+    (λ c κs. search needs) returns-4 (λ c κs. search needs) (λ c κs. search needs)
+    (λ c κs. search needs) returns-5 (λ c κs. search needs) (λ c κs. search needs)
+    (λ c κs. search needs) returns-6 (λ c κs. search needs) returns-7 (λ c κs. search needs)
     returns-8)

@@ -4,15 +4,6 @@ use borrow.Author.Needs.{needs}
 use Rattle.check_ranges.proofs.rest_ok.Statement.{statement}
 use Rattle.check_ranges.proofs.rest_ok.Tie as tie
 
-wakeups-requires : tie.Need-wakeups-requires
-wakeups-requires c κs = search needs
-
-priority-requires : tie.Need-priority-requires
-priority-requires c κs = search needs
-
-start-requires : tie.Need-start-requires
-start-requires c κs = search needs
-
 returns : tie.Need-returns
 returns c = let i = c .before .before in rw (← i .before .wakeups .ensures, i .if1 .taken, ← c .before .priority .ensures, ← c .start .ensures)
 
@@ -21,4 +12,4 @@ returns-2 c = rw (← c .before .wakeups .ensures, ne-eqb _ 0 (c .if1 .left))
 
 pub rest-ok-spec : {M : Type 1} → statement M
 rest-ok-spec =
-    tie.close (tie.spec wakeups-requires priority-requires start-requires returns returns-2)
+    tie.close (tie.spec (λ c κs. search needs) (λ c κs. search needs) (λ c κs. search needs) returns returns-2)

@@ -9,70 +9,37 @@ use borrow.Author.Needs.{needs}
 use Rattle.check_ranges.proofs.sizes_ok.Statement.{statement}
 use Rattle.check_ranges.proofs.sizes_ok.Tie as tie
 
-system-requires : tie.Need-system-requires
-system-requires c κs = search needs
-
-within-requires : tie.Need-within-requires
-within-requires c κs = search needs
-
 returns : tie.Need-returns
 unfolding sizesOk
 returns c = simp (failed (within-at (c .before .before .system .ensures) refl (c .before .within .ensures)) (c .if1 .taken))
-
-system-requires-2 : tie.Need-system-requires-2
-system-requires-2 c κs = search needs
-
-within-requires-2 : tie.Need-within-requires-2
-within-requires-2 c κs = search needs
 
 returns-2 : tie.Need-returns-2
 unfolding sizesOk
 returns-2 c = simp (failed (within-at (c .before .before .system2 .ensures) refl (c .before .within2 .ensures)) (c .if2 .taken), and-false)
 
-system-requires-3 : tie.Need-system-requires-3
-system-requires-3 c κs = search needs
-
 returns-3 : tie.Need-returns-3
 unfolding sizesOk
 returns-3 c = simp (above (c .before .system3 .ensures) refl (c .if3 .taken), and-false)
-
-system-requires-4 : tie.Need-system-requires-4
-system-requires-4 c κs = search needs
 
 returns-4 : tie.Need-returns-4
 unfolding sizesOk
 returns-4 c = simp (above (c .before .system4 .ensures) refl (c .if4 .taken), and-false)
 
-system-requires-5 : tie.Need-system-requires-5
-system-requires-5 c κs = search needs
-
 returns-5 : tie.Need-returns-5
 unfolding sizesOk
 returns-5 c = simp (above (c .before .system5 .ensures) refl (c .if5 .taken), and-false)
-
-system-requires-6 : tie.Need-system-requires-6
-system-requires-6 c κs = search needs
 
 returns-6 : tie.Need-returns-6
 unfolding sizesOk
 returns-6 c = simp (above (c .before .system6 .ensures) refl (c .if6 .taken), and-false)
 
-system-requires-7 : tie.Need-system-requires-7
-system-requires-7 c κs = search needs
-
 returns-7 : tie.Need-returns-7
 unfolding sizesOk
 returns-7 c = simp (above (c .before .system7 .ensures) refl (c .if7 .taken), and-false)
 
-system-requires-8 : tie.Need-system-requires-8
-system-requires-8 c κs = search needs
-
 returns-8 : tie.Need-returns-8
 unfolding sizesOk
 returns-8 c = simp (large (c .before .system8 .ensures) (c .if8 .taken), and-false)
-
-system-requires-9 : tie.Need-system-requires-9
-system-requires-9 c κs = search needs
 
 returns-9 : tie.Need-returns-9
 unfolding sizesOk
@@ -97,24 +64,8 @@ returns-9 c =
 pub sizes-ok-spec : {M : Type 1} → statement M
 sizes-ok-spec =
     tie.close
-    (tie.spec
-    system-requires
-    within-requires
-    returns
-    system-requires-2
-    within-requires-2
-    returns-2
-    system-requires-3
-    returns-3
-    system-requires-4
-    returns-4
-    system-requires-5
-    returns-5
-    system-requires-6
-    returns-6
-    system-requires-7
-    returns-7
-    system-requires-8
-    returns-8
-    system-requires-9
+    (tie.spec (λ c κs. search needs) (λ c κs. search needs) returns (λ c κs. search needs)
+    (λ c κs. search needs) returns-2 (λ c κs. search needs) returns-3 (λ c κs. search needs)
+    returns-4 (λ c κs. search needs) returns-5 (λ c κs. search needs) returns-6
+    (λ c κs. search needs) returns-7 (λ c κs. search needs) returns-8 (λ c κs. search needs)
     returns-9)

@@ -5,18 +5,6 @@ use borrow.Author.Needs.{needs}
 use Rattle.check_ranges.proofs.state_ok.Statement.{statement}
 use Rattle.check_ranges.proofs.state_ok.Tie as tie
 
-status-requires : tie.Need-status-requires
-status-requires c κs = search needs
-
-rest-ok-requires : tie.Need-rest-ok-requires
-rest-ok-requires c κs = search needs
-
-wait-ok-requires : tie.Need-wait-ok-requires
-wait-ok-requires c κs = search needs
-
-wait-ok-requires-2 : tie.Need-wait-ok-requires-2
-wait-ok-requires-2 c κs = search needs
-
 returns : tie.Need-returns
 unfolding stateOk
 returns c = rw (← c .before .before .status .ensures, c .before .match .keys1) (c .rest-ok .ensures)
@@ -44,14 +32,5 @@ returns-6 c = let r = c .match .rest in rw (← c .before .status .ensures, ne-e
 pub state-ok-spec : {M : Type 1} → statement M
 state-ok-spec =
     tie.close
-    (tie.spec
-    status-requires
-    rest-ok-requires
-    wait-ok-requires
-    wait-ok-requires-2
-    returns
-    returns-2
-    returns-3
-    returns-4
-    returns-5
-    returns-6)
+    (tie.spec (λ c κs. search needs) (λ c κs. search needs) (λ c κs. search needs)
+    (λ c κs. search needs) returns returns-2 returns-3 returns-4 returns-5 returns-6)

@@ -5,15 +5,6 @@ use borrow.Author.Needs.{needs}
 use Rattle.check_ranges.proofs.task_ok.Statement.{statement}
 use Rattle.check_ranges.proofs.task_ok.Tie as tie
 
-status-requires : tie.Need-status-requires
-status-requires c κs = search needs
-
-vacant-ok-requires : tie.Need-vacant-ok-requires
-vacant-ok-requires c κs = search needs
-
-present-ok-requires : tie.Need-present-ok-requires
-present-ok-requires c κs = search needs
-
 returns : tie.Need-returns
 unfolding taskOk
 returns c = rw (is-it (c .before .before .status .ensures) 6 (c .before .if1 .taken)) (c .vacant-ok .ensures)
@@ -24,4 +15,4 @@ returns-2 c = rw (is-not (c .before .before .status .ensures) 6 (c .before .if1 
 
 pub task-ok-spec : {M : Type 1} → statement M
 task-ok-spec =
-    tie.close (tie.spec status-requires vacant-ok-requires present-ok-requires returns returns-2)
+    tie.close (tie.spec (λ c κs. search needs) (λ c κs. search needs) (λ c κs. search needs) returns returns-2)

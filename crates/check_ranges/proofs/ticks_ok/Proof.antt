@@ -5,9 +5,6 @@ use borrow.Author.Needs.{needs}
 use Rattle.check_ranges.proofs.ticks_ok.Statement.{statement}
 use Rattle.check_ranges.proofs.ticks_ok.Tie as tie
 
-within-requires : tie.Need-within-requires
-within-requires c κs = search needs
-
 returns : tie.Need-returns
 unfolding ticksOk
 returns c = rw (c .before .if1 .taken) (c .within .ensures)
@@ -17,4 +14,4 @@ unfolding ticksOk
 returns-2 c = rw (ne-eqb _ 0 (c .if1 .left))
 
 pub ticks-ok-spec : {M : Type 1} → statement M
-ticks-ok-spec = tie.close (tie.spec within-requires returns returns-2)
+ticks-ok-spec = tie.close (tie.spec (λ c κs. search needs) returns returns-2)

@@ -6,36 +6,21 @@ use borrow.Author.Needs.{needs}
 use Rattle.check_ranges.proofs.vacant_ok.Statement.{statement}
 use Rattle.check_ranges.proofs.vacant_ok.Tie as tie
 
-priority-requires : tie.Need-priority-requires
-priority-requires c κs = search needs
-
 returns : tie.Need-returns
 unfolding vacantOk
 returns c = simp (is-not (c .before .priority .ensures) 0 (c .if1 .taken), and-false)
-
-start-requires : tie.Need-start-requires
-start-requires c κs = search needs
 
 returns-2 : tie.Need-returns-2
 unfolding vacantOk
 returns-2 c = simp (is-not (c .before .start .ensures) 0 (c .if2 .taken), and-false)
 
-wakeups-requires : tie.Need-wakeups-requires
-wakeups-requires c κs = search needs
-
 returns-3 : tie.Need-returns-3
 unfolding vacantOk
 returns-3 c = simp (is-not (c .before .wakeups .ensures) 0 (c .if3 .taken), and-false)
 
-code-requires : tie.Need-code-requires
-code-requires c κs = search needs
-
 returns-4 : tie.Need-returns-4
 unfolding vacantOk
 returns-4 c = simp (is-not (c .before .code .ensures) 0 (c .if4 .taken), and-false)
-
-word-requires : tie.Need-word-requires
-word-requires c κs = search needs
 
 returns-5 : tie.Need-returns-5
 unfolding vacantOk
@@ -51,14 +36,5 @@ returns-5 c =
 pub vacant-ok-spec : {M : Type 1} → statement M
 vacant-ok-spec =
     tie.close
-    (tie.spec
-    priority-requires
-    returns
-    start-requires
-    returns-2
-    wakeups-requires
-    returns-3
-    code-requires
-    returns-4
-    word-requires
-    returns-5)
+    (tie.spec (λ c κs. search needs) returns (λ c κs. search needs) returns-2 (λ c κs. search needs)
+    returns-3 (λ c κs. search needs) returns-4 (λ c κs. search needs) returns-5)

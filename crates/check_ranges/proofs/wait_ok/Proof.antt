@@ -5,63 +5,6 @@ use borrow.Author.Needs.{needs}
 use Rattle.check_ranges.proofs.wait_ok.Statement.{statement}
 use Rattle.check_ranges.proofs.wait_ok.Tie as tie
 
-kind-requires : tie.Need-kind-requires
-kind-requires c κs = search needs
-
-wakeups-requires : tie.Need-wakeups-requires
-wakeups-requires c κs = search needs
-
-wakeups-requires-2 : tie.Need-wakeups-requires-2
-wakeups-requires-2 c κs = search needs
-
-ticks-requires : tie.Need-ticks-requires
-ticks-requires c κs = search needs
-
-ticks-ok-requires : tie.Need-ticks-ok-requires
-ticks-ok-requires c κs = search needs
-
-object-requires : tie.Need-object-requires
-object-requires c κs = search needs
-
-system-requires : tie.Need-system-requires
-system-requires c κs = search needs
-
-within-requires : tie.Need-within-requires
-within-requires c κs = search needs
-
-object-requires-2 : tie.Need-object-requires-2
-object-requires-2 c κs = search needs
-
-system-requires-2 : tie.Need-system-requires-2
-system-requires-2 c κs = search needs
-
-wish-requires : tie.Need-wish-requires
-wish-requires c κs = search needs
-
-mode-requires : tie.Need-mode-requires
-mode-requires c κs = search needs
-
-flag-wait-ok-requires : tie.Need-flag-wait-ok-requires
-flag-wait-ok-requires c κs = search needs
-
-object-requires-3 : tie.Need-object-requires-3
-object-requires-3 c κs = search needs
-
-system-requires-3 : tie.Need-system-requires-3
-system-requires-3 c κs = search needs
-
-within-requires-2 : tie.Need-within-requires-2
-within-requires-2 c κs = search needs
-
-object-requires-4 : tie.Need-object-requires-4
-object-requires-4 c κs = search needs
-
-system-requires-4 : tie.Need-system-requires-4
-system-requires-4 c κs = search needs
-
-within-requires-3 : tie.Need-within-requires-3
-within-requires-3 c κs = search needs
-
 returns : tie.Need-returns
 unfolding waitOk
 returns c = rw (← c .before .before .kind .ensures, c .before .match .keys1, ← c .wakeups .ensures)
@@ -93,30 +36,9 @@ returns-7 c = let r = c .match .rest in rw (← c .before .kind .ensures, ne-eqb
 pub wait-ok-spec : {M : Type 1} → statement M
 wait-ok-spec =
     tie.close
-    (tie.spec
-    kind-requires
-    wakeups-requires
-    wakeups-requires-2
-    ticks-requires
-    ticks-ok-requires
-    object-requires
-    system-requires
-    within-requires
-    object-requires-2
-    system-requires-2
-    wish-requires
-    mode-requires
-    flag-wait-ok-requires
-    object-requires-3
-    system-requires-3
-    within-requires-2
-    object-requires-4
-    system-requires-4
-    within-requires-3
-    returns
-    returns-2
-    returns-3
-    returns-4
-    returns-5
-    returns-6
-    returns-7)
+    (tie.spec (λ c κs. search needs) (λ c κs. search needs) (λ c κs. search needs)
+    (λ c κs. search needs) (λ c κs. search needs) (λ c κs. search needs) (λ c κs. search needs)
+    (λ c κs. search needs) (λ c κs. search needs) (λ c κs. search needs) (λ c κs. search needs)
+    (λ c κs. search needs) (λ c κs. search needs) (λ c κs. search needs) (λ c κs. search needs)
+    (λ c κs. search needs) (λ c κs. search needs) (λ c κs. search needs) (λ c κs. search needs)
+    returns returns-2 returns-3 returns-4 returns-5 returns-6 returns-7)
