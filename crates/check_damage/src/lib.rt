@@ -8,8 +8,8 @@ use crate::lines::times_in;
 use check_queues::block_home;
 use check_queues::home;
 use check_queues::ids_in;
-use check_ranges::ranges_ok;
 use check_state::accepts;
+use check_state::in_range;
 use check_state::unserved_ok;
 use memory_columns::CLOCK_LOW;
 use memory_columns::FLAG;
@@ -223,7 +223,7 @@ fn pools_known(words: &[u32; STATE_WORDS]) -> bool
 fn numbers_ok(words: &[u32; STATE_WORDS], messages: &[u32; MESSAGE_WORDS]) -> bool
     ensures { λ r. ⌜ r ≡ Damage.numbersOk (now (words .entry)) (now (messages .entry)) ⌝ }
 {
-    if !ranges_ok(words, messages) {
+    if !in_range(words, messages) {
         return false;
     }
     if !tasks_known(words) {

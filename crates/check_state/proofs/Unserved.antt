@@ -26,8 +26,8 @@ use Rattle.memory_columns.specs.Layout.{stateWords, maxObjects, maxBlocks, word
 use Rattle.memory_queues.specs.Moves.{mailAnchor}
 use Rattle.memory_picture.specs.Picture.{waitShown, stateShown, taskShown, bitsOf, poolShown, tasksShown, messagesShown, storeShown, bodyShown, kindNumber, anchor, lineShown, WholeRings}
 use Rattle.memory_picture.proofs.Done.{used-at}
-use Rattle.check_ranges.specs.Ranges.{every, many}
-use Rattle.check_state.specs.Unserved.{waitFree, waitFreeAt, unservedOk}
+use Rattle.check_ranges.specs.Ranges.{every, many, rangesOk}
+use Rattle.check_state.specs.Unserved.{waitFree, waitFreeAt, unservedOk, accepts, checks}
 use Rattle.check_ranges.proofs.Decisions.{Decides, decides-as, decides-yes, decides-eq, decides-not, decides-every}
 use Rattle.memory_picture.proofs.Cases.{asked, kind-cases, status-cases}
 use Rattle.check_ranges.proofs.Ranges.{manyOf, objects-shown, Ranges}
@@ -164,3 +164,9 @@ module _ (b msgs : List ℕ) (size : length b ≡ stateWords) (R : Ranges b msgs
 
   pub unserved-law : Decides (every (many b Layout.tasks) 1 (unservedOk b)) ((i : ℕ) → In i (tasksShown b) → Unserved (storeShown b msgs) (waitOf (taskShown b i .state)))
   unserved-law = decides-every (many b Layout.tasks) (unservedOk b) (waiter-law b msgs R (Unserved (storeShown b msgs)) tt tt (λ t. tt) object-law)
+
+-- what is out of range passes neither check
+pub out-of-range : (whole : Bool) (b m : List ℕ) → rangesOk b m ≡ false → false ≡ checks whole b m
+unfolding accepts
+out-of-range true b m e = rw e
+out-of-range false b m e = sym e

@@ -37,3 +37,7 @@ readyMarked b = eqb (entry Layout.nonempty b 0) (readyMarks b)
 unfoldable pub accepts : List ℕ → List ℕ → Bool
 accepts b msgs =
     rangesOk b msgs && (queuedIn b msgs Tasks && (readyMarked b && (queuedIn b msgs Messages && (queuedIn b msgs Blocks && every (many b Layout.tasks) 1 (unservedOk b)))))
+
+-- all rules, or the ranges alone
+abbrev pub checks : Bool → List ℕ → List ℕ → Bool
+checks whole b msgs = cond whole (accepts b msgs) (rangesOk b msgs)

@@ -29,12 +29,13 @@ use memory_queues::first;
 use memory_queues::mail_anchor;
 use memory_running::ready_marks;
 ghost use mathlib.Core.Path.{_≡_};
-ghost use mathlib.Core.Bool.{true};
+ghost use mathlib.Core.Bool.{true, _||_};
 ghost use mathlib.Core.Logic.{_↔_};
 ghost use Prim.Native.Nat.{_≤_};
+ghost use lib.Dec.{eqb};
 ghost use Rattle.memory_columns.specs.Layout.{maxMessages};
 ghost use Rattle.memory_picture.specs.Picture.{Accepted};
-ghost use Rattle.check_ranges.specs.Ranges.{every};
+ghost use Rattle.check_ranges.specs.Ranges.{every, rangesOk};
 ghost use Rattle.check_state.specs.Unserved as Unserved;
 
 // ---- nobody beside what would serve him
@@ -54,17 +55,25 @@ fn wait_free(words: &[u32; STATE_WORDS], t: u32) -> bool
     }
 }
 
+// Whether a status is that of a waiting task.
+fn waits(status: u32) -> bool
+    ensures { λ r. ⌜ r ≡ eqb status 3 || eqb status 5 ⌝ }
+{
+    if status == WAIT {
+        true
+    } else {
+        status == WAIT_SUSPEND
+    }
+}
+
 pub fn unserved_ok(words: &[u32; STATE_WORDS], t: u32) -> bool
     ensures { λ r. ⌜ r ≡ Unserved.unservedOk (now (words .entry)) t ⌝ }
 {
-    let s = status(words, t);
-    if s == WAIT {
-        return wait_free(words, t);
+    if waits(status(words, t)) {
+        wait_free(words, t)
+    } else {
+        true
     }
-    if s == WAIT_SUSPEND {
-        return wait_free(words, t);
-    }
-    true
 }
 
 fn all_unserved(words: &[u32; STATE_WORDS], n: u32) -> bool
@@ -94,12 +103,15 @@ fn ready_marked(words: &[u32; STATE_WORDS]) -> bool
     kept == marks
 }
 
-// All rules, in order.
-fn accepts_test(words: &[u32; STATE_WORDS], messages: &[u32; MESSAGE_WORDS]) -> bool
-    ensures { λ r. ⌜ r ≡ Unserved.accepts (now (words .entry)) (now (messages .entry)) ⌝ }
+// All rules, in order, or the ranges alone. Whoever asks for the ranges asks here, so that they are tried in one place and stand in the check itself.
+fn accepts_test(words: &[u32; STATE_WORDS], messages: &[u32; MESSAGE_WORDS], whole: bool) -> bool
+    ensures { λ r. ⌜ r ≡ Unserved.checks whole (now (words .entry)) (now (messages .entry)) ⌝ }
 {
     if !ranges_ok(words, messages) {
         return false;
+    }
+    if !whole {
+        return true;
     }
     if !queued(words, messages, Rings::Tasks) {
         return false;
@@ -123,5 +135,12 @@ pub fn accepts(words: &[u32; STATE_WORDS], messages: &[u32; MESSAGE_WORDS]) -> b
     // A part says how long the whole is: a proof reads it here.
     let _all = &words[..];
     let _marks = &messages[..];
-    accepts_test(words, messages)
+    accepts_test(words, messages, true)
+}
+
+// Whether every number but those that stand in queues lies in its range.
+pub fn in_range(words: &[u32; STATE_WORDS], messages: &[u32; MESSAGE_WORDS]) -> bool
+    ensures { λ r. ⌜ r ≡ rangesOk (now (words .entry)) (now (messages .entry)) ⌝ }
+{
+    accepts_test(words, messages, false)
 }

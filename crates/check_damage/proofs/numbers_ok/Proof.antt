@@ -6,19 +6,19 @@ use borrow.Author.Needs.{needs}
 use Rattle.check_damage.proofs.numbers_ok.Statement.{statement}
 use Rattle.check_damage.proofs.numbers_ok.Tie as tie
 
-ranges-ok-requires : tie.Need-ranges-ok-requires
-ranges-ok-requires c κs = search needs
+in-range-requires : tie.Need-in-range-requires
+in-range-requires c κs = search needs
 
 returns : tie.Need-returns
 unfolding numbersOk
-returns c = simp (failed (c .before .ranges-ok .ensures) (c .if1 .taken))
+returns c = simp (failed (c .before .in-range .ensures) (c .if1 .taken))
 
 tasks-known-requires : tie.Need-tasks-known-requires
 tasks-known-requires c κs = search needs
 
 returns-2 : tie.Need-returns-2
 unfolding numbersOk
-returns-2 c = let i = c .before .before in also (passed (i .before .ranges-ok .ensures) (i .if1 .left)) (simp (failed (c .before .tasks-known .ensures) (c .if2 .taken)))
+returns-2 c = let i = c .before .before in also (passed (i .before .in-range .ensures) (i .if1 .left)) (simp (failed (c .before .tasks-known .ensures) (c .if2 .taken)))
 
 mails-known-requires : tie.Need-mails-known-requires
 mails-known-requires c κs = search needs
@@ -28,7 +28,7 @@ unfolding numbersOk
 returns-3 c =
     let j = c .before .before in
     let i = j .before .before in
-    also (passed (i .before .ranges-ok .ensures) (i .if1 .left)) (also (passed (j .before .tasks-known .ensures) (j .if2 .left)) (simp (failed (c .before .mails-known .ensures) (c .if3 .taken))))
+    also (passed (i .before .in-range .ensures) (i .if1 .left)) (also (passed (j .before .tasks-known .ensures) (j .if2 .left)) (simp (failed (c .before .mails-known .ensures) (c .if3 .taken))))
 
 pools-known-requires : tie.Need-pools-known-requires
 pools-known-requires c κs = search needs
@@ -39,13 +39,13 @@ returns-4 c =
     let k = c .before in
     let j = k .before .before in
     let i = j .before .before in
-    also (passed (i .before .ranges-ok .ensures) (i .if1 .left)) (also (passed (j .before .tasks-known .ensures) (j .if2 .left)) (also (passed (k .before .mails-known .ensures) (k .if3 .left)) (c .pools-known .ensures)))
+    also (passed (i .before .in-range .ensures) (i .if1 .left)) (also (passed (j .before .tasks-known .ensures) (j .if2 .left)) (also (passed (k .before .mails-known .ensures) (k .if3 .left)) (c .pools-known .ensures)))
 
 pub numbers-ok-spec : {M : Type 1} → statement M
 numbers-ok-spec =
     tie.close
     (tie.spec
-    ranges-ok-requires
+    in-range-requires
     returns
     tasks-known-requires
     returns-2
