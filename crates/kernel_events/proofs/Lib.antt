@@ -1,2 +1,3 @@
 -- Laws of events.
 pub mod Served
+pub mod Written

@@ -41,7 +41,7 @@ use Rattle.call_dispatch.proofs.Done.{does-law}
 use Rattle.check_damage.specs.declared.Breach.{Breach}
 use Rattle.check_damage.specs.Judged.{Judged}
 use Rattle.kernel_events.specs.Steps.{Reply, reply, told, unsound, Step}
-use Rattle.kernel_events.specs.Serving.{replied, Known}
+use Rattle.kernel_events.specs.Serving.{replied, Known, Misnames}
 
 -- ---- words
 
@@ -122,6 +122,21 @@ module _ {f : Breach} {me : ℕ} {b m : List ℕ} (K : Known f me b m) (s : f .c
       let from : g ≡ handles v h = eg ∙ ap (λ (y : Bool). h && y) inside in
       let y : numbered v g i j a c d ≡ judge v (call x n a c d) = rw (from, mine, ej, eh) (named-call v x n a c d (sym et ∙ z)) in
       done-step (call x n a c d) b m b′ m′ here w (subst (λ (q : Verdict). Does q o b m b′ m′) y (D here)) (λ A. er ∙ running-law b′ m′ A)
+
+-- from no context
+pub misnamed-step : {f : Breach} {me : ℕ} {b m : List ℕ} (K : Known f me b m) (x n a c d : ℤ) → Words (call x n a c d) → above x 1 ≡ true → {r : Reply} → Misnames f me r → Step (call x n a c d) b m r b m
+misnamed-step {f} {me} {b} {m} K x n a c d w e {r} M = go (ℤ-discrete (f .code) (pos 0))
+  where
+    go : Dec (f .code ≡ pos 0) → Step (call x n a c d) b m r b m
+    go (yes s) = subst (λ (q : Reply). Step (call x n a c d) b m q b m) (sym (M .0 s)) (call-misnamed K s x n a c d w refl e refl)
+    go (no s) = let z : Accepted b m → ⊥ = λ A. s (K .0 .1 A) in unsound-step (call x n a c d) b m r w z (M .1 s ∙ K .2 z)
+
+-- from a context, as an event of five words
+pub named-kind : (x n a b c : ℤ) → above x 1 ≡ false → eventOf x n a b c ≡ call x n a b c
+named-kind (pos zero) n a b c e = refl
+named-kind (pos (suc zero)) n a b c e = refl
+named-kind (pos (suc (suc k))) n a b c e = absurd (true≢false (sym (le-leb 2 (suc (suc k)) (omega arith)) ∙ e))
+named-kind (negsuc k) n a b c e = absurd (true≢false e)
 
 -- ---- events of five words, by the bits of the kind
 

@@ -1,9 +1,10 @@
 -- What serves an event on a memory of which it is known whether it is sound, who runs, and what is broken.
 use mathlib.Core.List.{List}
-use mathlib.Core.Logic.{_↔_}
+use mathlib.Core.Logic.{_↔_, _≢_}
 use mathlib.Core.Path.{_≡_}
 use Prim.Native.Nat.{ℕ}
 use lib.IntN.{pos}
+use Rattle.rules.specs.Codes.{number, H-CALL}
 use Rattle.rules.specs.Events.{Event}
 use Rattle.rules.specs.View.{running}
 use Rattle.memory_picture.specs.Picture.{viewShown, Accepted}
@@ -22,3 +23,7 @@ Known f me b m = ((f .code ≡ pos 0) ↔ Accepted b m) × (Accepted b m → me 
 -- a step, for who knows this
 abbrev pub Serves : Event → Breach → ℕ → List ℕ → List ℕ → Reply → List ℕ → List ℕ → Type 0
 Serves e f me b m r b′ m′ = Known f me b m → Step e b m r b′ m′
+
+-- what a call from no context answers: H_CALL, or what is broken
+abbrev pub Misnames : Breach → ℕ → Reply → Type 0
+Misnames f me r = (f .code ≡ pos 0 → r ≡ reply (number H-CALL) 0 0 me 0) × (f .code ≢ pos 0 → r ≡ reply (f .code) (f .id) 0 0 0)

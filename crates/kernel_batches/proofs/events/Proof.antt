@@ -14,8 +14,8 @@ fit-requires c κs = search needs
 enum-told : tie.Need-enum-told
 enum-told c = search needs
 
-serve-all-requires : tie.Need-serve-all-requires
-serve-all-requires c κs = let e = c .before .before .before .before in sym (e .before .before .fit .ensures) ∙ e .enum-told .given .1
+run-all-requires : tie.Need-run-all-requires
+run-all-requires c κs = let e = c .before .before .before .before in sym (e .before .before .fit .ensures) ∙ e .enum-told .given .1
 
 enum-told-2 : tie.Need-enum-told-2
 enum-told-2 c = search needs
@@ -38,7 +38,7 @@ returns c =
     let e = s .before .before .before .before .before in
     let f = e .before .before in
     let g = f .before .before in
-    batch-done (now (g .args .events)) (lent (now (g .args .words)) (now (g .args .messages)) (now (g .args .codes)) (now (g .args .answers))) (f .fit .ensures) _ (e .enum-told .given .1) (s .serve-all .ensures)
+    batch-done (now (g .args .events)) (lent (now (g .args .words)) (now (g .args .messages)) (now (g .args .codes)) (now (g .args .answers))) (f .fit .ensures) _ (e .enum-told .given .1) (s .run-all .ensures)
 
 returns-2 : tie.Need-returns-2
 unfolding isDone
@@ -67,7 +67,7 @@ events-spec =
     (tie.spec
     fit-requires
     enum-told
-    serve-all-requires
+    run-all-requires
     enum-told-2
     enum-told-3
     enum-told-4

@@ -20,8 +20,8 @@ start-requires c κs = search needs
 enum-told-2 : tie.Need-enum-told-2
 enum-told-2 c = search needs
 
-serve-all-requires : tie.Need-serve-all-requires
-serve-all-requires c κs = let e = c .before .before .before .before .before .before .before .before .before in sym (e .before .before .fit .ensures) ∙ e .enum-told .given .1
+run-all-requires : tie.Need-run-all-requires
+run-all-requires c κs = let e = c .before .before .before .before .before .before .before .before .before in sym (e .before .before .fit .ensures) ∙ e .enum-told .given .1
 
 enum-known-d : tie.Need-enum-known-d
 enum-known-d c = search needs
@@ -49,7 +49,7 @@ returns c =
     let e = b .before .before .before in
     let f = e .before .before in
     let g = f .before .before .before in
-    run-done (now (g .args .events)) (lent (now (g .args .words)) (now (g .args .messages)) (now (g .args .codes)) (now (g .args .answers))) (f .fit .ensures) (e .enum-told .given .1) (now (g .args .setup)) _ _ _ (b .start .ensures) _ (t .enum-told2 .given .1) (s .serve-all .ensures)
+    run-done (now (g .args .events)) (lent (now (g .args .words)) (now (g .args .messages)) (now (g .args .codes)) (now (g .args .answers))) (f .fit .ensures) (e .enum-told .given .1) (now (g .args .setup)) _ _ _ (b .start .ensures) _ (t .enum-told2 .given .1) (s .run-all .ensures)
 
 returns-2 : tie.Need-returns-2
 returns-2 c =
@@ -88,7 +88,7 @@ run-spec =
     enum-told
     start-requires
     enum-told-2
-    serve-all-requires
+    run-all-requires
     enum-known-d
     enum-told-3
     enum-told-4

@@ -1,6 +1,7 @@
--- `kernel_events::call` meets its contract: by the check and the running task. Assumes nothing.
+-- `kernel_events::call` meets its contract: by the check, the running task and the context. Assumes nothing.
+use mathlib.Core.Path.{sym, _∙_}
 use mir.Facts.{toZ-ofZ}
-use Rattle.kernel_events.proofs.Served.{known-first}
+use Rattle.kernel_events.proofs.Served.{call-words, known-first, misnamed-step, named-kind}
 use borrow.Author.Needs.{needs}
 use Rattle.kernel_events.proofs.call.Statement.{statement}
 use Rattle.kernel_events.proofs.call.Tie as tie
@@ -11,15 +12,35 @@ judged-requires c κs = search needs
 running-task-requires : tie.Need-running-task-requires
 running-task-requires c κs = search needs
 
-serve-call-requires : tie.Need-serve-call-requires
-serve-call-requires c κs = search needs
+is-above-requires : tie.Need-is-above-requires
+is-above-requires c κs = search needs
+
+misnamed-requires : tie.Need-misnamed-requires
+misnamed-requires c κs = search needs
 
 returns : tie.Need-returns
 returns c =
-    let r = c .before .before .before in
-    let a = r .before .before in
-    let g = a .before .before .before in
-    (rw (toZ-ofZ (g .fits .context), toZ-ofZ (g .fits .number), toZ-ofZ (g .fits .a), toZ-ofZ (g .fits .b), toZ-ofZ (g .fits .c)) at (c .serve-call .ensures)) (known-first _ _ (a .judged .ensures) (r .running-task .ensures))
+    let i = c .before in
+    let a = i .before in
+    let r = a .before in
+    let j = r .before .before in
+    let g = j .before .before .before in
+    misnamed-step (known-first _ _ (j .judged .ensures) (r .running-task .ensures)) _ _ _ _ _ (call-words _ _ _ _ _ (g .fits .context) (g .fits .number) (g .fits .a) (g .fits .b) (g .fits .c))
+    (sym (rw (toZ-ofZ (g .fits .context)) at (a .is-above .ensures)) ∙ i .if1 .taken) (c .misnamed .ensures)
+
+serve-requires : tie.Need-serve-requires
+serve-requires c κs = search needs
+
+returns-2 : tie.Need-returns-2
+returns-2 c =
+    let i = c .before .before .before in
+    let a = i .before in
+    let r = a .before in
+    let j = r .before .before in
+    let g = j .before .before .before in
+    let context = rw (toZ-ofZ (g .fits .context)) at (a .is-above .ensures) in
+    (rw (toZ-ofZ (g .fits .context), toZ-ofZ (g .fits .number), toZ-ofZ (g .fits .a), toZ-ofZ (g .fits .b), toZ-ofZ (g .fits .c), named-kind (g .args .context) (g .args .number) (g .args .a) (g .args .b) (g .args .c) (sym context ∙ i .if1 .left)) at (c .serve .ensures))
+    (known-first _ _ (j .judged .ensures) (r .running-task .ensures))
 
 pub call-spec : {M : Type 1} → statement M
-call-spec = tie.close (tie.spec judged-requires running-task-requires serve-call-requires returns)
+call-spec = tie.close (tie.spec judged-requires running-task-requires is-above-requires misnamed-requires returns serve-requires returns-2)

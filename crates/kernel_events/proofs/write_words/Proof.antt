@@ -1,9 +1,9 @@
--- `kernel_batches::write_words` meets its contract. By its four stores. Assumes nothing.
+-- `kernel_events::write_words` meets its contract. By its four stores. Assumes nothing.
 use lib.ListN.{length-set}
 use native.Mathlib.Omega.{arith}
 use borrow.Author.Needs.{needs}
-use Rattle.kernel_batches.proofs.write_words.Statement.{statement}
-use Rattle.kernel_batches.proofs.write_words.Tie as tie
+use Rattle.kernel_events.proofs.write_words.Statement.{statement}
+use Rattle.kernel_events.proofs.write_words.Tie as tie
 
 mul-at : tie.Need-mul-at
 mul-at c = search needs

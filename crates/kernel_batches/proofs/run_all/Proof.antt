@@ -1,0 +1,34 @@
+-- `kernel_batches::run_all` meets its contract: by the check and the running task. Assumes nothing.
+use denote.Ref.{now}
+use Rattle.kernel_events.proofs.Served.{known-first}
+use Rattle.kernel_batches.specs.Batches.{lent}
+use Rattle.kernel_batches.proofs.Batches.{fit-room}
+use borrow.Author.Needs.{needs}
+use Rattle.kernel_batches.proofs.run_all.Statement.{statement}
+use Rattle.kernel_batches.proofs.run_all.Tie as tie
+
+judged-requires : tie.Need-judged-requires
+judged-requires c κs = search needs
+
+running-task-requires : tie.Need-running-task-requires
+running-task-requires c κs = search needs
+
+serve-all-requires : tie.Need-serve-all-requires
+serve-all-requires c κs = search needs
+
+same-length : tie.Need-same-length
+same-length c = search needs
+
+same-length-2 : tie.Need-same-length-2
+same-length-2 c = search needs
+
+returns : tie.Need-returns
+returns c =
+    let s = c .before .before .before in
+    let r = s .before .before .before .before .before in
+    let j = r .before .before in
+    let g = j .before .before .before .before in
+    s .serve-all .ensures (known-first _ _ (j .judged .ensures) (r .running-task .ensures)) (fit-room _ (lent (now (g .args .words)) (now (g .args .messages)) (now (g .args .codes)) (now (g .args .answers))) (g .pre))
+
+pub run-all-spec : {M : Type 1} → statement M
+run-all-spec = tie.close (tie.spec judged-requires running-task-requires serve-all-requires same-length same-length-2 returns)
