@@ -3,7 +3,8 @@
 //!
 //! Each row sets two sides beside each other in one run: they take turns, round after round, each from the same state over the same events,
 //! and the quickest round of each counts. Two kernels must have answered alike. With two words, a side (events, calls, rings,
-//! checked, c, checkedc) and a setup (small, middle, large), that side alone plays the mixed events once, for a profiler.
+//! checked, c, checkedc) and a setup (small, middle, large), that side alone plays the mixed events once, for a profiler; with `blocks`
+//! as the second word, the grants and returns on large.
 use okrozumba::brightness::Curve;
 use okrozumba::recorder::Recorder;
 use okrozumba::{Answer, State};
@@ -553,7 +554,10 @@ fn profiled(side: &str, name: &str) {
         "middle" => middle(),
         _ => large(),
     };
-    let events = &mixed(s, MIXED);
+    let events = &match name {
+        "blocks" => pair_of_blocks(),
+        _ => mixed(s, MIXED),
+    };
     let to = &mut Answers::of(events);
     match side {
         "events" => Events(proved(s)).play(events, to),
