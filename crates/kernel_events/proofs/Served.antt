@@ -52,6 +52,16 @@ word-of (negsuc n) h = h
 pub call-words : (x n a b c : ℤ) → SFits w32 x → SFits w32 n → SFits w32 a → SFits w32 b → SFits w32 c → Words (call x n a b c)
 call-words x n a b c p q r s t = (word-of x (p .sfits), word-of n (q .sfits), word-of a (r .sfits), word-of b (s .sfits), word-of c (t .sfits))
 
+-- an event of five words
+pub event-words : (k n a b c : ℤ) → Words (call k n a b c) → Words (eventOf k n a b c)
+event-words (pos zero) n a b c w = w
+event-words (pos (suc zero)) n a b c w = w
+event-words (pos (suc (suc zero))) n a b c w = tt
+event-words (pos (suc (suc (suc zero)))) n a b c w = tt
+event-words (pos (suc (suc (suc (suc zero))))) n a b c w = tt
+event-words (pos (suc (suc (suc (suc (suc k)))))) n a b c w = w
+event-words (negsuc k) n a b c w = w
+
 -- ---- steps
 
 event-told : (v : View) (e : Event) → told (served v e .answer) ≡ reply (number (judge v e .code)) (judge v e .w1) (judge v e .w2) (running (next v e)) (releasedCount (v .body .tasks) (next v e .body .tasks))
@@ -106,21 +116,18 @@ named-call v (pos (suc zero)) (negsuc n) a b c e = refl
 named-call v (pos (suc (suc k))) n a b c e = absurd (true≢false (sym (le-leb 2 (suc (suc k)) (omega arith)) ∙ e))
 named-call v (negsuc k) n a b c e = absurd (true≢false e)
 
-module _ {f : Breach} {me : ℕ} {b m : List ℕ} (K : Known f me b m) (s : f .code ≡ pos 0) (x n a c d : ℤ) (w : Words (call x n a c d)) {t : Bool} (et : t ≡ above x 1) where
-  here : Accepted b m
-  here = K .0 .0 s
+module _ {me : ℕ} {b m : List ℕ} (here : Accepted b m) (runs : me ≡ running (viewShown b m)) (x n a c d : ℤ) (w : Words (call x n a c d)) where
+  pub call-misnamed : above x 1 ≡ true → {o : Outcome} → o ≡ outcome (number H-CALL) 0 0 0 → Step (call x n a c d) b m (replied o me) b m
+  call-misnamed z e = done-step (call x n a c d) b m b m here w (rw (misnamed (viewShown b m) x n a c d z) (refuses-with H-CALL e)) (λ _. runs)
 
-  pub call-misnamed : t ≡ true → {o : Outcome} → o ≡ outcome (number H-CALL) 0 0 0 → Step (call x n a c d) b m (replied o me) b m
-  call-misnamed z e = done-step (call x n a c d) b m b m here w (rw (misnamed (viewShown b m) x n a c d (sym et ∙ z)) (refuses-with H-CALL e)) (K .1)
-
-  pub call-done : t ≡ false → {h q g : Bool} {i j r : ℕ} {o : Outcome} {b′ m′ : List ℕ} → h ≡ eqb (nat x) 1 → j ≡ nat n → q ≡ isOpen (handlersShown b) → i ≡ cond (h || q) 0 me → g ≡ h && q
+  pub call-done : above x 1 ≡ false → {h q g : Bool} {i j r : ℕ} {o : Outcome} {b′ m′ : List ℕ} → h ≡ eqb (nat x) 1 → j ≡ nat n → q ≡ isOpen (handlersShown b) → i ≡ cond (h || q) 0 me → g ≡ h && q
       → Dispatches g i j a c d o b m b′ m′ → r ≡ runningOf b′ → Step (call x n a c d) b m (replied o r) b′ m′
   call-done z {h} {q} {g} {i} {j} {r} {o} {b′} {m′} eh ej eq ei eg D er =
       let v : View = viewShown b m in
       let inside : q ≡ isOpen (v .body .handlers) = eq ∙ ap isOpen (sym (handlers-are b m)) in
-      let mine : i ≡ caller v h = ei ∙ (λ k. cond (h || inside k) 0 (K .1 here k)) in
+      let mine : i ≡ caller v h = ei ∙ (λ k. cond (h || inside k) 0 (runs k)) in
       let from : g ≡ handles v h = eg ∙ ap (λ (y : Bool). h && y) inside in
-      let y : numbered v g i j a c d ≡ judge v (call x n a c d) = rw (from, mine, ej, eh) (named-call v x n a c d (sym et ∙ z)) in
+      let y : numbered v g i j a c d ≡ judge v (call x n a c d) = rw (from, mine, ej, eh) (named-call v x n a c d z) in
       done-step (call x n a c d) b m b′ m′ here w (subst (λ (q : Verdict). Does q o b m b′ m′) y (D here)) (λ A. er ∙ running-law b′ m′ A)
 
 -- from no context
@@ -128,7 +135,7 @@ pub misnamed-step : {f : Breach} {me : ℕ} {b m : List ℕ} (K : Known f me b m
 misnamed-step {f} {me} {b} {m} K x n a c d w e {r} M = go (ℤ-discrete (f .code) (pos 0))
   where
     go : Dec (f .code ≡ pos 0) → Step (call x n a c d) b m r b m
-    go (yes s) = subst (λ (q : Reply). Step (call x n a c d) b m q b m) (sym (M .0 s)) (call-misnamed K s x n a c d w refl e refl)
+    go (yes s) = subst (λ (q : Reply). Step (call x n a c d) b m q b m) (sym (M .0 s)) (let A = K .0 .0 s in call-misnamed A (K .1 A) x n a c d w e refl)
     go (no s) = let z : Accepted b m → ⊥ = λ A. s (K .0 .1 A) in unsound-step (call x n a c d) b m r w z (M .1 s ∙ K .2 z)
 
 -- from a context, as an event of five words

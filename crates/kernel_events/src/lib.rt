@@ -1,5 +1,5 @@
-// Every event on every memory: `call`, `tick`, `enter` and `leave`. Nobody has to check first. `serve` is for `kernel_batches`, which knows whether the state is
-// sound and who runs, and promises as much as that knowledge (`Serves`).
+// Every event on every memory: `call`, `tick`, `enter` and `leave`. Nobody has to check first. `serve_all` and `serve` are for who knows whether the
+// state is sound and who runs, and promise as much as that knowledge (`ServesAll`, `Serves`).
 use call_dispatch::dispatch;
 use call_judging::is_above;
 use call_words::Outcome;
@@ -19,7 +19,7 @@ ghost use mathlib.Core.Bool.{cond, _&&_, _||_};
 ghost use Rattle.rules.specs.Events as Events;
 ghost use Rattle.rules.specs.Events.{eventOf};
 ghost use Rattle.kernel_events.specs.Steps.{reply, unsound, Step};
-ghost use Rattle.kernel_events.specs.Serving.{replied, Serves, Misnames};
+ghost use Rattle.kernel_events.specs.Serving.{replied, Serves, ServesCall, Misnames};
 ghost use Rattle.kernel_events.specs.Written.{lent, answered, ServesAt, ServesAll};
 
 // The context of a call, or the kind of an event.
@@ -84,11 +84,10 @@ fn damaged(found: Breach) -> Answer
     }
 }
 
-// A call. It is known whether the state is sound and, if so, that `me` runs.
+// A call from a context that is one. It is known that the state is sound and that `me` runs.
 fn serve_call(
     words: &mut [u32; STATE_WORDS],
     messages: &mut [u32; 256],
-    found: Breach,
     me: u32,
     context: i32,
     number: i32,
@@ -96,14 +95,8 @@ fn serve_call(
     b: i32,
     c: i32,
 ) -> Answer
-    ensures { λ r. ⌜ Serves (Events.call context number a b c) found me (now (words .entry)) (now (messages .entry)) (reply (r .code) (r .w1) (r .w2) (r .running) (r .released)) (now (words .exit)) (now (messages .exit)) ⌝ }
+    ensures { λ r. ⌜ ServesCall context number a b c me (now (words .entry)) (now (messages .entry)) (reply (r .code) (r .w1) (r .w2) (r .running) (r .released)) (now (words .exit)) (now (messages .exit)) ⌝ }
 {
-    if found.code != SOUND {
-        return damaged(found);
-    }
-    if is_above(context, HANDLER) {
-        return answer_of(refuse(H_CALL), me);
-    }
     let handler = named(context) == HANDLER;
     let n = named(number);
     let inside = is_open(words);
@@ -113,7 +106,7 @@ fn serve_call(
     answer_of(o, runs)
 }
 
-// A tick, where the same is known.
+// A tick, where it is known whether the state is sound and, if so, that `me` runs.
 fn serve_tick(
     words: &mut [u32; STATE_WORDS],
     messages: &[u32; 256],
@@ -164,7 +157,17 @@ fn serve_leave(
     answer_of(o, next)
 }
 
-// An event of five words: kind (0 task, 1 handler, 2 tick, 3 entry, 4 return), call, a, b, c.
+// What a call from a context that is none answers.
+fn misnamed(found: Breach, me: u32) -> Answer
+    ensures { λ r. ⌜ Misnames found me (reply (r .code) (r .w1) (r .w2) (r .running) (r .released)) ⌝ }
+{
+    if found.code != SOUND {
+        return damaged(found);
+    }
+    answer_of(refuse(H_CALL), me)
+}
+
+// An event of five words: kind (0 task, 1 handler, 2 tick, 3 entry, 4 return), call, a, b, c. Calls are tried for before the rest.
 fn serve_event(
     words: &mut [u32; STATE_WORDS],
     messages: &mut [u32; 256],
@@ -178,11 +181,17 @@ fn serve_event(
 ) -> Answer
     ensures { λ r. ⌜ Serves (eventOf kind number a b c) found me (now (words .entry)) (now (messages .entry)) (reply (r .code) (r .w1) (r .w2) (r .running) (r .released)) (now (words .exit)) (now (messages .exit)) ⌝ }
 {
+    if found.code != SOUND {
+        return damaged(found);
+    }
+    if !is_above(kind, HANDLER) {
+        return serve_call(words, messages, me, kind, number, a, b, c);
+    }
     match kind {
         TICK => serve_tick(words, messages, found, me),
         ENTRY => serve_enter(words, messages, found, me),
         RETURN => serve_leave(words, messages, found, me),
-        _ => serve_call(words, messages, found, me, kind, number, a, b, c),
+        _ => misnamed(found, me),
     }
 }
 
@@ -300,16 +309,6 @@ pub fn serve(
         running: answer[2],
         released: answer[3],
     }
-}
-
-// What a call from a context that is none answers.
-fn misnamed(found: Breach, me: u32) -> Answer
-    ensures { λ r. ⌜ Misnames found me (reply (r .code) (r .w1) (r .w2) (r .running) (r .released)) ⌝ }
-{
-    if found.code != SOUND {
-        return damaged(found);
-    }
-    answer_of(refuse(H_CALL), me)
 }
 
 // A call from a context (0 task, 1 handler) by its number.
