@@ -15,7 +15,7 @@
 //!
 //! `rt staticlib okrozumba`, in the repository's root, proves the kernel and writes `target/staticlib/libokrozumba.a` for x86-64 Linux; the
 //! build script links that. Set `OKROZUMBA_ARCHIVE` to another folder with a `libokrozumba.a` to link that one. The archive needs no more of
-//! the C library than `memset`.
+//! the C library than `memset` and `memcpy`.
 //!
 //! # Example
 //!

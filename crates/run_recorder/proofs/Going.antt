@@ -1,29 +1,30 @@
 -- A part, byte by byte: what was taken so far, and one byte more. Assumes nothing.
-use mathlib.Core.Bool.{Bool, true, false, cond, _&&_}
+use mathlib.Core.Bool.{Bool, true, false, true≢false, cond, _&&_}
 use mathlib.Core.List.{List, [], _∷_, _++_, append-nil, append-assoc}
 use mathlib.Core.Logic.{_≢_}
 use mathlib.Core.Path.{_≡_, refl, sym, ap, _∙_, subst}
 use Prim.Native.Nat.{ℕ, zero, suc, _+_, _-_, _≤_, _<_}
+use native.Mathlib.Decide.{ℕ-discrete}
 use native.Mathlib.Omega.{arith}
 use lib.Dec.{leb}
 use lib.ListN.{length, take, drop, getD, length-append, length-drop, drop-of-length-le}
 use borrow.Rule.Slice.PartMut.{midOf, putMid}
 use borrow.Author.Tests.{le-leb, lt-leb}
-use Rattle.rules.specs.Setup.{S1, S2, S3, S4, digit}
+use Rattle.rules.specs.Setup.{S1, S2, S3, S4, Read, got, refused, digit}
 use Rattle.memory_running.specs.Running.{runningOf}
 use Rattle.check_damage.specs.declared.Breach.{Breach}
 use Rattle.check_damage.specs.Judged.{Judged}
 use Rattle.kernel_events.specs.Serving.{Known}
 use Rattle.kernel_events.proofs.Served.{known-first}
-use Rattle.run_reading.specs.Recorded.{Item, begins, occurs, refuses}
-use Rattle.run_reading.specs.Recorder.{Recorder, closed, eat, items, after}
+use Rattle.run_reading.specs.Recorded.{Head, readHead, eventBytes, eventIn, Item, begins, occurs, refuses}
+use Rattle.run_reading.specs.Recorder.{Recorder, heading, running, stopped, ended, closed, fed, onHead, eat, items, after}
 use Rattle.run_reading.proofs.Division.{items-append, after-append}
 use Rattle.run_text.specs.Lines.{longestLine}
 use Rattle.run_text.specs.Output.{over, laid, Wrote}
 use Rattle.run_text.proofs.Laid.{laid-over}
 use Rattle.run_recorder.specs.declared.Turn.{Turn}
 use Rattle.run_recorder.specs.Running.{Memory, Ran}
-use Rattle.run_recorder.specs.Recording.{Lent, recorderIn, memoryIn, Said, said, taken, S5, full, refusalIn, Parts, Plays, Eats}
+use Rattle.run_recorder.specs.Recording.{Lent, recorderIn, memoryIn, Said, said, taken, S5, full, refusalIn, Admits, Parts, Plays, Eats}
 
 -- ---- lists
 
@@ -127,6 +128,38 @@ quiet-behind (refuses f p ∷ a) b q d =
     let y : digit f ≡ 6 = ap (λ (s : Said). s .number) (q full) in
     absurd (omega (arith, x, y))
 
+-- a byte that is not refused does not close the recorder
+stays-open : (r : Recorder) (b : ℕ) → closed r ≡ false → refusalIn (eat r b .items) taken .number ≡ 0 → closed (eat r b .next) ≡ false
+unfolding eat
+stays-open (heading l) b o q = go (readHead (l ++ (b ∷ []))) q
+  where
+    go : (y : Read Head) → refusalIn (onHead (l ++ (b ∷ [])) y .items) taken .number ≡ 0 → closed (onHead (l ++ (b ∷ [])) y .next) ≡ false
+    go (got h i) q = refl
+    go (refused S1 p) q = refl
+    go (refused S2 p) q = absurd (omega (arith, q))
+    go (refused S3 p) q = absurd (omega (arith, q))
+    go (refused S4 p) q = absurd (omega (arith, q))
+stays-open (running zero k p l) b o q = absurd (omega (arith, q))
+stays-open (running (suc n) k p l) b o q = go (leb eventBytes (length (l ++ (b ∷ []))))
+  where
+    go : (t : Bool) → closed (cond t (fed (running n (suc k) (p + eventBytes) []) (occurs k (eventIn (l ++ (b ∷ []))) ∷ [])) (fed (running (suc n) k p (l ++ (b ∷ []))) []) .next) ≡ false
+    go true = refl
+    go false = refl
+stays-open stopped b o q = absurd (true≢false o)
+stays-open ended b o q = absurd (true≢false o)
+
+-- more lines stand behind those of the bytes in front
+admits-on : {r : Recorder} {m : Memory} {front lines : List ℕ} {room : ℕ} (line : List ℕ) → Admits r m front lines room → Admits r m front (lines ++ line) room
+admits-on line T = record {
+  isOpen = T .isOpen;
+  before = T .before;
+  left = T .left;
+  more = T .more ++ line;
+  ran = T .ran;
+  joins = ap (λ (l : List ℕ). l ++ line) (T .joins) ∙ append-assoc (T .before) (T .more) line;
+  space = T .space;
+}
+
 -- ---- so many bytes
 
 module _ (bytes : List ℕ) (old : Lent) (text : List ℕ) where
@@ -142,6 +175,7 @@ module _ (bytes : List ℕ) (old : Lent) (text : List ℕ) where
     pub count : at ≡ length lines
     pub fits : at ≤ length text
     pub holds : text′ ≡ over lines text
+    pub each : closed (recorderIn old) ≡ false → (k : ℕ) → k < i → Admits (recorderIn old) (memoryIn old) (take k bytes) lines (length text)
 
   pub taken-length : {i at : ℕ} {new : Lent} {text′ : List ℕ} → Taken i at new text′ → length text′ ≡ length text
   taken-length T = ap length (T .holds) ∙ length-append (T .lines) (drop (length (T .lines)) text) ∙ omega (arith, length-drop (length (T .lines)) text, T .count, T .fits)
@@ -150,14 +184,16 @@ module _ (bytes : List ℕ) (old : Lent) (text : List ℕ) where
   pub record Going (f : Breach) (me i at : ℕ) (new : Lent) (text′ : List ℕ) : Type 0 where
     pub done : Taken i at new text′
     pub quiet : Quiet (so-far i)
+    pub isOpen : closed (recorderIn old) ≡ false → closed (recorderIn new) ≡ false
     pub known : Known f me (new .words) (new .marks)
     pub kept : i ≡ 0 → (new ≡ old) × (text′ ≡ text)
 
   pub going-first : {f : Breach} {me : ℕ} → Judged (old .words) (old .marks) (f .code) (f .id) → me ≡ runningOf (old .words) → Going f me 0 0 old text
   unfolding items after
   going-first Q e = record {
-    done = record { few = omega arith; recorder = refl; lines = []; ran = (refl, refl); count = refl; fits = omega arith; holds = refl };
+    done = record { few = omega arith; recorder = refl; lines = []; ran = (refl, refl); count = refl; fits = omega arith; holds = refl; each = λ o k h. absurd (omega (arith, h)) };
     quiet = λ d. refl;
+    isOpen = λ o. o;
     known = known-first (old .words) (old .marks) Q e;
     kept = λ z. (refl, refl);
   }
@@ -184,6 +220,22 @@ module _ (bytes : List ℕ) (old : Lent) (text : List ℕ) where
       played : Plays (eat (recorderIn new) (getD bytes i 0) .items) (memoryIn new) (memoryIn later) (drop at text′) tail t
       played = subst (λ (x : List ℕ). Plays (eat (recorderIn new) (getD bytes i 0) .items) (memoryIn new) (memoryIn later) x tail t) (mid-all text′ at within) (E .plays (G .known))
 
+      -- it is taken where there is room, as those before it
+      each-more : closed (recorderIn old) ≡ false → (k : ℕ) → k < i + 1 → Admits (recorderIn old) (memoryIn old) (take k bytes) (G .done .lines ++ played .line) (length text)
+      each-more o k h = elim (ℕ-discrete k i) [
+        | yes e ↦ rw e
+            (record {
+              isOpen = ap closed (sym (G .done .recorder)) ∙ G .isOpen o;
+              before = G .done .lines;
+              left = memoryIn new;
+              more = played .line;
+              ran = G .done .ran;
+              joins = refl;
+              space = omega (arith, G .done .count, room, same-text, within);
+            })
+        | no ne ↦ admits-on (played .line) (G .done .each o k (omega (arith, h, ne)))
+      ]
+
       pub one-more : Taken (i + 1) (at + t .written) later (putMid at (length text′ - at) text′ tail)
       one-more =
           let D = G .done in
@@ -197,6 +249,7 @@ module _ (bytes : List ℕ) (old : Lent) (text : List ℕ) where
             count = omega (arith, D .count, P .wrote .next, length-append (D .lines) (P .line));
             fits = omega (arith, D .fits, P .short, room, same-text);
             holds = put-all text′ tail at within ∙ over-next (D .lines) (P .line) text (D .holds) (D .count) (D .fits) (P .wrote) (omega (arith, P .short, room, same-text));
+            each = each-more;
           }
 
       -- what is said of it is said of all
@@ -208,10 +261,14 @@ module _ (bytes : List ℕ) (old : Lent) (text : List ℕ) where
       pub goes-on : t .number ≡ 0 → Going (t .found) (t .me) (i + 1) (at + t .written) later (putMid at (length text′ - at) text′ tail)
       goes-on z = record {
         done = one-more;
-        quiet = λ d. said-next d ∙ none-quiet (eat (recorderIn new) (getD bytes i 0) .items) (sym (ap (λ (s : Said). s .number) (played .says)) ∙ z) d;
+        quiet = λ d. said-next d ∙ none-quiet (eat (recorderIn new) (getD bytes i 0) .items) unrefused d;
+        isOpen = λ o. ap closed (E .next) ∙ stays-open (recorderIn new) (getD bytes i 0) (G .isOpen o) unrefused;
         known = played .known;
         kept = λ e. absurd (omega (arith, e));
       }
+        where
+          unrefused : refusalIn (eat (recorderIn new) (getD bytes i 0) .items) taken .number ≡ 0
+          unrefused = sym (ap (λ (s : Said). s .number) (played .says)) ∙ z
 
       pub part-refused : t .number ≢ 0 → closed (recorderIn old) ≡ false → Parts bytes old later text (putMid at (length text′ - at) text′ tail) (record { number = t .number; place = t .place; taken = i + 1; written = at + t .written })
       part-refused z o =
@@ -225,6 +282,7 @@ module _ (bytes : List ℕ) (old : Lent) (text : List ℕ) where
             recorder = D .recorder;
             lines = D .lines;
             ran = D .ran;
+            each = D .each o;
             written = D .count;
             fits = D .fits;
             holds = D .holds;
@@ -242,6 +300,7 @@ module _ (bytes : List ℕ) (old : Lent) (text : List ℕ) where
           recorder = D .recorder;
           lines = D .lines;
           ran = D .ran;
+          each = D .each o;
           written = D .count;
           fits = D .fits;
           holds = D .holds;
@@ -259,6 +318,7 @@ module _ (bytes : List ℕ) (old : Lent) (text : List ℕ) where
           recorder = D .recorder;
           lines = D .lines;
           ran = D .ran;
+          each = D .each o;
           written = D .count;
           fits = D .fits;
           holds = D .holds;
@@ -276,6 +336,7 @@ module _ (bytes : List ℕ) (old : Lent) (text : List ℕ) where
     recorder = refl;
     lines = [];
     ran = (refl, refl);
+    each = λ k h. absurd (omega (arith, h));
     written = refl;
     fits = omega arith;
     holds = refl;
@@ -295,6 +356,7 @@ module _ (bytes : List ℕ) (old : Lent) (text : List ℕ) where
     recorder = refl;
     lines = [];
     ran = (refl, refl);
+    each = λ k h. absurd (omega (arith, h));
     written = refl;
     fits = omega arith;
     holds = refl;

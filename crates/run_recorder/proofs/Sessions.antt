@@ -1,11 +1,12 @@
 -- However the bytes are divided, and whatever outputs were lent: the text written, the last state and what was said are those of the bytes taken. Assumes nothing.
-use mathlib.Core.Bool.{Bool, true, false, cond, _&&_}
+use mathlib.Core.Bool.{Bool, true, false, true≢false, cond, _&&_}
 use mathlib.Core.List.{List, [], _∷_, _++_, map, append-nil, append-assoc}
 use mathlib.Core.Path.{_≡_, refl, sym, ap, _∙_, subst}
 use Prim.Native.Nat.{ℕ, zero, suc, _+_, _≤_, _<_}
 use native.Mathlib.Omega.{arith}
 use lib.Dec.{leb}
 use lib.ListN.{length, take, drop}
+use borrow.Author.Tests.{lt-leb, leb-true, leb-false}
 use Rattle.rules.specs.Setup.{S1, S2, S3, S4, Read, got, refused}
 use Rattle.rules.specs.View.{View}
 use Rattle.rules.specs.Answers.{numbers}
@@ -17,10 +18,11 @@ use Rattle.run_reading.specs.Recorder.{Recorder, heading, running, stopped, end
 use Rattle.run_reading.proofs.Division.{items-append, after-append, closed-items, whole}
 use Rattle.run_text.specs.Lines.{eventLine}
 use Rattle.run_text.specs.Text.{Stage, unstarted, at, lineOf, onward, linesFrom, stageFrom, queues, textOf, stateOf}
+use Rattle.run_text.specs.Output.{over}
 use Rattle.run_stream.specs.Lent.{recorderOf, Is}
 use Rattle.run_recorder.specs.declared.Parted.{Parted}
 use Rattle.run_recorder.specs.Running.{Memory, Does, Ran}
-use Rattle.run_recorder.specs.Recording.{Lent, lent, recorderIn, memoryIn, Said, said, taken, S5, full, refusalIn, Says, Parts, Ends}
+use Rattle.run_recorder.specs.Recording.{Lent, lent, recorderIn, memoryIn, Said, said, taken, S5, full, refusalIn, partSays, Says, Parts, Ends}
 use Rattle.run_recorder.specs.Sessions.{Shows, Recorded, isRefusal, Handed, Division, lastLeft, bytesTaken, textWritten, firstSaid, Whole}
 use Rattle.run_recorder.proofs.Going.{take-front}
 
@@ -145,13 +147,18 @@ pub begin-recorded : (n h b m : List ℕ) → Is n begun → Recorded [] (lent n
 unfolding items after stageFrom
 begin-recorded n h b m I = record { recorder = I h; shows = tt }
 
+-- what ran from there wrote the rules' lines
+ran-recorded : (s c t : List ℕ) (m : Memory) {x : Lent} → Recorded s x → Ran (items (recorderIn x) c) (memoryIn x) t m
+    → (t ≡ linesFrom queues (stage s) (items (after begun s) c)) × Shows (stageFrom queues (stage s) (items (after begun s) c)) m
+ran-recorded s c t m {x} R run =
+    let f = fits (after begun s) (stage s) c (stage-fits s) in
+    ran-lines (stage s) (items (after begun s) c) (memoryIn x) t m (f .0) (R .shows) (subst (λ (r : Recorder). Ran (items r c) (memoryIn x) t m) (R .recorder) run)
+
 pub part-recorded : (s : List ℕ) {x y : Lent} {bytes text text′ : List ℕ} {a : Parted} → Recorded s x → Parts bytes x y text text′ a
     → Recorded (s ++ take (a .taken) bytes) y × (take (a .written) text′ ≡ linesFrom queues (stage s) (items (after begun s) (take (a .taken) bytes)))
 part-recorded s {x} {y} {bytes} {text} {text′} {a} R P =
     let c : List ℕ = take (a .taken) bytes in
-    let f = fits (after begun s) (stage s) c (stage-fits s) in
-    let run = subst (λ (r : Recorder). Ran (items r c) (memoryIn x) (P .lines) (memoryIn y)) (R .recorder) (P .ran) in
-    let g = ran-lines (stage s) (items (after begun s) c) (memoryIn x) (P .lines) (memoryIn y) (f .0) (R .shows) run in (
+    let g = ran-recorded s c (P .lines) (memoryIn y) R (P .ran) in (
       record {
         recorder = P .recorder ∙ ap (λ (r : Recorder). after r c) (R .recorder) ∙ sym (after-append begun s c);
         shows = subst (λ (z : Stage View). Shows z (memoryIn y)) (sym (stage-next s c)) (g .1);
@@ -264,6 +271,78 @@ division-said s x (k ∷ l) R D a =
     ∙ ap (refusalIn (items r c)) (q ∙ ap (λ (y : Recorder). refusalIn (items y (bytesTaken l)) (firstSaid a)) (after-append begun s c))
     ∙ sym (said-append (items r c) (items (after r c) (bytesTaken l)) (firstSaid a))
     ∙ ap (λ (z : List Item). refusalIn z (firstSaid a)) (sym (items-append r c (bytesTaken l)))
+
+-- ---- how much is taken
+
+open-before : (r : Recorder) (s : List ℕ) → closed (after r s) ≡ false → closed r ≡ false
+open-before r s o = go (closed r) refl
+  where
+    go : (c : Bool) → closed r ≡ c → closed r ≡ false
+    go true q = sym (ap closed (closed-items r q s .1)) ∙ o
+    go false q = q
+
+-- a byte that leaves the recorder open refuses nothing
+byte-quiet : (r : Recorder) (b : ℕ) → closed (eat r b .next) ≡ false → (d : Said) → refusalIn (eat r b .items) d ≡ d
+unfolding eat
+byte-quiet (heading l) b o d = go (readHead (l ++ (b ∷ []))) o
+  where
+    go : (y : Read Head) → closed (onHead (l ++ (b ∷ [])) y .next) ≡ false → refusalIn (onHead (l ++ (b ∷ [])) y .items) d ≡ d
+    go (got h i) o = refl
+    go (refused S1 p) o = refl
+    go (refused S2 p) o = absurd (true≢false o)
+    go (refused S3 p) o = absurd (true≢false o)
+    go (refused S4 p) o = absurd (true≢false o)
+byte-quiet (running zero k p l) b o d = absurd (true≢false o)
+byte-quiet (running (suc n) k p l) b o d = go (leb eventBytes (length (l ++ (b ∷ []))))
+  where
+    go : (t : Bool) → refusalIn (cond t (fed (running n (suc k) (p + eventBytes) []) (occurs k (eventIn (l ++ (b ∷ []))) ∷ [])) (fed (running (suc n) k p (l ++ (b ∷ []))) []) .items) d ≡ d
+    go true = refl
+    go false = refl
+byte-quiet stopped b o d = refl
+byte-quiet ended b o d = refl
+
+open-quiet : (r : Recorder) (s : List ℕ) → closed (after r s) ≡ false → (d : Said) → refusalIn (items r s) d ≡ d
+unfolding items after
+open-quiet r [] o d = refl
+open-quiet r (b ∷ s) o d =
+    said-append (eat r b .items) (items (eat r b .next) s) d
+    ∙ byte-quiet r b (open-before (eat r b .next) s o) (refusalIn (items (eat r b .next) s) d)
+    ∙ open-quiet (eat r b .next) s o d
+
+module _ (s : List ℕ) {x : Lent} (R : Recorded s x) {bytes text : List ℕ} where
+  -- a part that takes less than another of the same bytes was refused or had no room, and neither can be
+  not-fewer : {y z : Lent} {t u : List ℕ} {a b : Parted} → Parts bytes x y text t a → Parts bytes x z text u b → a .taken < b .taken → ⊥
+  not-fewer {y} {a = a} {b = b} P Q h =
+      let front : List ℕ = take (a .taken) bytes in
+      let T = Q .each (a .taken) h in
+      let o : closed (recorderIn x) ≡ false = open-before (recorderIn x) front (T .isOpen) in
+      let short : leb (length bytes) (a .taken) ≡ false = lt-leb (length bytes) (a .taken) (omega (arith, h, Q .few)) in
+      let six : partSays (recorderIn x) bytes (a .taken) .number ≡ 6 = rw (o, short) (ap (λ (v : Said). v .number) (open-quiet (recorderIn x) front (T .isOpen) full)) in
+      let e : length (T .before) ≡ length (P .lines) = ap length (ran-recorded s front (T .before) (T .left) R (T .ran) .0 ∙ sym (ran-recorded s front (P .lines) (memoryIn y) R (P .ran) .0)) in
+      omega (arith, P .full (P .says .0 ∙ six), P .written, T .space, e)
+
+  at-least : {y z : Lent} {t u : List ℕ} {a b : Parted} → Parts bytes x y text t a → Parts bytes x z text u b → b .taken ≤ a .taken
+  at-least {a = a} {b = b} P Q = go (leb (b .taken) (a .taken)) refl
+    where
+      go : (c : Bool) → leb (b .taken) (a .taken) ≡ c → b .taken ≤ a .taken
+      go true e = leb-true (b .taken) (a .taken) e
+      go false e = absurd (not-fewer P Q (leb-false (b .taken) (a .taken) e))
+
+  -- of a recorder and its bytes so far, a part and an output there is one answer, and one text
+  pub part-once : {y z : Lent} {t u : List ℕ} {a b : Parted} → Parts bytes x y text t a → Parts bytes x z text u b
+      → (a .taken ≡ b .taken) × (a .written ≡ b .written) × Says a (said (b .number) (b .place)) × (t ≡ u)
+  part-once {y} {z} {a = a} {b = b} P Q =
+      let n : a .taken ≡ b .taken = omega (arith, at-least P Q, at-least Q P) in
+      let v : partSays (recorderIn x) bytes (a .taken) ≡ partSays (recorderIn x) bytes (b .taken) = ap (partSays (recorderIn x) bytes) n in
+      let l : P .lines ≡ Q .lines =
+      ran-recorded s (take (a .taken) bytes) (P .lines) (memoryIn y) R (P .ran) .0
+      ∙ ap (λ (k : ℕ). linesFrom queues (stage s) (items (after begun s) (take k bytes))) n
+      ∙ sym (ran-recorded s (take (b .taken) bytes) (Q .lines) (memoryIn z) R (Q .ran) .0) in (
+        n,
+        P .written ∙ ap length l ∙ sym (Q .written),
+        (P .says .0 ∙ ap (λ (w : Said). w .number) v ∙ sym (Q .says .0), P .says .1 ∙ ap (λ (w : Said). w .place) v ∙ sym (Q .says .1)),
+        P .holds ∙ ap (λ (w : List ℕ). over w text) l ∙ sym (Q .holds),
+      )
 
 -- ---- the whole
 

@@ -1,6 +1,6 @@
 -- What `part` and `end` promise of any lent memory.
 use mathlib.Core.Bool.{false, cond, _&&_}
-use mathlib.Core.List.{List, [], _∷_}
+use mathlib.Core.List.{List, [], _∷_, _++_}
 use mathlib.Core.Path.{_≡_}
 use Prim.Native.Nat.{ℕ, _+_, _≤_, _<_}
 use lib.Dec.{leb}
@@ -71,13 +71,26 @@ Says a s = (a .number ≡ s .number) × (a .place ≡ s .place)
 
 -- ---- a part
 
--- The bytes taken are the front of the part. What they complete is done, and its lines stand in the output. Where the part ends early for want of room, there is none for
--- a line. Where nothing is taken, nothing changes.
+-- Behind the bytes in front one more is taken: they have not closed the recorder, and the longest line has room behind theirs, which are
+-- the first of the part's lines.
+pub record Admits (r : Recorder) (m : Memory) (front lines : List ℕ) (room : ℕ) : Type 0 where
+  pub isOpen : closed (after r front) ≡ false
+  pub before : List ℕ
+  pub left : Memory
+  pub more : List ℕ
+  pub ran : Ran (items r front) m before left
+  pub joins : lines ≡ before ++ more
+  pub space : length before + longestLine ≤ room
+
+-- The bytes taken are the front of the part. What they complete is done, and its lines stand in the output. A part takes all bytes, or ends
+-- behind the one that closes the recorder, or where there is no room for a line: of a closed recorder it takes none. Where nothing is
+-- taken, nothing changes.
 pub record Parts (bytes : List ℕ) (old new : Lent) (text text′ : List ℕ) (a : Parted) : Type 0 where
   pub few : a .taken ≤ length bytes
   pub recorder : recorderIn new ≡ after (recorderIn old) (take (a .taken) bytes)
   pub lines : List ℕ
   pub ran : Ran (items (recorderIn old) (take (a .taken) bytes)) (memoryIn old) lines (memoryIn new)
+  pub each : (k : ℕ) → k < a .taken → Admits (recorderIn old) (memoryIn old) (take k bytes) lines (length text)
   pub written : a .written ≡ length lines
   pub fits : a .written ≤ length text
   pub holds : text′ ≡ over lines text

@@ -41,6 +41,9 @@ const S5: u32 = 5;
 
 const FULL: u32 = 6;
 
+// of what S5 refuses
+const NONE_TAKEN: usize = 0;
+
 // What came of a byte: what is known of the memory now, who runs, how much was written, and the run's refusal, if it was that.
 struct Turn {
     found: Breach,
@@ -237,7 +240,7 @@ pub fn part(
         return Parted {
             number: S5,
             place: 0,
-            taken: 0,
+            taken: NONE_TAKEN,
             written: 0,
         };
     }
@@ -291,7 +294,7 @@ pub fn end(numbers: &mut [u32; NUMBERS], held: &[u8; HEAD], text: &mut [u8]) -> 
         return Parted {
             number: S5,
             place: 0,
-            taken: 0,
+            taken: NONE_TAKEN,
             written: 0,
         };
     }
