@@ -41,7 +41,7 @@ const S5: u32 = 5;
 
 const FULL: u32 = 6;
 
-// of what S5 refuses
+// of a part that S5 refuses
 const NONE_TAKEN: usize = 0;
 
 // What came of a byte: what is known of the memory now, who runs, how much was written, and the run's refusal, if it was that.
@@ -294,7 +294,7 @@ pub fn end(numbers: &mut [u32; NUMBERS], held: &[u8; HEAD], text: &mut [u8]) -> 
         return Parted {
             number: S5,
             place: 0,
-            taken: NONE_TAKEN,
+            taken: 0,
             written: 0,
         };
     }
