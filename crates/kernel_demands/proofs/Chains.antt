@@ -14,9 +14,8 @@ use Rattle.rules.specs.Kernel.{fresh, event, cell}
 use Rattle.rules.specs.Runs.{answers, states}
 use Rattle.rules.proofs.Events.{cell-reads}
 use Rattle.memory_picture.specs.Picture.{viewShown}
-use Rattle.kernel_start.specs.Starting.{Starts}
+use Rattle.kernel_start.specs.Starting.{Starts, Holds}
 use Rattle.kernel_start.specs.declared.Started.{Started}
-use Rattle.kernel_start.proofs.Fresh.{Holds}
 use Rattle.kernel_cells.specs.Promises.{Runs}
 use Rattle.kernel_events.specs.Steps.{Reply, told, Step, Link, Chain, lastWords, lastMarks}
 use Rattle.kernel_demands.specs.Demands.{CellIs}

@@ -30,11 +30,11 @@ use Rattle.setup.proofs.Plans.{whole-plan-law, plan-fits}
 use Rattle.memory_columns.specs.Layout.{stateWords, maxMessages, maxBlocks, atMost}
 use Rattle.memory_tasks.specs.Moves.{started}
 use Rattle.memory_objects.specs.Moves.{marked}
-use Rattle.memory_picture.specs.Picture.{viewShown, Accepted, Shows}
+use Rattle.memory_picture.specs.Picture.{viewShown, Shows}
 use Rattle.memory_picture.specs.Perform.{performed, performedMarks}
 use Rattle.memory_picture.proofs.Perform.{perform-law}
 use Rattle.kernel_fresh.specs.Laying.{inTurn, wordOfId, counted, entered, emptied, laid}
-use Rattle.kernel_start.specs.Starting.{StartsAs, Starts, freed, freedPool, begun, freshWords}
+use Rattle.kernel_start.specs.Starting.{StartsAs, Starts, Holds, freed, freedPool, begun, freshWords}
 use Rattle.kernel_start.specs.declared.Started.the-variants.{Fresh, Refused}
 use Rattle.kernel_start.proofs.Shown.{Blank, zeros-blank, idle-shown, idle-accepted}
 
@@ -48,11 +48,6 @@ same-sizes b = sizes-tasks b (b .tasks) refl
 
 sizes-then : {b c d : Body} → SameSizes b c → SameSizes c d → SameSizes b d
 sizes-then h g = record { priorities = g .priorities ∙ h .priorities; tasks = g .tasks ∙ h .tasks; objects = λ k. g .objects k ∙ h .objects k; messages = g .messages ∙ h .messages; blocks = λ p. g .blocks p ∙ h .blocks p; counter = g .counter ∙ h .counter; alarms = g .alarms ∙ h .alarms }
-
--- the memory is accepted and shows the view
-pub record Holds (b msgs : List ℕ) (v : View) : Type 0 where
-  pub accepted : Accepted b msgs
-  pub view : viewShown b msgs ≡ v
 
 -- the first turn
 turn-one : (f : ℕ → List ℕ → List ℕ) (n i : ℕ) (b : List ℕ) → inTurn f (suc n) i b ≡ inTurn f n (suc i) (f i b)

@@ -5,6 +5,7 @@ use mathlib.Core.Path.{_≡_}
 use Prim.Native.Nat.{ℕ, _+_, _-_, _*_}
 use lib.Dec.{eqb}
 use Rattle.rules.specs.Setup.{digit, Read, got, refused, wordAt, Setup, setup}
+use Rattle.rules.specs.View.{View}
 use Rattle.rules.specs.Kernel.{fresh}
 use Rattle.setup.specs.Layout.{planOf}
 use Rattle.memory_columns.specs.Layout.{maxBlocks, atMost}
@@ -25,6 +26,13 @@ StartsAs (got u end) r words marks words′ marks′ = (r ≡ Fresh) × Accepted
 -- the bytes, the answer, and the memory before and after
 unfoldable pub Starts : List ℕ → Started → List ℕ → List ℕ → List ℕ → List ℕ → Type 0
 Starts s r words marks words′ marks′ = StartsAs (setup s) r words marks words′ marks′
+
+-- ---- for the contracts above
+
+-- the memory is accepted and shows the view
+pub record Holds (words marks : List ℕ) (v : View) : Type 0 where
+  pub accepted : Accepted words marks
+  pub view : viewShown words marks ≡ v
 
 -- ---- what the functions write
 

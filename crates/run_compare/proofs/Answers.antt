@@ -12,7 +12,7 @@ use Rattle.rules.specs.Answers.{numbers}
 use Rattle.rules.specs.Kernel.{fresh}
 use Rattle.rules.specs.Runs.{answers}
 use Rattle.kernel_start.specs.declared.Started.the-variants.{Fresh}
-use Rattle.kernel_start.proofs.Fresh.{Holds}
+use Rattle.kernel_start.specs.Starting.{Holds}
 use Rattle.kernel_batches.specs.declared.Batch.the-variants.{Done}
 use Rattle.kernel_batches.specs.declared.Ran.{Ran}
 use Rattle.kernel_events.specs.Steps.{Link, told}

@@ -14,9 +14,8 @@ use Rattle.memory_picture.specs.Picture.{tasksShown}
 use Rattle.memory_running.specs.Running.{runningOf}
 use Rattle.check_damage.specs.declared.Breach.{Breach}
 use Rattle.check_damage.specs.Judged.{Judged}
-use Rattle.kernel_start.specs.Starting.{Starts}
+use Rattle.kernel_start.specs.Starting.{Starts, Holds}
 use Rattle.kernel_start.specs.declared.Started.{Started}
-use Rattle.kernel_start.proofs.Fresh.{Holds}
 use Rattle.kernel_events.specs.Steps.{Reply, Step, Link}
 use Rattle.kernel_events.specs.Serving.{Known}
 use Rattle.kernel_events.proofs.Served.{known-on, known-first}

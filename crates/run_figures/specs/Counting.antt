@@ -10,7 +10,7 @@ use Rattle.rules.specs.Setup.{digit}
 use Rattle.rules.specs.Kernel.{fresh}
 use Rattle.memory_picture.specs.Picture.{tasksShown}
 use Rattle.call_reading.specs.Reading.{numberAt}
-use Rattle.kernel_start.proofs.Fresh.{Holds}
+use Rattle.kernel_start.specs.Starting.{Holds}
 use Rattle.kernel_events.specs.Steps.{Step, Link}
 use Rattle.kernel_events.specs.Serving.{Known}
 use Rattle.run_reading.specs.Recorded.{Item, begins, occurs, refuses}

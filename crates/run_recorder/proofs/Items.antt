@@ -11,8 +11,7 @@ use Rattle.memory_running.proofs.Running.{running-law}
 use Rattle.check_damage.specs.declared.Breach.{Breach}
 use Rattle.check_damage.specs.Judged.{Judged}
 use Rattle.kernel_start.specs.declared.Started.{Started}
-use Rattle.kernel_start.specs.Starting.{Starts}
-use Rattle.kernel_start.proofs.Fresh.{Holds}
+use Rattle.kernel_start.specs.Starting.{Starts, Holds}
 use Rattle.kernel_events.specs.Steps.{Reply, reply}
 use Rattle.kernel_events.specs.Serving.{Serves}
 use Rattle.kernel_events.proofs.Served.{known-on, known-first}

@@ -7,7 +7,7 @@ use lib.Dec.{leb}
 use lib.ListN.{take}
 use Rattle.rules.specs.View.{View}
 use Rattle.rules.specs.Writing.{joined}
-use Rattle.kernel_start.proofs.Fresh.{Holds}
+use Rattle.kernel_start.specs.Starting.{Holds}
 use Rattle.run_reading.specs.Recorded.{itemsOf}
 use Rattle.run_reading.specs.Recorder.{begun, items, after}
 use Rattle.run_text.specs.Text.{Stage, unstarted, at, stageFrom, queues, textOf, stateOf}
