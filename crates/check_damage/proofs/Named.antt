@@ -1,23 +1,21 @@
 -- What the naming tells of a memory is what the rules tell of the view that it shows. Assumes nothing.
 use mathlib.Core.Bool.{Bool, true, false, cond, _&&_, true≢false, false≢true, Bool-discrete}
 use mathlib.Core.List.{List, [], _∷_, map}
-use mathlib.Core.Option.{Option, none, some}
+use mathlib.Core.Option.{some}
 use mathlib.Core.Path.{_≡_, refl, sym, ap, _∙_, subst}
 use Prim.Native.Nat.{ℕ, zero, suc, _+_, _-_, _/_, _≤_, _<_, _^_}
 use native.Mathlib.Decide.{decLe}
-use native.Mathlib.Nat.{zero-add}
-use native.Mathlib.Numerals.{add-one}
 use native.Mathlib.Omega.{arith}
 use lib.Dec.{eqb, leb}
 use lib.ListN.{length, getD}
-use borrow.Author.Tests.{eq-eqb, ne-eqb, eqb-true, eqb-false, le-leb, lt-leb, leb-true, leb-false}
+use borrow.Author.Tests.{eq-eqb, ne-eqb, eqb-true, le-leb, leb-true, leb-false}
 use Rattle.rules.specs.Ids.{of, from, ids, In, once, times}
 use Rattle.rules.specs.Codes.{Code, number, H-NUMBER, H-QUEUE, H-SERVED, H-TWICE, H-FREE}
-use Rattle.rules.specs.State.{Kind, semaphore, flag, mailbox, pool, Wait, on, Store, task, waitOf}
+use Rattle.rules.specs.State.{Kind, semaphore, flag, mailbox, pool, on, Store}
 use Rattle.rules.specs.Places.{Place, readyAt, waiters, mail, freeIn, many, belongs, Exists, tabulate, population}
 use Rattle.rules.specs.View.{View, line}
 use Rattle.rules.specs.Sound.{Known, SoundBody}
-use Rattle.rules.specs.Breach.{Breach, breach-at, Ranged, ranged?, Stands, InPlace, in-place?, Alone, some?, served-beside, beside, held, HeldOnce, Listed, listed?, rulesOf, is-yes, firstBad, unless, firstOf, breachBy, breach}
+use Rattle.rules.specs.Breach.{Breach, breach-at, Ranged, ranged?, Stands, InPlace, in-place?, Alone, some?, served-beside, held, HeldOnce, Listed, listed?, rulesOf, is-yes, firstBad, unless, firstOf, breachBy, breach}
 use Rattle.rules.proofs.Ids.{length-ids}
 use Rattle.rules.proofs.Lines.{shape-tabulate}
 use Rattle.rules.proofs.Breach.{breach-number}
@@ -26,13 +24,13 @@ use Rattle.memory_rings.specs.Rings.{walk, lineOf}
 use Rattle.memory_columns.specs.declared.Rings.{Rings}
 use Rattle.memory_columns.specs.declared.Rings.the-variants.{Tasks, Messages, Blocks}
 use Rattle.memory_columns.specs.Layout as Layout
-use Rattle.memory_columns.specs.Layout.{stateWords, maxMessages, maxObjects, maxPools, maxBlocks, waitNode, mailNode, beforePool, blockNode, words, entry, atMost}
+use Rattle.memory_columns.specs.Layout.{stateWords, maxMessages, maxObjects, maxPools, maxBlocks, waitNode, mailNode, beforePool, blockNode, words, entry}
 use Rattle.memory_queues.specs.Moves.{mailAnchor, freeAnchor, nodeOfBlock}
 use Rattle.memory_picture.specs.Picture.{taskShown, tasksShown, messagesShown, poolsShown, bitsOf, poolShown, storeShown, bodyShown, kindNumber, anchor, idsShown, lineShown, viewShown}
 use Rattle.memory_picture.proofs.Cases.{asked}
 use Rattle.memory_picture.proofs.Lines.{differ}
 use Rattle.memory_picture.proofs.PoolBits.{length-bits}
-use Rattle.check_ranges.specs.Ranges.{every, within, rangesOk}
+use Rattle.check_ranges.specs.Ranges.{every}
 use Rattle.check_ranges.specs.Ranges as Counts
 use Rattle.check_ranges.proofs.Decisions.{Decides, decides-as, decides-and, decides-yes, decides-eq, decides-in, decides-every}
 use Rattle.check_ranges.proofs.Ranges.{manyOf, objects-shown, Ranges, ranges-law}
@@ -41,7 +39,7 @@ use Rattle.check_queues.proofs.BlockLines.{has-block, times-block}
 use Rattle.check_queues.proofs.Standing.{task-is, pool-is, belongsAt, InRings, tasks-few, messages-few, priorities-few, objects-few, pools-few, ids-are, belongs-home, many-messages}
 use Rattle.check_state.specs.Unserved.{waitFree, unservedOk}
 use Rattle.check_state.proofs.Unserved.{semaphore-law, flag-law, pool-law, waiter-law}
-use Rattle.check_state.proofs.Accepted.{line-is, count, body-sound, sound-shown}
+use Rattle.check_state.proofs.Accepted.{line-is, body-sound, sound-shown}
 use Rattle.check_damage.specs.Lists.{known, standsRight, atMostOnce}
 use Rattle.check_damage.specs.Damage.{few, everyIn, taskLines, mailLines, lineKnown, tasksKnown, mailsKnown, poolKnown, poolsKnown, numbersOk, placed, messageOnce, blockListed, poolListed, Told, told, idsFrom, rulesFrom, firstBroken}
 

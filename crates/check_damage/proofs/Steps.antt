@@ -2,7 +2,7 @@
 use mathlib.Core.Bool.{Bool, true, false, cond, not, _&&_, and-true}
 use mathlib.Core.List.{List, [], _∷_}
 use mathlib.Core.Path.{_≡_, refl, sym, ap, _∙_}
-use Prim.Native.Nat.{ℕ, zero, suc, _+_, _-_, _≤_, _<_}
+use Prim.Native.Nat.{ℕ, suc, _+_, _-_, _≤_, _<_}
 use native.Mathlib.Numerals.{add-one}
 use native.Mathlib.Omega.{arith}
 use Rattle.rules.specs.Codes.{minus, number}
@@ -14,7 +14,7 @@ use Rattle.memory_columns.specs.Layout.{words}
 use Rattle.memory_queues.specs.Moves.{freeAnchor, nodeOfBlock}
 use Rattle.check_queues.specs.Queues.{idsIn, blockHome}
 use Rattle.check_damage.specs.Lists.{standsRight}
-use Rattle.check_damage.specs.Damage.{blockListed, everyIn, codeOf, idsOf, keeps, rules, Told, told, idsFrom, rulesFrom, firstBroken}
+use Rattle.check_damage.specs.Damage.{blockListed, everyIn, codeOf, idsOf, keeps, rules, told, idsFrom, rulesFrom, firstBroken}
 
 -- ---- ranges of lines
 

@@ -7,13 +7,13 @@ use Prim.Native.Nat.{ℕ, zero, suc, _+_, _-_, _≤_, _<_}
 use native.Mathlib.Numerals.{add-one, sub-one}
 use native.Mathlib.Nat.{zero-add}
 use native.Mathlib.Omega.{arith}
-use lib.Dec.{eqb, leb}
+use lib.Dec.{eqb}
 use lib.ListN.{getD}
 use borrow.Author.Tests.{eq-eqb, ne-eqb, le-leb, lt-leb}
 use Rattle.rules.specs.Ids.{once, times}
 use Rattle.memory_rings.specs.Rings.{walk, lineOf}
 use Rattle.check_ranges.specs.Ranges.{within}
-use Rattle.check_damage.specs.Lists.{shows, known, standsRight, atMostOnce}
+use Rattle.check_damage.specs.Lists.{shows, known, atMostOnce}
 
 module _ (n : ℕ) (nx : List ℕ) (a : ℕ) where
   spent : (left x : ℕ) → left ≤ 0 → walk left n nx a x ≡ []

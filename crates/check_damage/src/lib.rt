@@ -1,5 +1,5 @@
-// What is broken in a memory that is no sound state: the first rule, and the smallest id at which it is broken. It runs only where the check
-// has failed, so it is plain rather than fast: each id is looked for in every line.
+// What is broken in a memory that is no sound state: the first rule, and the smallest id at which it is broken. It runs
+// only where the check has failed, so it is plain rather than fast: each id is looked for in every line.
 mod lines;
 
 use crate::lines::line_known;
@@ -157,7 +157,8 @@ fn at_most_once(links: &[u32], n: u32, before: u32, count: u32, i: u32) -> bool
 // Nobody but those that exist in the queues behind `before`, as many as the count k says.
 fn queues_known(words: &[u32; STATE_WORDS], rings: Rings, before: u32, k: u32) -> bool
     requires { ⌜ before ≤ maxMessages ⌝ }
-    ensures { λ r. ⌜ r ≡ every (Damage.few (now (words .entry)) k) 1 (λ o. known 0 (idsIn (now (words .entry)) rings) (lineOf (idsIn (now (words .entry)) rings) (wordsOf (nextOf rings) (now (words .entry))) (before + o))) ⌝ }
+    ensures { λ r. ⌜ r ≡ every (Damage.few (now (words .entry)) k) 1 (λ o. known 0 (idsIn (now (words .entry)) rings)
+        (lineOf (idsIn (now (words .entry)) rings) (wordsOf (nextOf rings) (now (words .entry))) (before + o))) ⌝ }
 {
     all_known(
         links(words, rings),
@@ -240,7 +241,8 @@ fn numbers_ok(words: &[u32; STATE_WORDS], messages: &[u32; MESSAGE_WORDS]) -> bo
 // Task t stands as often as it belongs there in the queues behind `before`, as many as the count k says.
 fn placed_in(words: &[u32; STATE_WORDS], before: u32, k: u32, home: u32, t: u32) -> bool
     requires { ⌜ before ≤ maxMessages ⌝ }
-    ensures { λ r. ⌜ r ≡ every (Damage.few (now (words .entry)) k) 1 (λ o. standsRight (idsIn (now (words .entry)) Tasks) (wordsOf Layout.next (now (words .entry))) home t (before + o)) ⌝ }
+    ensures { λ r. ⌜ r ≡ every (Damage.few (now (words .entry)) k) 1 (λ o. standsRight
+        (idsIn (now (words .entry)) Tasks) (wordsOf Layout.next (now (words .entry))) home t (before + o)) ⌝ }
 {
     all_right(
         links(words, Rings::Tasks),

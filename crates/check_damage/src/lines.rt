@@ -1,5 +1,5 @@
-// Lines read off links that may be damaged: what a walk along the next links from an anchor lists, up to the anchor again. A node that is no id
-// ends the walk, and so does one step more than there are ids.
+// Lines read off links that may be damaged: what a walk along the next links from an anchor lists, up to the anchor
+// again. A node that is no id ends the walk, and so does one step more than there are ids.
 use check_ranges::within;
 use memory_rings::follow;
 ghost use mathlib.Core.Path.{_≡_};

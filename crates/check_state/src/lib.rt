@@ -103,7 +103,8 @@ fn ready_marked(words: &[u32; STATE_WORDS]) -> bool
     kept == marks
 }
 
-// All rules, in order, or the ranges alone. Whoever asks for the ranges asks here, so that they are tried in one place and stand in the check itself.
+// All rules, in order, or the ranges alone. Whoever asks for the ranges asks here, so that they are tried in one place
+// and stand in the check itself.
 fn accepts_test(words: &[u32; STATE_WORDS], messages: &[u32; MESSAGE_WORDS], whole: bool) -> bool
     ensures { λ r. ⌜ r ≡ Unserved.checks whole (now (words .entry)) (now (messages .entry)) ⌝ }
 {

@@ -51,7 +51,9 @@ fn run_all(
     answers: &mut [u32],
 )
     requires { ⌜ fitOf (length (now events)) (length (now codes)) (length (now answers)) ≡ Batch.Done ⌝ }
-    ensures { λ _. ⌜ RanThrough (now (events .entry)) (lent (now (words .entry)) (now (messages .entry)) (now (codes .entry)) (now (answers .entry))) (lent (now (words .exit)) (now (messages .exit)) (now (codes .exit)) (now (answers .exit))) ⌝ }
+    ensures { λ _. ⌜ RanThrough (now (events .entry))
+        (lent (now (words .entry)) (now (messages .entry)) (now (codes .entry)) (now (answers .entry)))
+        (lent (now (words .exit)) (now (messages .exit)) (now (codes .exit)) (now (answers .exit))) ⌝ }
 {
     let found = judged(words, messages);
     let me = running_task(words);
@@ -66,7 +68,9 @@ pub fn events(
     codes: &mut [i32],
     answers: &mut [u32],
 ) -> Batch
-    ensures { λ r. ⌜ Batched (now (events .entry)) r (lent (now (words .entry)) (now (messages .entry)) (now (codes .entry)) (now (answers .entry))) (lent (now (words .exit)) (now (messages .exit)) (now (codes .exit)) (now (answers .exit))) ⌝ }
+    ensures { λ r. ⌜ Batched (now (events .entry)) r
+        (lent (now (words .entry)) (now (messages .entry)) (now (codes .entry)) (now (answers .entry)))
+        (lent (now (words .exit)) (now (messages .exit)) (now (codes .exit)) (now (answers .exit))) ⌝ }
 {
     match fit(events.len(), codes.len(), answers.len()) {
         Batch::Done => {
@@ -88,7 +92,9 @@ pub fn run(
     codes: &mut [i32],
     answers: &mut [u32],
 ) -> Ran
-    ensures { λ r. ⌜ RunsFrom (now (setup .entry)) (now (events .entry)) r (lent (now (words .entry)) (now (messages .entry)) (now (codes .entry)) (now (answers .entry))) (lent (now (words .exit)) (now (messages .exit)) (now (codes .exit)) (now (answers .exit))) ⌝ }
+    ensures { λ r. ⌜ RunsFrom (now (setup .entry)) (now (events .entry)) r
+        (lent (now (words .entry)) (now (messages .entry)) (now (codes .entry)) (now (answers .entry)))
+        (lent (now (words .exit)) (now (messages .exit)) (now (codes .exit)) (now (answers .exit))) ⌝ }
 {
     match fit(events.len(), codes.len(), answers.len()) {
         Batch::Done => match kernel_start::start(setup, words, messages) {

@@ -4,7 +4,7 @@ use mathlib.Core.Path.{_≡_, refl, sym, ap, _∙_, subst}
 use Prim.Native.Nat.{ℕ, zero, suc, _+_, _*_, _/_, _≤_, _<_}
 use native.Mathlib.Omega.{arith}
 use lib.IntN.{ℤ, pos}
-use lib.ListN.{length, drop, getD, set, length-set, length-append, length-map, drop-of-length-le}
+use lib.ListN.{length, drop, getD, set, length-append, length-map, drop-of-length-le}
 use Rattle.rules.specs.Events.{Event, tick, eventOf, eventsOf}
 use Rattle.check_damage.specs.declared.Breach.{Breach}
 use Rattle.kernel_events.specs.Serving.{Known}

@@ -1,5 +1,6 @@
-// Every event on every memory: `call`, `tick`, `enter` and `leave`. Nobody has to check first. `serve_all` and `serve` are for who knows whether the
-// state is sound and who runs, and promise as much as that knowledge (`ServesAll`, `Serves`).
+// Every event on every memory: `call`, `tick`, `enter` and `leave`. Nobody has to check first. `serve_all` and `serve`
+// are for who knows whether the state is sound and who runs, and promise as much as that knowledge (`ServesAll`,
+// `Serves`).
 use call_dispatch::dispatch;
 use call_judging::is_above;
 use call_words::Outcome;
@@ -18,7 +19,7 @@ ghost use lib.ListN.{length, set};
 ghost use mathlib.Core.Bool.{cond, _&&_, _||_};
 ghost use Rattle.rules.specs.Events as Events;
 ghost use Rattle.rules.specs.Events.{eventOf};
-ghost use Rattle.kernel_events.specs.Steps.{reply, unsound, Step};
+ghost use Rattle.kernel_events.specs.Steps.{reply, Step};
 ghost use Rattle.kernel_events.specs.Serving.{replied, Serves, ServesCall, Misnames};
 ghost use Rattle.kernel_events.specs.Written.{lent, answered, ServesAt, ServesAll};
 
@@ -95,7 +96,8 @@ fn serve_call(
     b: i32,
     c: i32,
 ) -> Answer
-    ensures { λ r. ⌜ ServesCall context number a b c me (now (words .entry)) (now (messages .entry)) (reply (r .code) (r .w1) (r .w2) (r .running) (r .released)) (now (words .exit)) (now (messages .exit)) ⌝ }
+    ensures { λ r. ⌜ ServesCall context number a b c me (now (words .entry)) (now (messages .entry))
+        (reply (r .code) (r .w1) (r .w2) (r .running) (r .released)) (now (words .exit)) (now (messages .exit)) ⌝ }
 {
     let handler = named(context) == HANDLER;
     let n = named(number);
@@ -113,7 +115,8 @@ fn serve_tick(
     found: Breach,
     me: u32,
 ) -> Answer
-    ensures { λ r. ⌜ Serves Events.tick found me (now (words .entry)) (now (messages .entry)) (reply (r .code) (r .w1) (r .w2) (r .running) (r .released)) (now (words .exit)) (now (messages .entry)) ⌝ }
+    ensures { λ r. ⌜ Serves Events.tick found me (now (words .entry)) (now (messages .entry))
+        (reply (r .code) (r .w1) (r .w2) (r .running) (r .released)) (now (words .exit)) (now (messages .entry)) ⌝ }
 {
     if found.code != SOUND {
         return damaged(found);
@@ -130,7 +133,8 @@ fn serve_enter(
     found: Breach,
     me: u32,
 ) -> Answer
-    ensures { λ r. ⌜ Serves Events.enter found me (now (words .entry)) (now (messages .entry)) (reply (r .code) (r .w1) (r .w2) (r .running) (r .released)) (now (words .exit)) (now (messages .entry)) ⌝ }
+    ensures { λ r. ⌜ Serves Events.enter found me (now (words .entry)) (now (messages .entry))
+        (reply (r .code) (r .w1) (r .w2) (r .running) (r .released)) (now (words .exit)) (now (messages .entry)) ⌝ }
 {
     if found.code != SOUND {
         return damaged(found);
@@ -147,7 +151,8 @@ fn serve_leave(
     found: Breach,
     me: u32,
 ) -> Answer
-    ensures { λ r. ⌜ Serves Events.exit found me (now (words .entry)) (now (messages .entry)) (reply (r .code) (r .w1) (r .w2) (r .running) (r .released)) (now (words .exit)) (now (messages .entry)) ⌝ }
+    ensures { λ r. ⌜ Serves Events.exit found me (now (words .entry)) (now (messages .entry))
+        (reply (r .code) (r .w1) (r .w2) (r .running) (r .released)) (now (words .exit)) (now (messages .entry)) ⌝ }
 {
     if found.code != SOUND {
         return damaged(found);
@@ -179,7 +184,8 @@ fn serve_event(
     b: i32,
     c: i32,
 ) -> Answer
-    ensures { λ r. ⌜ Serves (eventOf kind number a b c) found me (now (words .entry)) (now (messages .entry)) (reply (r .code) (r .w1) (r .w2) (r .running) (r .released)) (now (words .exit)) (now (messages .exit)) ⌝ }
+    ensures { λ r. ⌜ Serves (eventOf kind number a b c) found me (now (words .entry)) (now (messages .entry))
+        (reply (r .code) (r .w1) (r .w2) (r .running) (r .released)) (now (words .exit)) (now (messages .exit)) ⌝ }
 {
     if found.code != SOUND {
         return damaged(found);
@@ -229,7 +235,9 @@ fn serve_one(
     answers: &mut [u32],
 ) -> u32
     requires { ⌜ (5 * i + 5 ≤ length (now events)) × (suc i ≤ length (now codes)) × (4 * i + 4 ≤ length (now answers)) ⌝ }
-    ensures { λ r. ⌜ ServesAt (now (events .entry)) i found me (lent (now (words .entry)) (now (messages .entry)) (now (codes .entry)) (now (answers .entry))) (lent (now (words .exit)) (now (messages .exit)) (now (codes .exit)) (now (answers .exit))) r ⌝ }
+    ensures { λ r. ⌜ ServesAt (now (events .entry)) i found me
+        (lent (now (words .entry)) (now (messages .entry)) (now (codes .entry)) (now (answers .entry)))
+        (lent (now (words .exit)) (now (messages .exit)) (now (codes .exit)) (now (answers .exit))) r ⌝ }
 {
     let at = 5 * i;
     let r = serve_event(
@@ -248,9 +256,11 @@ fn serve_one(
     r.running
 }
 
-// How many events there are, from the numbers of event words, and of codes and answer words that there is place for; 0 where there is no place for all.
+// How many events there are, from the numbers of event words, and of codes and answer words that there is place for; 0
+// where there is no place for all.
 fn count(events: usize, codes: usize, answers: usize) -> usize
-    ensures { λ r. ⌜ (r ≤ events / 5) × (r ≤ codes) × (4 * r ≤ answers) × (events / 5 ≤ codes → 4 * (events / 5) ≤ answers → r ≡ events / 5) ⌝ }
+    ensures { λ r. ⌜ (r ≤ events / 5) × (r ≤ codes) × (4 * r ≤ answers) ×
+        (events / 5 ≤ codes → 4 * (events / 5) ≤ answers → r ≡ events / 5) ⌝ }
 {
     let n = events / 5;
     if codes < n {
@@ -262,8 +272,8 @@ fn count(events: usize, codes: usize, answers: usize) -> usize
     n
 }
 
-// The events, five words each, one after the other, where there is place for their answers. Whoever serves an event serves it here: so all that a
-// call does stands in this one loop.
+// The events, five words each, one after the other, where there is place for their answers. Whoever serves an event
+// serves it here: so all that a call does stands in this one loop.
 pub fn serve_all(
     words: &mut [u32; STATE_WORDS],
     messages: &mut [u32; 256],
@@ -273,7 +283,9 @@ pub fn serve_all(
     codes: &mut [i32],
     answers: &mut [u32],
 )
-    ensures { λ _. ⌜ ServesAll (now (events .entry)) found me (lent (now (words .entry)) (now (messages .entry)) (now (codes .entry)) (now (answers .entry))) (lent (now (words .exit)) (now (messages .exit)) (now (codes .exit)) (now (answers .exit))) ⌝ }
+    ensures { λ _. ⌜ ServesAll (now (events .entry)) found me
+        (lent (now (words .entry)) (now (messages .entry)) (now (codes .entry)) (now (answers .entry)))
+        (lent (now (words .exit)) (now (messages .exit)) (now (codes .exit)) (now (answers .exit))) ⌝ }
 {
     let n = count(events.len(), codes.len(), answers.len());
     let mut runs = me;
@@ -296,7 +308,8 @@ pub fn serve(
     b: i32,
     c: i32,
 ) -> Answer
-    ensures { λ r. ⌜ Serves (eventOf kind number a b c) found me (now (words .entry)) (now (messages .entry)) (reply (r .code) (r .w1) (r .w2) (r .running) (r .released)) (now (words .exit)) (now (messages .exit)) ⌝ }
+    ensures { λ r. ⌜ Serves (eventOf kind number a b c) found me (now (words .entry)) (now (messages .entry))
+        (reply (r .code) (r .w1) (r .w2) (r .running) (r .released)) (now (words .exit)) (now (messages .exit)) ⌝ }
 {
     let event = [kind, number, a, b, c];
     let mut code = [0i32; 1];
@@ -321,7 +334,8 @@ pub fn call(
     b: i32,
     c: i32,
 ) -> Answer
-    ensures { λ r. ⌜ Step (Events.call context number a b c) (now (words .entry)) (now (messages .entry)) (reply (r .code) (r .w1) (r .w2) (r .running) (r .released)) (now (words .exit)) (now (messages .exit)) ⌝ }
+    ensures { λ r. ⌜ Step (Events.call context number a b c) (now (words .entry)) (now (messages .entry))
+        (reply (r .code) (r .w1) (r .w2) (r .running) (r .released)) (now (words .exit)) (now (messages .exit)) ⌝ }
 {
     let found = judged(words, messages);
     let me = running_task(words);
@@ -333,7 +347,8 @@ pub fn call(
 
 // A tick.
 pub fn tick(words: &mut [u32; STATE_WORDS], messages: &[u32; 256]) -> Answer
-    ensures { λ r. ⌜ Step Events.tick (now (words .entry)) (now (messages .entry)) (reply (r .code) (r .w1) (r .w2) (r .running) (r .released)) (now (words .exit)) (now (messages .entry)) ⌝ }
+    ensures { λ r. ⌜ Step Events.tick (now (words .entry)) (now (messages .entry))
+        (reply (r .code) (r .w1) (r .w2) (r .running) (r .released)) (now (words .exit)) (now (messages .entry)) ⌝ }
 {
     let found = judged(words, messages);
     let now = running_task(words);
@@ -342,7 +357,8 @@ pub fn tick(words: &mut [u32; STATE_WORDS], messages: &[u32; 256]) -> Answer
 
 // The entry of a handler.
 pub fn enter(words: &mut [u32; STATE_WORDS], messages: &[u32; 256]) -> Answer
-    ensures { λ r. ⌜ Step Events.enter (now (words .entry)) (now (messages .entry)) (reply (r .code) (r .w1) (r .w2) (r .running) (r .released)) (now (words .exit)) (now (messages .entry)) ⌝ }
+    ensures { λ r. ⌜ Step Events.enter (now (words .entry)) (now (messages .entry))
+        (reply (r .code) (r .w1) (r .w2) (r .running) (r .released)) (now (words .exit)) (now (messages .entry)) ⌝ }
 {
     let found = judged(words, messages);
     let now = running_task(words);
@@ -351,7 +367,8 @@ pub fn enter(words: &mut [u32; STATE_WORDS], messages: &[u32; 256]) -> Answer
 
 // The return of a handler.
 pub fn leave(words: &mut [u32; STATE_WORDS], messages: &[u32; 256]) -> Answer
-    ensures { λ r. ⌜ Step Events.exit (now (words .entry)) (now (messages .entry)) (reply (r .code) (r .w1) (r .w2) (r .running) (r .released)) (now (words .exit)) (now (messages .entry)) ⌝ }
+    ensures { λ r. ⌜ Step Events.exit (now (words .entry)) (now (messages .entry))
+        (reply (r .code) (r .w1) (r .w2) (r .running) (r .released)) (now (words .exit)) (now (messages .entry)) ⌝ }
 {
     let found = judged(words, messages);
     let now = running_task(words);

@@ -12,14 +12,14 @@ use lib.Dec.{eqb, leb, lit<}
 use lib.ListN.{length, getD, set, replicate, length-replicate, length-map}
 use lib.Pow.{pow-pos}
 use lib.Seq.{ext-getD}
-use borrow.Author.Tests.{leb-true, leb-false, ne-eqb}
+use borrow.Author.Tests.{leb-false, ne-eqb}
 use Rattle.rules.specs.Ids.{of, from, ids, In, Each}
 use Rattle.rules.specs.Setup.{wordAt, Entry, AlarmEntry, CounterEntry, Setup, GoodCounter}
 use Rattle.rules.specs.State.{semaphore, flag, mailbox, pool, nobody, Store, no-handler, noAlarm, alarmCount}
 use Rattle.rules.specs.Places.{Place, readyAt, waiters, mail, freeIn, Sort, tasks, messages, blocks, sortAt, Exists, tabulate}
 use Rattle.rules.specs.Kernel.{idleTask, idleAlarm, idleCounter, idle}
 use Rattle.rules.proofs.Ids.{of-replicate, map-ids}
-use Rattle.rules.proofs.Accepted.{GoodSetup, idle-sound, unstarted-sound}
+use Rattle.rules.proofs.Accepted.{GoodSetup, unstarted-sound}
 use Rattle.rules.proofs.Lines.{tabulate-same}
 use Rattle.memory_rings.specs.Rings.{lineOf, Linked}
 use Rattle.memory_rings.proofs.Columns.{col-at}

@@ -104,7 +104,8 @@ pub fn start(
     words: &mut [u32; STATE_WORDS],
     messages: &mut [u32; MESSAGE_WORDS],
 ) -> Started
-    ensures { λ r. ⌜ Starts (now (bytes .entry)) r (now (words .entry)) (now (messages .entry)) (now (words .exit)) (now (messages .exit)) ⌝ }
+    ensures { λ r. ⌜ Starts (now (bytes .entry)) r (now (words .entry)) (now (messages .entry)) (now (words .exit))
+        (now (messages .exit)) ⌝ }
 {
     match setup::judge_whole(bytes) {
         Judged::Bad(d, i) => Started::Refused(d, i),

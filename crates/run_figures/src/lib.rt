@@ -1,5 +1,6 @@
-// The figures of a recorded run, counted as it is taken in parts of any size: after how many events each task was in each state, and how often each code
-// came back. All of it lies in memory that the caller lends, and any content of that memory is a value. The kernel's memory is checked once in a part.
+// The figures of a recorded run, counted as it is taken in parts of any size: after how many events each task was in
+// each state, and how often each code came back. All of it lies in memory that the caller lends, and any content of
+// that memory is a value. The kernel's memory is checked once in a part.
 use call_reading::state_number;
 use check_damage::Breach;
 use check_damage::judged;
@@ -33,7 +34,8 @@ ghost use Rattle.run_stream.specs.Lent.{recorderOf, Sized};
 ghost use Rattle.run_figures.specs.Figures.{Figures, figures, counted};
 ghost use Rattle.run_figures.specs.Counting.{seenIn, memory, lent, CountsTold, Counts};
 
-// What a part says. Its number: 0, or 1 to 4 for the run's refusal S1 to S4, with its place; 5 (S5) for a nonempty part behind the end or a refusal.
+// What a part says. Its number: 0, or 1 to 4 for the run's refusal S1 to S4, with its place; 5 (S5) for a nonempty part
+// behind the end or a refusal.
 #[repr(C)]
 pub struct Counted {
     pub number: u32,
@@ -81,7 +83,8 @@ fn count_event(
     table: &mut [[u32; STATES]; TASKS],
     codes: &mut [u32; CODES],
 )
-    ensures { λ _. ⌜ figures (now (table .exit)) (now (codes .exit)) ≡ counted (figures (now (table .entry)) (now (codes .entry))) (seenIn code (now (words .entry))) ⌝ }
+    ensures { λ _. ⌜ figures (now (table .exit)) (now (codes .exit)) ≡ counted
+        (figures (now (table .entry)) (now (codes .entry))) (seenIn code (now (words .entry))) ⌝ }
 {
     let n = tasks(words);
     let s = states(words, n);
@@ -102,7 +105,9 @@ fn begins(
     t: Turn,
 ) -> Turn
     requires { ⌜ end ≤ length (now held) ⌝ }
-    ensures { λ r. ⌜ ((f : Figures) → CountsTold (Begins end) (now (held .entry)) t (memory (now (words .entry)) (now (messages .entry))) (memory (now (words .exit)) (now (messages .exit))) f f r) ⌝ }
+    ensures { λ r. ⌜ ((f : Figures) → CountsTold (Begins end) (now (held .entry)) t
+        (memory (now (words .entry)) (now (messages .entry))) (memory (now (words .exit)) (now (messages .exit))) f
+        f r) ⌝ }
 {
     let all = &held[..];
     kernel_start::start(&all[..end], words, messages);
@@ -123,7 +128,9 @@ fn occurs(
     table: &mut [[u32; STATES]; TASKS],
     codes: &mut [u32; CODES],
 ) -> Turn
-    ensures { λ r. ⌜ ((i : ℕ) → CountsTold (Occurs i) (now (held .entry)) t (memory (now (words .entry)) (now (messages .entry))) (memory (now (words .exit)) (now (messages .exit))) (figures (now (table .entry)) (now (codes .entry))) (figures (now (table .exit)) (now (codes .exit))) r) ⌝ }
+    ensures { λ r. ⌜ ((i : ℕ) → CountsTold (Occurs i) (now (held .entry)) t
+        (memory (now (words .entry)) (now (messages .entry))) (memory (now (words .exit)) (now (messages .exit)))
+        (figures (now (table .entry)) (now (codes .entry))) (figures (now (table .exit)) (now (codes .exit))) r) ⌝ }
 {
     let found = t.found;
     let r = serve_held(held, words, messages, found, t.me);
@@ -147,7 +154,9 @@ fn count_item(
     codes: &mut [u32; CODES],
 ) -> Turn
     requires { ⌜ Sized item (now held) ⌝ }
-    ensures { λ r. ⌜ CountsTold item (now (held .entry)) t (memory (now (words .entry)) (now (messages .entry))) (memory (now (words .exit)) (now (messages .exit))) (figures (now (table .entry)) (now (codes .entry))) (figures (now (table .exit)) (now (codes .exit))) r ⌝ }
+    ensures { λ r. ⌜ CountsTold item (now (held .entry)) t (memory (now (words .entry)) (now (messages .entry)))
+        (memory (now (words .exit)) (now (messages .exit))) (figures (now (table .entry)) (now (codes .entry)))
+        (figures (now (table .exit)) (now (codes .exit))) r ⌝ }
 {
     let found = t.found;
     match item {
@@ -187,7 +196,10 @@ pub fn count(
     codes: &mut [u32; CODES],
     bytes: &[u8],
 ) -> Counted
-    ensures { λ r. ⌜ Counts (now (bytes .entry)) (lent (now (numbers .entry)) (now (held .entry)) (memory (now (words .entry)) (now (messages .entry))) (figures (now (table .entry)) (now (codes .entry)))) (lent (now (numbers .exit)) (now (held .exit)) (memory (now (words .exit)) (now (messages .exit))) (figures (now (table .exit)) (now (codes .exit)))) r ⌝ }
+    ensures { λ r. ⌜ Counts (now (bytes .entry)) (lent (now (numbers .entry)) (now (held .entry))
+        (memory (now (words .entry)) (now (messages .entry))) (figures (now (table .entry)) (now (codes .entry))))
+        (lent (now (numbers .exit)) (now (held .exit)) (memory (now (words .exit)) (now (messages .exit)))
+        (figures (now (table .exit)) (now (codes .exit)))) r ⌝ }
 {
     let mut t = Turn {
         found: judged(words, messages),

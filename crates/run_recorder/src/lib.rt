@@ -1,5 +1,6 @@
-// A recorded run that is taken as it comes, in parts of any size: `begin`, `part`, `end`. All of it lies in memory that the caller lends, and any content of that
-// memory is a value. Each whole event runs at once and writes its line. The kernel's memory is checked once in a part.
+// A recorded run that is taken as it comes, in parts of any size: `begin`, `part`, `end`. All of it lies in memory that
+// the caller lends, and any content of that memory is a value. Each whole event runs at once and writes its line. The
+// kernel's memory is checked once in a part.
 use check_damage::Breach;
 use check_damage::judged;
 use memory_columns::MESSAGE_WORDS;
@@ -25,8 +26,9 @@ ghost use Rattle.run_stream.specs.Lent.{Sized};
 ghost use Rattle.run_recorder.specs.Running.{memory};
 ghost use Rattle.run_recorder.specs.Recording.{lent, Parts, Ends, PlaysTold, Eats, PartsOpen, EndsRefused, EndsQuiet};
 
-// What a part or an end says. Its number: 0 all is taken, or it is the end; 1 to 4 the run's refusal S1 to S4, with its place; 5 (S5) a part or an end that is not taken any more; 6 there is no
-// room for the next line. Then how many bytes of the part were taken, and how many of text were written.
+// What a part or an end says. Its number: 0 all is taken, or it is the end; 1 to 4 the run's refusal S1 to S4, with its
+// place; 5 (S5) a part or an end that is not taken any more; 6 there is no room for the next line. Then how many bytes
+// of the part were taken, and how many of text were written.
 #[repr(C)]
 pub struct Parted {
     pub number: u32,
@@ -66,7 +68,9 @@ fn begins(
     text: &mut [u8],
 ) -> Turn
     requires { ⌜ end ≤ length (now held) ⌝ }
-    ensures { λ r. ⌜ PlaysTold (Begins end) (now (held .entry)) found me (memory (now (words .entry)) (now (messages .entry))) (memory (now (words .exit)) (now (messages .exit))) (now (text .entry)) (now (text .exit)) r ⌝ }
+    ensures { λ r. ⌜ PlaysTold (Begins end) (now (held .entry)) found me
+        (memory (now (words .entry)) (now (messages .entry))) (memory (now (words .exit)) (now (messages .exit)))
+        (now (text .entry)) (now (text .exit)) r ⌝ }
 {
     let all = &held[..];
     kernel_start::start(&all[..end], words, messages);
@@ -92,7 +96,9 @@ fn occurs(
     me: u32,
     text: &mut [u8],
 ) -> Turn
-    ensures { λ r. ⌜ PlaysTold (Occurs i) (now (held .entry)) found me (memory (now (words .entry)) (now (messages .entry))) (memory (now (words .exit)) (now (messages .exit))) (now (text .entry)) (now (text .exit)) r ⌝ }
+    ensures { λ r. ⌜ PlaysTold (Occurs i) (now (held .entry)) found me
+        (memory (now (words .entry)) (now (messages .entry))) (memory (now (words .exit)) (now (messages .exit)))
+        (now (text .entry)) (now (text .exit)) r ⌝ }
 {
     let r = serve_held(held, words, messages, found, me);
     let written = event_line(text, i, r.code, r.w1, r.w2, r.running, r.released);
@@ -116,7 +122,8 @@ fn play_item(
     text: &mut [u8],
 ) -> Turn
     requires { ⌜ Sized item (now held) ⌝ }
-    ensures { λ r. ⌜ PlaysTold item (now (held .entry)) found me (memory (now (words .entry)) (now (messages .entry))) (memory (now (words .exit)) (now (messages .exit))) (now (text .entry)) (now (text .exit)) r ⌝ }
+    ensures { λ r. ⌜ PlaysTold item (now (held .entry)) found me (memory (now (words .entry)) (now (messages .entry)))
+        (memory (now (words .exit)) (now (messages .exit))) (now (text .entry)) (now (text .exit)) r ⌝ }
 {
     match item {
         Completed::Nothing => Turn {
@@ -154,7 +161,10 @@ fn step(
     b: u8,
     text: &mut [u8],
 ) -> Turn
-    ensures { λ r. ⌜ Eats b found me (lent (now (numbers .entry)) (now (held .entry)) (now (words .entry)) (now (messages .entry))) (lent (now (numbers .exit)) (now (held .exit)) (now (words .exit)) (now (messages .exit))) (now (text .entry)) (now (text .exit)) r ⌝ }
+    ensures { λ r. ⌜ Eats b found me
+        (lent (now (numbers .entry)) (now (held .entry)) (now (words .entry)) (now (messages .entry)))
+        (lent (now (numbers .exit)) (now (held .exit)) (now (words .exit)) (now (messages .exit))) (now (text .entry))
+        (now (text .exit)) r ⌝ }
 {
     let item = take_byte(numbers, held, b);
     play_item(item, held, words, messages, found, me, text)
@@ -169,7 +179,10 @@ fn take_part(
     bytes: &[u8],
     text: &mut [u8],
 ) -> Parted
-    ensures { λ r. ⌜ PartsOpen (now (bytes .entry)) (lent (now (numbers .entry)) (now (held .entry)) (now (words .entry)) (now (messages .entry))) (lent (now (numbers .exit)) (now (held .exit)) (now (words .exit)) (now (messages .exit))) (now (text .entry)) (now (text .exit)) r ⌝ }
+    ensures { λ r. ⌜ PartsOpen (now (bytes .entry))
+        (lent (now (numbers .entry)) (now (held .entry)) (now (words .entry)) (now (messages .entry)))
+        (lent (now (numbers .exit)) (now (held .exit)) (now (words .exit)) (now (messages .exit))) (now (text .entry))
+        (now (text .exit)) r ⌝ }
 {
     let mut found = judged(words, messages);
     let mut me = running_task(words);
@@ -216,8 +229,8 @@ fn take_part(
     }
 }
 
-// Takes the next bytes of the input, and writes the lines that they complete to the front of the output. A part ends before a byte where fewer than `LINE` bytes of the output are left: the rest
-// is the next part.
+// Takes the next bytes of the input, and writes the lines that they complete to the front of the output. A part ends
+// before a byte where fewer than `LINE` bytes of the output are left: the rest is the next part.
 pub fn part(
     numbers: &mut [u32; NUMBERS],
     held: &mut [u8; HEAD],
@@ -226,7 +239,10 @@ pub fn part(
     bytes: &[u8],
     text: &mut [u8],
 ) -> Parted
-    ensures { λ r. ⌜ Parts (now (bytes .entry)) (lent (now (numbers .entry)) (now (held .entry)) (now (words .entry)) (now (messages .entry))) (lent (now (numbers .exit)) (now (held .exit)) (now (words .exit)) (now (messages .exit))) (now (text .entry)) (now (text .exit)) r ⌝ }
+    ensures { λ r. ⌜ Parts (now (bytes .entry))
+        (lent (now (numbers .entry)) (now (held .entry)) (now (words .entry)) (now (messages .entry)))
+        (lent (now (numbers .exit)) (now (held .exit)) (now (words .exit)) (now (messages .exit))) (now (text .entry))
+        (now (text .exit)) r ⌝ }
 {
     if bytes.len() == 0 {
         return Parted {

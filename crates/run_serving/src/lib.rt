@@ -1,4 +1,5 @@
-// The event whose bytes a recorder holds, served. Whoever takes a recorded run in parts, for its text or for its figures, runs its events by this function.
+// The event whose bytes a recorder holds, served. Whoever takes a recorded run in parts, for its text or for its
+// figures, runs its events by this function.
 use check_damage::Breach;
 use kernel_events::Answer;
 use kernel_events::serve;
@@ -21,7 +22,9 @@ pub fn serve_held(
     found: Breach,
     me: u32,
 ) -> Answer
-    ensures { λ r. ⌜ Serves (eventIn (take eventBytes (now (held .entry)))) found me (now (words .entry)) (now (messages .entry)) (reply (r .code) (r .w1) (r .w2) (r .running) (r .released)) (now (words .exit)) (now (messages .exit)) ⌝ }
+    ensures { λ r. ⌜ Serves (eventIn (take eventBytes (now (held .entry)))) found me (now (words .entry))
+        (now (messages .entry)) (reply (r .code) (r .w1) (r .w2) (r .running) (r .released)) (now (words .exit))
+        (now (messages .exit)) ⌝ }
 {
     let all = &held[..];
     let event = &all[..EVENT];

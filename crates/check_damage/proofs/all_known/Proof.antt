@@ -18,20 +18,8 @@ abbrev μ-loop : tie.MeasureT-loop
 loop-holds : tie.Need-loop-holds Inv-loop μ-loop
 loop-holds c = passing-none _ _
 
-add-o : tie.Need-add-o Inv-loop μ-loop
-add-o c = search needs
-
-add-line-known : tie.Need-add-line-known Inv-loop μ-loop
-add-line-known c = search needs
-
-line-known-requires : tie.Need-line-known-requires Inv-loop μ-loop
-line-known-requires c κs = search needs
-
 returns : tie.Need-returns Inv-loop μ-loop
 returns c = let b = c .before .before in passing-fail _ _ _ (b .before .loop .inv) (b .loop-test .taken) (failed (c .before .line-known .ensures) (c .if1 .taken))
-
-loop-less : tie.Need-loop-less Inv-loop μ-loop
-loop-less c = search needs
 
 loop-again : tie.Need-loop-again Inv-loop μ-loop
 loop-again c = let b = c .before .before in passing-on _ _ _ (b .before .loop .inv) (b .loop-test .taken) (passed (c .before .line-known .ensures) (c .if1 .left))
@@ -42,14 +30,5 @@ returns-2 c = passing-all _ _ _ (c .before .loop .inv) (c .loop-test .left)
 pub all-known-spec : {M : Type 1} → statement M
 all-known-spec =
     tie.close
-    (tie.spec
-    Inv-loop
-    μ-loop
-    loop-holds
-    add-o
-    add-line-known
-    line-known-requires
-    returns
-    loop-less
-    loop-again
-    returns-2)
+    (tie.spec Inv-loop μ-loop loop-holds (λ c. search needs) (λ c. search needs)
+    (λ c κs. search needs) returns (λ c. search needs) loop-again returns-2)

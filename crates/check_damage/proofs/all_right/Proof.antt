@@ -17,20 +17,8 @@ abbrev μ-loop : tie.MeasureT-loop
 loop-holds : tie.Need-loop-holds Inv-loop μ-loop
 loop-holds c = passing-none _ _
 
-add-o : tie.Need-add-o Inv-loop μ-loop
-add-o c = search needs
-
-add-stands-right : tie.Need-add-stands-right Inv-loop μ-loop
-add-stands-right c = search needs
-
-stands-right-requires : tie.Need-stands-right-requires Inv-loop μ-loop
-stands-right-requires c κs = search needs
-
 returns : tie.Need-returns Inv-loop μ-loop
 returns c = let b = c .before .before in passing-fail _ _ _ (b .before .loop .inv) (b .loop-test .taken) (failed (c .before .stands-right .ensures) (c .if1 .taken))
-
-loop-less : tie.Need-loop-less Inv-loop μ-loop
-loop-less c = search needs
 
 loop-again : tie.Need-loop-again Inv-loop μ-loop
 loop-again c = let b = c .before .before in passing-on _ _ _ (b .before .loop .inv) (b .loop-test .taken) (passed (c .before .stands-right .ensures) (c .if1 .left))
@@ -41,14 +29,5 @@ returns-2 c = passing-all _ _ _ (c .before .loop .inv) (c .loop-test .left)
 pub all-right-spec : {M : Type 1} → statement M
 all-right-spec =
     tie.close
-    (tie.spec
-    Inv-loop
-    μ-loop
-    loop-holds
-    add-o
-    add-stands-right
-    stands-right-requires
-    returns
-    loop-less
-    loop-again
-    returns-2)
+    (tie.spec Inv-loop μ-loop loop-holds (λ c. search needs) (λ c. search needs)
+    (λ c κs. search needs) returns (λ c. search needs) loop-again returns-2)

@@ -1,6 +1,5 @@
 -- `check_damage::at_most_once` meets its contract. The lines that are left decide as all of them do. Assumes nothing.
 use Prim.Native.Nat.{_-_}
-use native.Mathlib.Omega.{arith}
 use borrow.Author.Needs.{needs}
 use Rattle.memory_rings.specs.Links.{nexts}
 use Rattle.check_damage.proofs.Walks.{Summing, summing-starts, sum-done, sum-fails, sum-on}
@@ -16,23 +15,8 @@ abbrev μ-loop : tie.MeasureT-loop
 loop-holds : tie.Need-loop-holds Inv-loop μ-loop
 loop-holds c = summing-starts _ _ _ _ _
 
-add-o : tie.Need-add-o Inv-loop μ-loop
-add-o c = search needs
-
-add-times-in : tie.Need-add-times-in Inv-loop μ-loop
-add-times-in c = search needs
-
-times-in-requires : tie.Need-times-in-requires Inv-loop μ-loop
-times-in-requires c κs = search needs
-
-add-found : tie.Need-add-found Inv-loop μ-loop
-add-found c = search needs
-
 returns : tie.Need-returns Inv-loop μ-loop
 returns c = let b = c .before .before in sum-fails _ _ _ _ _ _ _ (b .before .loop .inv) (b .loop-test .taken) (c .before .times-in .ensures .0) (c .if1 .taken)
-
-loop-less : tie.Need-loop-less Inv-loop μ-loop
-loop-less c = search needs
 
 loop-again : tie.Need-loop-again Inv-loop μ-loop
 loop-again c = let b = c .before .before in sum-on _ _ _ _ _ _ _ (b .before .loop .inv) (b .loop-test .taken) (c .before .times-in .ensures .0) (c .if1 .left)
@@ -43,15 +27,5 @@ returns-2 c = sum-done _ _ _ _ _ _ _ (c .before .loop .inv) (c .loop-test .left)
 pub at-most-once-spec : {M : Type 1} → statement M
 at-most-once-spec =
     tie.close
-    (tie.spec
-    Inv-loop
-    μ-loop
-    loop-holds
-    add-o
-    add-times-in
-    times-in-requires
-    add-found
-    returns
-    loop-less
-    loop-again
-    returns-2)
+    (tie.spec Inv-loop μ-loop loop-holds (λ c. search needs) (λ c. search needs)
+    (λ c κs. search needs) (λ c. search needs) returns (λ c. search needs) loop-again returns-2)

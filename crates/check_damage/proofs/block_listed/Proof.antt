@@ -4,24 +4,6 @@ use borrow.Author.Needs.{needs}
 use Rattle.check_damage.proofs.block_listed.Statement.{statement}
 use Rattle.check_damage.proofs.block_listed.Tie as tie
 
-block-node-requires : tie.Need-block-node-requires
-block-node-requires c κs = search needs
-
-links-requires : tie.Need-links-requires
-links-requires c κs = search needs
-
-ids-in-requires : tie.Need-ids-in-requires
-ids-in-requires c κs = search needs
-
-free-anchor-requires : tie.Need-free-anchor-requires
-free-anchor-requires c κs = search needs
-
-block-home-requires : tie.Need-block-home-requires
-block-home-requires c κs = search needs
-
-stands-right-requires : tie.Need-stands-right-requires
-stands-right-requires c κs = search needs
-
 returns : tie.Need-returns
 returns c =
     let h = c .before in
@@ -34,11 +16,5 @@ returns c =
 pub block-listed-spec : {M : Type 1} → statement M
 block-listed-spec =
     tie.close
-    (tie.spec
-    block-node-requires
-    links-requires
-    ids-in-requires
-    free-anchor-requires
-    block-home-requires
-    stands-right-requires
-    returns)
+    (tie.spec (λ c κs. search needs) (λ c κs. search needs) (λ c κs. search needs)
+    (λ c κs. search needs) (λ c κs. search needs) (λ c κs. search needs) returns)

@@ -5,14 +5,8 @@ use borrow.Author.Needs.{needs}
 use Rattle.check_damage.proofs.few.Statement.{statement}
 use Rattle.check_damage.proofs.few.Tie as tie
 
-system-requires : tie.Need-system-requires
-system-requires c κs = search needs
-
-at-most-requires : tie.Need-at-most-requires
-at-most-requires c κs = search needs
-
 returns : tie.Need-returns
 returns c = (c .at-most .ensures .0 ∙ (λ z. atMost (c .before .system .ensures z) maxMessages), c .at-most .ensures .1)
 
 pub few-spec : {M : Type 1} → statement M
-few-spec = tie.close (tie.spec system-requires at-most-requires returns)
+few-spec = tie.close (tie.spec (λ c κs. search needs) (λ c κs. search needs) returns)

@@ -1,8 +1,7 @@
 -- `check_damage::first_breach` meets its contract. The naming tells what the rules tell of the view shown. Assumes nothing.
-use mathlib.Core.Path.{_≡_, sym, ap, _∙_}
+use mathlib.Core.Path.{sym, ap, _∙_}
 use Prim.Native.Nat.{_<_, _^_}
 use native.Mathlib.Omega.{arith}
-use lib.IntN.{ℤ}
 use denote.Ref.{now}
 use Rattle.rules.specs.Codes.{number}
 use Rattle.rules.specs.Breach.{Breach}
@@ -15,18 +14,9 @@ use borrow.Author.Needs.{needs}
 use Rattle.check_damage.proofs.first_breach.Statement.{statement}
 use Rattle.check_damage.proofs.first_breach.Tie as tie
 
-system-requires : tie.Need-system-requires
-system-requires c κs = search needs
-
-numbers-ok-requires : tie.Need-numbers-ok-requires
-numbers-ok-requires c κs = search needs
-
 returns : tie.Need-returns
 unfolding number
 returns c = let n = c .before in let s = n .before in let a = s .before .before .before .args in let low : entry Layout.system (now (a .words)) Layout.clockLow < 2 ^ 32 = omega (arith, s .system .ensures, s .system .ok) in let e = number-told (now (a .words)) (now (a .messages)) (search needs) low (failed (n .numbers-ok .ensures) (c .if1 .taken)) in (ap (λ (x : Breach). number (x .code)) (sym e), ap (λ (x : Breach). x .id) (sym e))
-
-first-broken-requires : tie.Need-first-broken-requires
-first-broken-requires c κs = search needs
 
 returns-2 : tie.Need-returns-2
 returns-2 c = let i = c .before in let n = i .before in let s = n .before in let a = s .before .before .before .args in let low : entry Layout.system (now (a .words)) Layout.clockLow < 2 ^ 32 = omega (arith, s .system .ensures, s .system .ok) in let e = rule-told (now (a .words)) (now (a .messages)) (search needs) low (passed (n .numbers-ok .ensures) (i .if1 .left)) in (c .first-broken .ensures .0 ∙ ap (λ (x : Told). x .code) (sym e), c .first-broken .ensures .1 ∙ ap (λ (x : Told). x .id) (sym e))
@@ -34,4 +24,4 @@ returns-2 c = let i = c .before in let n = i .before in let s = n .before in let
 pub first-breach-spec : {M : Type 1} → statement M
 first-breach-spec =
     tie.close
-    (tie.spec system-requires numbers-ok-requires returns first-broken-requires returns-2)
+    (tie.spec (λ c κs. search needs) (λ c κs. search needs) returns (λ c κs. search needs) returns-2)

@@ -1,8 +1,7 @@
 -- `check_damage::first_broken` meets its contract. What is left of the rules, and of the ids of one, tells what all of them do. Assumes nothing.
-use mathlib.Core.Path.{_≡_, ap, _∙_}
-use Prim.Native.Nat.{_-_, _<_}
+use mathlib.Core.Path.{ap, _∙_}
+use Prim.Native.Nat.{_-_}
 use native.Mathlib.Omega.{arith}
-use Rattle.rules.specs.Codes.{number}
 use Rattle.check_ranges.proofs.Steps.{failed, passed}
 use Rattle.check_damage.specs.Damage.{rules, Told}
 use Rattle.check_damage.proofs.Steps.{Trying, Looking, trying-starts, no-rule, looking-starts, no-id, id-broken, id-kept}
@@ -26,29 +25,17 @@ abbrev μ-rules : tie.MeasureT-rules
 rules-holds : tie.Need-rules-holds Inv-loop μ-loop Inv-rules μ-rules
 rules-holds c = trying-starts _
 
-ids-of-requires : tie.Need-ids-of-requires Inv-loop μ-loop Inv-rules μ-rules
-ids-of-requires c κs = search needs
-
 loop-holds : tie.Need-loop-holds Inv-loop μ-loop Inv-rules μ-rules
 loop-holds c = looking-starts _ _ (c .before .before .rules .inv) (c .before .if1 .left) (c .ids-of .ensures .0)
 
 add-id : tie.Need-add-id Inv-loop μ-loop Inv-rules μ-rules
 add-id c = omega (arith, c .before .before .ids-of .ensures .1, c .loop-test .taken)
 
-keeps-requires : tie.Need-keeps-requires Inv-loop μ-loop Inv-rules μ-rules
-keeps-requires c κs = search needs
-
-code-of-requires : tie.Need-code-of-requires Inv-loop μ-loop Inv-rules μ-rules
-code-of-requires c κs = search needs
-
 loop-less : tie.Need-loop-less Inv-loop μ-loop Inv-rules μ-rules
 loop-less c = let t = c .before .before in omega (arith, t .loop-test .taken)
 
 loop-again : tie.Need-loop-again Inv-loop μ-loop Inv-rules μ-rules
 loop-again c = let t = c .before .before in id-kept _ (t .before .before .before .before .rules .rule) _ _ (t .before .loop .inv) (t .loop-test .taken) (passed (c .before .keeps .ensures) (c .if2 .left))
-
-add-rule : tie.Need-add-rule Inv-loop μ-loop Inv-rules μ-rules
-add-rule c = search needs
 
 rules-less : tie.Need-rules-less Inv-loop μ-loop Inv-rules μ-rules
 rules-less c = omega (arith, c .before .before .before .if1 .left)
@@ -65,21 +52,6 @@ returns-2 c = let k = c .before .before in let t = k .before in let e = id-broke
 pub first-broken-spec : {M : Type 1} → statement M
 first-broken-spec =
     tie.close
-    (tie.spec
-    Inv-loop
-    μ-loop
-    Inv-rules
-    μ-rules
-    rules-holds
-    ids-of-requires
-    loop-holds
-    add-id
-    keeps-requires
-    code-of-requires
-    loop-less
-    loop-again
-    add-rule
-    rules-less
-    rules-again
-    returns
-    returns-2)
+    (tie.spec Inv-loop μ-loop Inv-rules μ-rules rules-holds (λ c κs. search needs) loop-holds add-id
+    (λ c κs. search needs) (λ c κs. search needs) loop-less loop-again (λ c. search needs)
+    rules-less rules-again returns returns-2)

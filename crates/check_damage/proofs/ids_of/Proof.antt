@@ -4,15 +4,6 @@ use borrow.Author.Needs.{needs}
 use Rattle.check_damage.proofs.ids_of.Statement.{statement}
 use Rattle.check_damage.proofs.ids_of.Tie as tie
 
-few-requires : tie.Need-few-requires
-few-requires c κs = search needs
-
-few-requires-2 : tie.Need-few-requires-2
-few-requires-2 c κs = search needs
-
-few-requires-3 : tie.Need-few-requires-3
-few-requires-3 c κs = search needs
-
 returns : tie.Need-returns
 returns c = (rw (c .before .match .keys1) (c .few .ensures .0), c .few .ensures .1)
 
@@ -23,4 +14,4 @@ returns-3 : tie.Need-returns-3
 returns-3 c = let r = c .before .match .rest in (rw (ne-eqb _ 2 (r .0 .1), ne-eqb _ 3 (r .1)) (c .few3 .ensures .0), c .few3 .ensures .1)
 
 pub ids-of-spec : {M : Type 1} → statement M
-ids-of-spec = tie.close (tie.spec few-requires few-requires-2 few-requires-3 returns returns-2 returns-3)
+ids-of-spec = tie.close (tie.spec (λ c κs. search needs) (λ c κs. search needs) (λ c κs. search needs) returns returns-2 returns-3)

@@ -4,18 +4,6 @@ use borrow.Author.Needs.{needs}
 use Rattle.check_damage.proofs.keeps.Statement.{statement}
 use Rattle.check_damage.proofs.keeps.Tie as tie
 
-task-placed-requires : tie.Need-task-placed-requires
-task-placed-requires c κs = search needs
-
-unserved-ok-requires : tie.Need-unserved-ok-requires
-unserved-ok-requires c κs = search needs
-
-message-once-requires : tie.Need-message-once-requires
-message-once-requires c κs = search needs
-
-pool-listed-requires : tie.Need-pool-listed-requires
-pool-listed-requires c κs = search needs
-
 returns : tie.Need-returns
 returns c = rw (c .before .match .keys1) (c .task-placed .ensures)
 
@@ -31,12 +19,5 @@ returns-4 c = let r = c .before .match .rest in rw (ne-eqb _ 0 (r .0 .0 .1), ne-
 pub keeps-spec : {M : Type 1} → statement M
 keeps-spec =
     tie.close
-    (tie.spec
-    task-placed-requires
-    unserved-ok-requires
-    message-once-requires
-    pool-listed-requires
-    returns
-    returns-2
-    returns-3
-    returns-4)
+    (tie.spec (λ c κs. search needs) (λ c κs. search needs) (λ c κs. search needs)
+    (λ c κs. search needs) returns returns-2 returns-3 returns-4)

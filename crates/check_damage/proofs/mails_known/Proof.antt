@@ -4,11 +4,8 @@ use borrow.Author.Needs.{needs}
 use Rattle.check_damage.proofs.mails_known.Statement.{statement}
 use Rattle.check_damage.proofs.mails_known.Tie as tie
 
-queues-known-requires : tie.Need-queues-known-requires
-queues-known-requires c κs = search needs
-
 returns : tie.Need-returns
 returns c = range-last _ _ (c .queues-known .ensures)
 
 pub mails-known-spec : {M : Type 1} → statement M
-mails-known-spec = tie.close (tie.spec queues-known-requires returns)
+mails-known-spec = tie.close (tie.spec (λ c κs. search needs) returns)

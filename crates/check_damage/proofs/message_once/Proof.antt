@@ -8,15 +8,6 @@ use borrow.Author.Needs.{needs}
 use Rattle.check_damage.proofs.message_once.Statement.{statement}
 use Rattle.check_damage.proofs.message_once.Tie as tie
 
-links-requires : tie.Need-links-requires
-links-requires c κs = search needs
-
-ids-in-requires : tie.Need-ids-in-requires
-ids-in-requires c κs = search needs
-
-few-requires : tie.Need-few-requires
-few-requires c κs = search needs
-
 at-most-once-requires : tie.Need-at-most-once-requires
 at-most-once-requires c κs = omega (arith, c .few .ensures .1)
 
@@ -27,4 +18,4 @@ returns c = let f = c .before in let s = f .before in let l = s .before in c .at
 pub message-once-spec : {M : Type 1} → statement M
 message-once-spec =
     tie.close
-    (tie.spec links-requires ids-in-requires few-requires at-most-once-requires returns)
+    (tie.spec (λ c κs. search needs) (λ c κs. search needs) (λ c κs. search needs) at-most-once-requires returns)

@@ -1,27 +1,17 @@
 -- `check_damage::numbers_ok` meets its contract. A test that fails decides. Assumes nothing.
 use Rattle.check_ranges.proofs.Steps.{failed, passed, also}
 use Rattle.check_damage.specs.Damage.{numbersOk}
-use mathlib.Core.Bool.{and-false}
 use borrow.Author.Needs.{needs}
 use Rattle.check_damage.proofs.numbers_ok.Statement.{statement}
 use Rattle.check_damage.proofs.numbers_ok.Tie as tie
-
-in-range-requires : tie.Need-in-range-requires
-in-range-requires c κs = search needs
 
 returns : tie.Need-returns
 unfolding numbersOk
 returns c = simp (failed (c .before .in-range .ensures) (c .if1 .taken))
 
-tasks-known-requires : tie.Need-tasks-known-requires
-tasks-known-requires c κs = search needs
-
 returns-2 : tie.Need-returns-2
 unfolding numbersOk
 returns-2 c = let i = c .before .before in also (passed (i .before .in-range .ensures) (i .if1 .left)) (simp (failed (c .before .tasks-known .ensures) (c .if2 .taken)))
-
-mails-known-requires : tie.Need-mails-known-requires
-mails-known-requires c κs = search needs
 
 returns-3 : tie.Need-returns-3
 unfolding numbersOk
@@ -29,9 +19,6 @@ returns-3 c =
     let j = c .before .before in
     let i = j .before .before in
     also (passed (i .before .in-range .ensures) (i .if1 .left)) (also (passed (j .before .tasks-known .ensures) (j .if2 .left)) (simp (failed (c .before .mails-known .ensures) (c .if3 .taken))))
-
-pools-known-requires : tie.Need-pools-known-requires
-pools-known-requires c κs = search needs
 
 returns-4 : tie.Need-returns-4
 unfolding numbersOk
@@ -44,12 +31,5 @@ returns-4 c =
 pub numbers-ok-spec : {M : Type 1} → statement M
 numbers-ok-spec =
     tie.close
-    (tie.spec
-    in-range-requires
-    returns
-    tasks-known-requires
-    returns-2
-    mails-known-requires
-    returns-3
-    pools-known-requires
-    returns-4)
+    (tie.spec (λ c κs. search needs) returns (λ c κs. search needs) returns-2 (λ c κs. search needs)
+    returns-3 (λ c κs. search needs) returns-4)

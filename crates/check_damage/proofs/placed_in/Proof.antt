@@ -8,15 +8,6 @@ use borrow.Author.Needs.{needs}
 use Rattle.check_damage.proofs.placed_in.Statement.{statement}
 use Rattle.check_damage.proofs.placed_in.Tie as tie
 
-links-requires : tie.Need-links-requires
-links-requires c κs = search needs
-
-ids-in-requires : tie.Need-ids-in-requires
-ids-in-requires c κs = search needs
-
-few-requires : tie.Need-few-requires
-few-requires c κs = search needs
-
 all-right-requires : tie.Need-all-right-requires
 all-right-requires c κs = omega (arith, c .few .ensures .1)
 
@@ -25,4 +16,4 @@ returns c = let f = c .before in let s = f .before in let l = s .before in let a
 
 pub placed-in-spec : {M : Type 1} → statement M
 placed-in-spec =
-    tie.close (tie.spec links-requires ids-in-requires few-requires all-right-requires returns)
+    tie.close (tie.spec (λ c κs. search needs) (λ c κs. search needs) (λ c κs. search needs) all-right-requires returns)

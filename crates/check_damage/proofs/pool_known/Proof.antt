@@ -1,6 +1,6 @@
 -- `check_damage::pool_known` meets its contract. The line of a part of the memory. Assumes nothing.
-use mathlib.Core.Path.{_∙_, sym}
-use Prim.Native.Nat.{_+_, _*_}
+use mathlib.Core.Path.{_∙_}
+use Prim.Native.Nat.{_*_}
 use native.Mathlib.Numerals.{sub-one}
 use Rattle.memory_rings.specs.Rings.{lineOf}
 use Rattle.memory_columns.specs.Layout.{freeNode, maxBlocks}
@@ -8,27 +8,6 @@ use Rattle.check_damage.specs.Lists.{known}
 use borrow.Author.Needs.{needs}
 use Rattle.check_damage.proofs.pool_known.Statement.{statement}
 use Rattle.check_damage.proofs.pool_known.Tie as tie
-
-links-requires : tie.Need-links-requires
-links-requires c κs = search needs
-
-ids-in-requires : tie.Need-ids-in-requires
-ids-in-requires c κs = search needs
-
-add-line-known : tie.Need-add-line-known
-add-line-known c = search needs
-
-sub-line-known : tie.Need-sub-line-known
-sub-line-known c = search needs
-
-mul-line-known : tie.Need-mul-line-known
-mul-line-known c = search needs
-
-size-requires : tie.Need-size-requires
-size-requires c κs = search needs
-
-line-known-requires : tie.Need-line-known-requires
-line-known-requires c κs = search needs
 
 returns : tie.Need-returns
 returns c =
@@ -41,12 +20,5 @@ returns c =
 pub pool-known-spec : {M : Type 1} → statement M
 pool-known-spec =
     tie.close
-    (tie.spec
-    links-requires
-    ids-in-requires
-    add-line-known
-    sub-line-known
-    mul-line-known
-    size-requires
-    line-known-requires
-    returns)
+    (tie.spec (λ c κs. search needs) (λ c κs. search needs) (λ c. search needs) (λ c. search needs)
+    (λ c. search needs) (λ c κs. search needs) (λ c κs. search needs) returns)

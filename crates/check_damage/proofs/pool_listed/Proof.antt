@@ -16,17 +16,8 @@ Inv-loop words p n k₀ k = Passing (blockListed words p) n k
 abbrev μ-loop : tie.MeasureT-loop
 μ-loop words p n k₀ k = n - k
 
-size-requires : tie.Need-size-requires Inv-loop μ-loop
-size-requires c κs = search needs
-
 loop-holds : tie.Need-loop-holds Inv-loop μ-loop
 loop-holds c = passing-none _ _
-
-add-k : tie.Need-add-k Inv-loop μ-loop
-add-k c = search needs
-
-block-listed-requires : tie.Need-block-listed-requires Inv-loop μ-loop
-block-listed-requires c κs = search needs
 
 returns : tie.Need-returns Inv-loop μ-loop
 unfolding poolListed
@@ -34,9 +25,6 @@ returns c =
     let b = c .before .before in
     let s = b .before .before in
     passing-fail _ _ _ (b .before .loop .inv) (b .loop-test .taken) (failed (c .before .block-listed .ensures) (c .if1 .taken)) ∙ (λ z. every (s .size .ensures z) 1 (blockListed (now (s .before .args .words)) (s .before .args .p)))
-
-loop-less : tie.Need-loop-less Inv-loop μ-loop
-loop-less c = search needs
 
 loop-again : tie.Need-loop-again Inv-loop μ-loop
 loop-again c = let b = c .before .before in passing-on _ _ _ (b .before .loop .inv) (b .loop-test .taken) (passed (c .before .block-listed .ensures) (c .if1 .left))
@@ -48,4 +36,4 @@ returns-2 c =
     passing-all _ _ _ (c .before .loop .inv) (c .loop-test .left) ∙ (λ z. every (s .size .ensures z) 1 (blockListed (now (s .before .args .words)) (s .before .args .p)))
 
 pub pool-listed-spec : {M : Type 1} → statement M
-pool-listed-spec = tie.close (tie.spec Inv-loop μ-loop size-requires loop-holds add-k block-listed-requires returns loop-less loop-again returns-2)
+pool-listed-spec = tie.close (tie.spec Inv-loop μ-loop (λ c κs. search needs) loop-holds (λ c. search needs) (λ c κs. search needs) returns (λ c. search needs) loop-again returns-2)

@@ -17,14 +17,8 @@ Inv-loop words n p₀ p = Passing (poolKnown words) n p
 abbrev μ-loop : tie.MeasureT-loop
 μ-loop words n p₀ p = n - p
 
-few-requires : tie.Need-few-requires Inv-loop μ-loop
-few-requires c κs = search needs
-
 loop-holds : tie.Need-loop-holds Inv-loop μ-loop
 loop-holds c = passing-none _ _
-
-add-p : tie.Need-add-p Inv-loop μ-loop
-add-p c = search needs
 
 pool-known-requires : tie.Need-pool-known-requires Inv-loop μ-loop
 pool-known-requires c κs = (omega arith, omega (arith, c .before .before .few .ensures .1))
@@ -35,9 +29,6 @@ returns c =
     let s = b .before .before in
     passing-fail _ _ _ (b .before .loop .inv) (b .loop-test .taken) (failed (c .before .pool-known .ensures) (c .if1 .taken)) ∙ (λ z. every (s .few .ensures .0 z) 1 (poolKnown (now (s .before .args .words))))
 
-loop-less : tie.Need-loop-less Inv-loop μ-loop
-loop-less c = search needs
-
 loop-again : tie.Need-loop-again Inv-loop μ-loop
 loop-again c = let b = c .before .before in passing-on _ _ _ (b .before .loop .inv) (b .loop-test .taken) (passed (c .before .pool-known .ensures) (c .if1 .left))
 
@@ -47,4 +38,4 @@ returns-2 c =
     passing-all _ _ _ (c .before .loop .inv) (c .loop-test .left) ∙ (λ z. every (s .few .ensures .0 z) 1 (poolKnown (now (s .before .args .words))))
 
 pub pools-known-spec : {M : Type 1} → statement M
-pools-known-spec = tie.close (tie.spec Inv-loop μ-loop few-requires loop-holds add-p pool-known-requires returns loop-less loop-again returns-2)
+pools-known-spec = tie.close (tie.spec Inv-loop μ-loop (λ c κs. search needs) loop-holds (λ c. search needs) pool-known-requires returns (λ c. search needs) loop-again returns-2)

@@ -9,15 +9,6 @@ use borrow.Author.Needs.{needs}
 use Rattle.check_damage.proofs.queues_known.Statement.{statement}
 use Rattle.check_damage.proofs.queues_known.Tie as tie
 
-links-requires : tie.Need-links-requires
-links-requires c κs = search needs
-
-ids-in-requires : tie.Need-ids-in-requires
-ids-in-requires c κs = search needs
-
-few-requires : tie.Need-few-requires
-few-requires c κs = search needs
-
 all-known-requires : tie.Need-all-known-requires
 all-known-requires c κs = omega (arith, c .few .ensures .1)
 
@@ -26,4 +17,4 @@ returns c = let f = c .before in let s = f .before in let l = s .before in c .al
 
 pub queues-known-spec : {M : Type 1} → statement M
 queues-known-spec =
-    tie.close (tie.spec links-requires ids-in-requires few-requires all-known-requires returns)
+    tie.close (tie.spec (λ c κs. search needs) (λ c κs. search needs) (λ c κs. search needs) all-known-requires returns)

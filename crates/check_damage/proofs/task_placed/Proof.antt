@@ -6,14 +6,8 @@ use borrow.Author.Needs.{needs}
 use Rattle.check_damage.proofs.task_placed.Statement.{statement}
 use Rattle.check_damage.proofs.task_placed.Tie as tie
 
-home-requires : tie.Need-home-requires
-home-requires c κs = search needs
-
-placed-requires : tie.Need-placed-requires
-placed-requires c κs = search needs
-
 returns : tie.Need-returns
 returns c = let a = c .before .before .args in c .placed .ensures ∙ (λ z. placed (now (a .words)) (c .before .home .ensures z) (a .t))
 
 pub task-placed-spec : {M : Type 1} → statement M
-task-placed-spec = tie.close (tie.spec home-requires placed-requires returns)
+task-placed-spec = tie.close (tie.spec (λ c κs. search needs) (λ c κs. search needs) returns)

@@ -5,11 +5,8 @@ use borrow.Author.Needs.{needs}
 use Rattle.check_state.proofs.accepts.Statement.{statement}
 use Rattle.check_state.proofs.accepts.Tie as tie
 
-accepts-test-requires : tie.Need-accepts-test-requires
-accepts-test-requires c κs = search needs
-
 returns : tie.Need-returns
 returns c = let a = c .before .before .before .args in rw (c .accepts-test .ensures) (accepts-law (now (a .words)) (now (a .messages)) (search needs) (search needs))
 
 pub accepts-spec : {M : Type 1} → statement M
-accepts-spec = tie.close (tie.spec accepts-test-requires returns)
+accepts-spec = tie.close (tie.spec (λ c κs. search needs) returns)

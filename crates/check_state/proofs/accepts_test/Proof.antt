@@ -11,51 +11,27 @@ use borrow.Author.Needs.{needs}
 use Rattle.check_state.proofs.accepts_test.Statement.{statement}
 use Rattle.check_state.proofs.accepts_test.Tie as tie
 
-ranges-ok-requires : tie.Need-ranges-ok-requires
-ranges-ok-requires c κs = search needs
-
 returns : tie.Need-returns
 returns c = let g = c .before .before in out-of-range (g .args .whole) (now (g .args .words)) (now (g .args .messages)) (failed (c .before .ranges-ok .ensures) (c .if1 .taken))
 
 returns-2 : tie.Need-returns-2
 returns-2 c = rw (not-true (c .before .before .before .args .whole) (c .if2 .taken)) (sym (passed (c .before .before .ranges-ok .ensures) (c .before .if1 .left)))
 
-queued-requires : tie.Need-queued-requires
-queued-requires c κs = search needs
-
 returns-3 : tie.Need-returns-3
 unfolding accepts
 returns-3 c = let i = c .before .before in rw (not-false (i .before .before .before .args .whole) (i .if2 .left)) (simp (failed (c .before .queued .ensures) (c .if3 .taken), and-false))
-
-ready-marked-requires : tie.Need-ready-marked-requires
-ready-marked-requires c κs = search needs
 
 returns-4 : tie.Need-returns-4
 unfolding accepts
 returns-4 c = let i = c .before .before .before .before in rw (not-false (i .before .before .before .args .whole) (i .if2 .left)) (simp (failed (c .before .ready-marked .ensures) (c .if4 .taken), and-false))
 
-queued-requires-2 : tie.Need-queued-requires-2
-queued-requires-2 c κs = search needs
-
 returns-5 : tie.Need-returns-5
 unfolding accepts
 returns-5 c = let i = c .before .before .before .before .before .before in rw (not-false (i .before .before .before .args .whole) (i .if2 .left)) (simp (failed (c .before .queued2 .ensures) (c .if5 .taken), and-false))
 
-queued-requires-3 : tie.Need-queued-requires-3
-queued-requires-3 c κs = search needs
-
 returns-6 : tie.Need-returns-6
 unfolding accepts
 returns-6 c = let i = c .before .before .before .before .before .before .before .before in rw (not-false (i .before .before .before .args .whole) (i .if2 .left)) (simp (failed (c .before .queued3 .ensures) (c .if6 .taken), and-false))
-
-system-requires : tie.Need-system-requires
-system-requires c κs = search needs
-
-at-most-requires : tie.Need-at-most-requires
-at-most-requires c κs = search needs
-
-all-unserved-requires : tie.Need-all-unserved-requires
-all-unserved-requires c κs = search needs
 
 returns-7 : tie.Need-returns-7
 unfolding accepts
@@ -79,19 +55,6 @@ returns-7 c =
 pub accepts-test-spec : {M : Type 1} → statement M
 accepts-test-spec =
     tie.close
-    (tie.spec
-    ranges-ok-requires
-    returns
-    returns-2
-    queued-requires
-    returns-3
-    ready-marked-requires
-    returns-4
-    queued-requires-2
-    returns-5
-    queued-requires-3
-    returns-6
-    system-requires
-    at-most-requires
-    all-unserved-requires
-    returns-7)
+    (tie.spec (λ c κs. search needs) returns returns-2 (λ c κs. search needs) returns-3
+    (λ c κs. search needs) returns-4 (λ c κs. search needs) returns-5 (λ c κs. search needs)
+    returns-6 (λ c κs. search needs) (λ c κs. search needs) (λ c κs. search needs) returns-7)

@@ -17,20 +17,8 @@ abbrev μ-loop : tie.MeasureT-loop
 loop-holds : tie.Need-loop-holds Inv-loop μ-loop
 loop-holds c = (refl, omega arith)
 
-unserved-ok-requires : tie.Need-unserved-ok-requires Inv-loop μ-loop
-unserved-ok-requires c κs = search needs
-
 returns : tie.Need-returns Inv-loop μ-loop
 returns c = let b = c .before .before in going-fail _ _ _ _ (b .before .loop .inv) (b .loop-test .taken) (failed (c .before .unserved-ok .ensures) (c .if1 .taken))
-
-add-i : tie.Need-add-i Inv-loop μ-loop
-add-i c = search needs
-
-sub-left : tie.Need-sub-left Inv-loop μ-loop
-sub-left c = search needs
-
-loop-less : tie.Need-loop-less Inv-loop μ-loop
-loop-less c = search needs
 
 loop-again : tie.Need-loop-again Inv-loop μ-loop
 loop-again c = let b = c .before .before in going-on _ _ _ _ (b .before .loop .inv) (b .loop-test .taken) (passed (c .before .unserved-ok .ensures) (c .if1 .left))
@@ -41,14 +29,5 @@ returns-2 c = going-done _ _ _ _ (c .before .loop .inv) (c .loop-test .left)
 pub all-unserved-spec : {M : Type 1} → statement M
 all-unserved-spec =
     tie.close
-    (tie.spec
-    Inv-loop
-    μ-loop
-    loop-holds
-    unserved-ok-requires
-    returns
-    add-i
-    sub-left
-    loop-less
-    loop-again
-    returns-2)
+    (tie.spec Inv-loop μ-loop loop-holds (λ c κs. search needs) returns (λ c. search needs)
+    (λ c. search needs) (λ c. search needs) loop-again returns-2)

@@ -3,11 +3,8 @@ use borrow.Author.Needs.{needs}
 use Rattle.check_state.proofs.in_range.Statement.{statement}
 use Rattle.check_state.proofs.in_range.Tie as tie
 
-accepts-test-requires : tie.Need-accepts-test-requires
-accepts-test-requires c κs = search needs
-
 returns : tie.Need-returns
 returns c = c .accepts-test .ensures
 
 pub in-range-spec : {M : Type 1} → statement M
-in-range-spec = tie.close (tie.spec accepts-test-requires returns)
+in-range-spec = tie.close (tie.spec (λ c κs. search needs) returns)

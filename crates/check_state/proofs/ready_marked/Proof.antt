@@ -3,14 +3,8 @@ use borrow.Author.Needs.{needs}
 use Rattle.check_state.proofs.ready_marked.Statement.{statement}
 use Rattle.check_state.proofs.ready_marked.Tie as tie
 
-nonempty-requires : tie.Need-nonempty-requires
-nonempty-requires c κs = search needs
-
-ready-marks-requires : tie.Need-ready-marks-requires
-ready-marks-requires c κs = search needs
-
 returns : tie.Need-returns
 returns c = rw (← c .before .nonempty .ensures, ← c .ready-marks .ensures)
 
 pub ready-marked-spec : {M : Type 1} → statement M
-ready-marked-spec = tie.close (tie.spec nonempty-requires ready-marks-requires returns)
+ready-marked-spec = tie.close (tie.spec (λ c κs. search needs) (λ c κs. search needs) returns)

@@ -4,15 +4,6 @@ use borrow.Author.Needs.{needs}
 use Rattle.check_state.proofs.unserved_ok.Statement.{statement}
 use Rattle.check_state.proofs.unserved_ok.Tie as tie
 
-status-requires : tie.Need-status-requires
-status-requires c κs = search needs
-
-waits-requires : tie.Need-waits-requires
-waits-requires c κs = search needs
-
-wait-free-requires : tie.Need-wait-free-requires
-wait-free-requires c κs = search needs
-
 returns : tie.Need-returns
 unfolding unservedOk
 returns c = let i = c .before in rw (← i .before .before .status .ensures, ← i .before .waits .ensures, i .if1 .taken) (c .wait-free .ensures)
@@ -22,4 +13,4 @@ unfolding unservedOk
 returns-2 c = rw (← c .before .before .status .ensures, ← c .before .waits .ensures, c .if1 .left)
 
 pub unserved-ok-spec : {M : Type 1} → statement M
-unserved-ok-spec = tie.close (tie.spec status-requires waits-requires wait-free-requires returns returns-2)
+unserved-ok-spec = tie.close (tie.spec (λ c κs. search needs) (λ c κs. search needs) (λ c κs. search needs) returns returns-2)

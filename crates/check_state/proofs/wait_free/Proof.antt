@@ -5,36 +5,6 @@ use borrow.Author.Needs.{needs}
 use Rattle.check_state.proofs.wait_free.Statement.{statement}
 use Rattle.check_state.proofs.wait_free.Tie as tie
 
-kind-requires : tie.Need-kind-requires
-kind-requires c κs = search needs
-
-object-requires : tie.Need-object-requires
-object-requires c κs = search needs
-
-semaphore-requires : tie.Need-semaphore-requires
-semaphore-requires c κs = search needs
-
-flag-requires : tie.Need-flag-requires
-flag-requires c κs = search needs
-
-wish-requires : tie.Need-wish-requires
-wish-requires c κs = search needs
-
-mode-requires : tie.Need-mode-requires
-mode-requires c κs = search needs
-
-meets-requires : tie.Need-meets-requires
-meets-requires c κs = search needs
-
-mail-anchor-requires : tie.Need-mail-anchor-requires
-mail-anchor-requires c κs = search needs
-
-first-requires : tie.Need-first-requires
-first-requires c κs = search needs
-
-free-requires : tie.Need-free-requires
-free-requires c κs = search needs
-
 returns : tie.Need-returns
 unfolding waitFree
 returns c = let m = c .before in rw (← m .before .before .kind .ensures, m .match .keys1, ← m .before .object .ensures, ← c .semaphore .ensures)
@@ -58,19 +28,7 @@ returns-5 c = let r = c .match .rest in rw (← c .before .before .kind .ensures
 pub wait-free-spec : {M : Type 1} → statement M
 wait-free-spec =
     tie.close
-    (tie.spec
-    kind-requires
-    object-requires
-    semaphore-requires
-    flag-requires
-    wish-requires
-    mode-requires
-    meets-requires
-    mail-anchor-requires
-    first-requires
-    free-requires
-    returns
-    returns-2
-    returns-3
-    returns-4
-    returns-5)
+    (tie.spec (λ c κs. search needs) (λ c κs. search needs) (λ c κs. search needs)
+    (λ c κs. search needs) (λ c κs. search needs) (λ c κs. search needs) (λ c κs. search needs)
+    (λ c κs. search needs) (λ c κs. search needs) (λ c κs. search needs) returns returns-2 returns-3
+    returns-4 returns-5)

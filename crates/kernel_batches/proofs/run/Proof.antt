@@ -8,38 +8,8 @@ use borrow.Author.Needs.{needs}
 use Rattle.kernel_batches.proofs.run.Statement.{statement}
 use Rattle.kernel_batches.proofs.run.Tie as tie
 
-fit-requires : tie.Need-fit-requires
-fit-requires c κs = search needs
-
-enum-told : tie.Need-enum-told
-enum-told c = search needs
-
-start-requires : tie.Need-start-requires
-start-requires c κs = search needs
-
-enum-told-2 : tie.Need-enum-told-2
-enum-told-2 c = search needs
-
 run-all-requires : tie.Need-run-all-requires
 run-all-requires c κs = let e = c .before .before .before .before .before .before .before .before .before in sym (e .before .before .fit .ensures) ∙ e .enum-told .given .1
-
-enum-known-d : tie.Need-enum-known-d
-enum-known-d c = search needs
-
-enum-told-3 : tie.Need-enum-told-3
-enum-told-3 c = search needs
-
-enum-told-4 : tie.Need-enum-told-4
-enum-told-4 c = search needs
-
-enum-told-5 : tie.Need-enum-told-5
-enum-told-5 c = search needs
-
-same-length : tie.Need-same-length
-same-length c = search needs
-
-same-length-2 : tie.Need-same-length-2
-same-length-2 c = search needs
 
 returns : tie.Need-returns
 returns c =
@@ -83,20 +53,6 @@ returns-5 c =
 pub run-spec : {M : Type 1} → statement M
 run-spec =
     tie.close
-    (tie.spec
-    fit-requires
-    enum-told
-    start-requires
-    enum-told-2
-    run-all-requires
-    enum-known-d
-    enum-told-3
-    enum-told-4
-    enum-told-5
-    same-length
-    same-length-2
-    returns
-    returns-2
-    returns-3
-    returns-4
-    returns-5)
+    (tie.spec (λ c κs. search needs) (λ c. search needs) (λ c κs. search needs) (λ c. search needs)
+    run-all-requires (λ c. search needs) (λ c. search needs) (λ c. search needs) (λ c. search needs)
+    (λ c. search needs) (λ c. search needs) returns returns-2 returns-3 returns-4 returns-5)

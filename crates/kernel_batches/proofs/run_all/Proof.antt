@@ -7,21 +7,6 @@ use borrow.Author.Needs.{needs}
 use Rattle.kernel_batches.proofs.run_all.Statement.{statement}
 use Rattle.kernel_batches.proofs.run_all.Tie as tie
 
-judged-requires : tie.Need-judged-requires
-judged-requires c κs = search needs
-
-running-task-requires : tie.Need-running-task-requires
-running-task-requires c κs = search needs
-
-serve-all-requires : tie.Need-serve-all-requires
-serve-all-requires c κs = search needs
-
-same-length : tie.Need-same-length
-same-length c = search needs
-
-same-length-2 : tie.Need-same-length-2
-same-length-2 c = search needs
-
 returns : tie.Need-returns
 returns c =
     let s = c .before .before .before in
@@ -31,4 +16,4 @@ returns c =
     s .serve-all .ensures (known-first _ _ (j .judged .ensures) (r .running-task .ensures)) (fit-room _ (lent (now (g .args .words)) (now (g .args .messages)) (now (g .args .codes)) (now (g .args .answers))) (g .pre))
 
 pub run-all-spec : {M : Type 1} → statement M
-run-all-spec = tie.close (tie.spec judged-requires running-task-requires serve-all-requires same-length same-length-2 returns)
+run-all-spec = tie.close (tie.spec (λ c κs. search needs) (λ c κs. search needs) (λ c κs. search needs) (λ c. search needs) (λ c. search needs) returns)

@@ -6,18 +6,6 @@ use borrow.Author.Needs.{needs}
 use Rattle.kernel_events.proofs.call.Statement.{statement}
 use Rattle.kernel_events.proofs.call.Tie as tie
 
-judged-requires : tie.Need-judged-requires
-judged-requires c κs = search needs
-
-running-task-requires : tie.Need-running-task-requires
-running-task-requires c κs = search needs
-
-is-above-requires : tie.Need-is-above-requires
-is-above-requires c κs = search needs
-
-misnamed-requires : tie.Need-misnamed-requires
-misnamed-requires c κs = search needs
-
 returns : tie.Need-returns
 returns c =
     let i = c .before in
@@ -27,9 +15,6 @@ returns c =
     let g = j .before .before .before in
     misnamed-step (known-first _ _ (j .judged .ensures) (r .running-task .ensures)) _ _ _ _ _ (call-words _ _ _ _ _ (g .fits .context) (g .fits .number) (g .fits .a) (g .fits .b) (g .fits .c))
     (sym (rw (toZ-ofZ (g .fits .context)) at (a .is-above .ensures)) ∙ i .if1 .taken) (c .misnamed .ensures)
-
-serve-requires : tie.Need-serve-requires
-serve-requires c κs = search needs
 
 returns-2 : tie.Need-returns-2
 returns-2 c =
@@ -43,4 +28,4 @@ returns-2 c =
     (known-first _ _ (j .judged .ensures) (r .running-task .ensures))
 
 pub call-spec : {M : Type 1} → statement M
-call-spec = tie.close (tie.spec judged-requires running-task-requires is-above-requires misnamed-requires returns serve-requires returns-2)
+call-spec = tie.close (tie.spec (λ c κs. search needs) (λ c κs. search needs) (λ c κs. search needs) (λ c κs. search needs) returns (λ c κs. search needs) returns-2)

@@ -8,17 +8,8 @@ use borrow.Author.Needs.{needs}
 use Rattle.kernel_events.proofs.misnamed.Statement.{statement}
 use Rattle.kernel_events.proofs.misnamed.Tie as tie
 
-damaged-requires : tie.Need-damaged-requires
-damaged-requires c κs = search needs
-
 returns : tie.Need-returns
 returns c = (λ e. absurd (word-damaged _ (c .before .if1 .taken) e), λ _. c .damaged .ensures)
-
-refuse-requires : tie.Need-refuse-requires
-refuse-requires c κs = search needs
-
-answer-of-requires : tie.Need-answer-of-requires
-answer-of-requires c κs = search needs
 
 returns-2 : tie.Need-returns-2
 unfolding number
@@ -28,4 +19,4 @@ returns-2 c =
     (λ _. c .answer-of .ensures ∙ ap (λ (o : Outcome). replied o (first .before .before .before .args .me)) (at-refuse .refuse .ensures), λ n. absurd (n (word-sound _ (first .before .struct-told .given .0 .1) (first .if1 .left))))
 
 pub misnamed-spec : {M : Type 1} → statement M
-misnamed-spec = tie.close (tie.spec damaged-requires returns refuse-requires answer-of-requires returns-2)
+misnamed-spec = tie.close (tie.spec (λ c κs. search needs) returns (λ c κs. search needs) (λ c κs. search needs) returns-2)

@@ -15,9 +15,6 @@ Inv-loop words₀ messages₀ found me events codes₀ answers₀ n runs₀ i₀
 abbrev μ-loop : tie.MeasureT-loop
 μ-loop words₀ messages₀ found me events codes₀ answers₀ n runs₀ i₀ words messages codes answers runs i = n - i
 
-count-requires : tie.Need-count-requires Inv-loop μ-loop
-count-requires c κs = search needs
-
 loop-holds : tie.Need-loop-holds Inv-loop μ-loop
 loop-holds c = record { running = λ K _. begins _ _ K; codes = refl; answers = refl }
 
@@ -27,9 +24,6 @@ serve-one-requires c κs =
     let l = i .before in
     let Q = l .before .count .ensures in
     (omega (arith, i .loop-test .taken, Q .0), omega (arith, i .loop-test .taken, Q .1, l .loop .inv .codes), omega (arith, i .loop-test .taken, Q .2, l .loop .inv .answers))
-
-add-i : tie.Need-add-i Inv-loop μ-loop
-add-i c = search needs
 
 loop-less : tie.Need-loop-less Inv-loop μ-loop
 loop-less c = omega arith
@@ -60,15 +54,5 @@ returns c =
 pub serve-all-spec : {M : Type 1} → statement M
 serve-all-spec =
     tie.close
-    (tie.spec
-    Inv-loop
-    μ-loop
-    count-requires
-    loop-holds
-    serve-one-requires
-    add-i
-    loop-less
-    loop-again
-    same-length
-    same-length-2
-    returns)
+    (tie.spec Inv-loop μ-loop (λ c κs. search needs) loop-holds serve-one-requires
+    (λ c. search needs) loop-less loop-again same-length same-length-2 returns)

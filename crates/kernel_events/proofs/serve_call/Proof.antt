@@ -1,6 +1,6 @@
 -- `kernel_events::serve_call` meets its contract. By the context and the number. Assumes nothing.
 use mir.Facts.{toZ-ofZ}
-use mathlib.Core.Path.{_≡_, ap}
+use mathlib.Core.Path.{ap}
 use Prim.Native.Nat.{ℕ}
 use lib.Dec.{eqb}
 use Rattle.rules.specs.Events.{call, Words}
@@ -11,30 +11,6 @@ use Rattle.kernel_events.proofs.serve_call.Tie as tie
 
 words-fit : (c : tie.Start) → Words (call (c .args .context) (c .args .number) (c .args .a) (c .args .b) (c .args .c))
 words-fit c = call-words _ _ _ _ _ (c .fits .context) (c .fits .number) (c .fits .a) (c .fits .b) (c .fits .c)
-
-named-requires : tie.Need-named-requires
-named-requires c κs = search needs
-
-named-requires-2 : tie.Need-named-requires-2
-named-requires-2 c κs = search needs
-
-is-open-requires : tie.Need-is-open-requires
-is-open-requires c κs = search needs
-
-caller-requires : tie.Need-caller-requires
-caller-requires c κs = search needs
-
-handles-requires : tie.Need-handles-requires
-handles-requires c κs = search needs
-
-dispatch-requires : tie.Need-dispatch-requires
-dispatch-requires c κs = search needs
-
-running-task-requires : tie.Need-running-task-requires
-running-task-requires c κs = search needs
-
-answer-of-requires : tie.Need-answer-of-requires
-answer-of-requires c κs = search needs
 
 returns : tie.Need-returns
 returns c =
@@ -54,13 +30,6 @@ returns c =
 pub serve-call-spec : {M : Type 1} → statement M
 serve-call-spec =
     tie.close
-    (tie.spec
-    named-requires
-    named-requires-2
-    is-open-requires
-    caller-requires
-    handles-requires
-    dispatch-requires
-    running-task-requires
-    answer-of-requires
-    returns)
+    (tie.spec (λ c κs. search needs) (λ c κs. search needs) (λ c κs. search needs)
+    (λ c κs. search needs) (λ c κs. search needs) (λ c κs. search needs) (λ c κs. search needs)
+    (λ c κs. search needs) returns)

@@ -5,22 +5,10 @@ use borrow.Author.Needs.{needs}
 use Rattle.kernel_events.proofs.serve_enter.Statement.{statement}
 use Rattle.kernel_events.proofs.serve_enter.Tie as tie
 
-damaged-requires : tie.Need-damaged-requires
-damaged-requires c κs = search needs
-
 returns : tie.Need-returns
 returns c =
     let first = c .before in
     λ K. unsound-step _ _ _ _ tt (not-sound K (word-damaged _ (first .if1 .taken))) (c .damaged .ensures ∙ K .2 (not-sound K (word-damaged _ (first .if1 .taken))))
-
-enter-requires : tie.Need-enter-requires
-enter-requires c κs = search needs
-
-running-task-requires : tie.Need-running-task-requires
-running-task-requires c κs = search needs
-
-answer-of-requires : tie.Need-answer-of-requires
-answer-of-requires c κs = search needs
 
 returns-2 : tie.Need-returns-2
 returns-2 c =
@@ -30,4 +18,4 @@ returns-2 c =
     rw (c .answer-of .ensures) (λ K. enter-done K (word-sound _ (first .before .struct-told .given .0 .1) (first .if1 .left)) (at-running-task .running-task .ensures) (at-enter .enter .ensures))
 
 pub serve-enter-spec : {M : Type 1} → statement M
-serve-enter-spec = tie.close (tie.spec damaged-requires returns enter-requires running-task-requires answer-of-requires returns-2)
+serve-enter-spec = tie.close (tie.spec (λ c κs. search needs) returns (λ c κs. search needs) (λ c κs. search needs) (λ c κs. search needs) returns-2)

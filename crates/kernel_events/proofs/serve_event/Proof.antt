@@ -11,20 +11,11 @@ use Rattle.kernel_events.proofs.serve_event.Tie as tie
 words-fit : (c : tie.Start) → Words (call (c .args .kind) (c .args .number) (c .args .a) (c .args .b) (c .args .c))
 words-fit c = call-words _ _ _ _ _ (c .fits .kind) (c .fits .number) (c .fits .a) (c .fits .b) (c .fits .c)
 
-damaged-requires : tie.Need-damaged-requires
-damaged-requires c κs = search needs
-
 returns : tie.Need-returns
 returns c =
     let first = c .before in
     let g = first .before .before .before in
     λ K. let n = not-sound K (word-damaged _ (first .if1 .taken)) in unsound-step _ _ _ _ (event-words (g .args .kind) (g .args .number) (g .args .a) (g .args .b) (g .args .c) (words-fit g)) n (c .damaged .ensures ∙ K .2 n)
-
-is-above-requires : tie.Need-is-above-requires
-is-above-requires c κs = search needs
-
-serve-call-requires : tie.Need-serve-call-requires
-serve-call-requires c κs = search needs
 
 returns-2 : tie.Need-returns-2
 returns-2 c =
@@ -36,18 +27,6 @@ returns-2 c =
     let kind = sym (rw (toZ-ofZ (g .fits .kind)) at (a .is-above .ensures)) ∙ not-true _ (i .if2 .taken) in
     let serves = rw (toZ-ofZ (g .fits .kind), toZ-ofZ (g .fits .number), toZ-ofZ (g .fits .a), toZ-ofZ (g .fits .b), toZ-ofZ (g .fits .c)) at (c .serve-call .ensures) in
     rw (named-kind (g .args .kind) (g .args .number) (g .args .a) (g .args .b) (g .args .c) kind) (λ K. let A = K .0 .0 sound in serves kind A (K .1 A))
-
-serve-tick-requires : tie.Need-serve-tick-requires
-serve-tick-requires c κs = search needs
-
-serve-enter-requires : tie.Need-serve-enter-requires
-serve-enter-requires c κs = search needs
-
-serve-leave-requires : tie.Need-serve-leave-requires
-serve-leave-requires c κs = search needs
-
-misnamed-requires : tie.Need-misnamed-requires
-misnamed-requires c κs = search needs
 
 returns-3 : tie.Need-returns-3
 returns-3 c =
@@ -81,17 +60,6 @@ returns-6 c =
 pub serve-event-spec : {M : Type 1} → statement M
 serve-event-spec =
     tie.close
-    (tie.spec
-    damaged-requires
-    returns
-    is-above-requires
-    serve-call-requires
-    returns-2
-    serve-tick-requires
-    serve-enter-requires
-    serve-leave-requires
-    misnamed-requires
-    returns-3
-    returns-4
-    returns-5
-    returns-6)
+    (tie.spec (λ c κs. search needs) returns (λ c κs. search needs) (λ c κs. search needs) returns-2
+    (λ c κs. search needs) (λ c κs. search needs) (λ c κs. search needs) (λ c κs. search needs)
+    returns-3 returns-4 returns-5 returns-6)

@@ -6,66 +6,6 @@ use borrow.Author.Needs.{needs}
 use Rattle.kernel_events.proofs.serve_one.Statement.{statement}
 use Rattle.kernel_events.proofs.serve_one.Tie as tie
 
-mul-at : tie.Need-mul-at
-mul-at c = search needs
-
-mul-serve-event : tie.Need-mul-serve-event
-mul-serve-event c = search needs
-
-shared-slice-copy-out-serve-event : tie.Need-shared-slice-copy-out-serve-event
-shared-slice-copy-out-serve-event c = search needs
-
-add-serve-event : tie.Need-add-serve-event
-add-serve-event c = search needs
-
-mul-serve-event-2 : tie.Need-mul-serve-event-2
-mul-serve-event-2 c = search needs
-
-shared-slice-copy-out-serve-event-2 : tie.Need-shared-slice-copy-out-serve-event-2
-shared-slice-copy-out-serve-event-2 c = search needs
-
-add-serve-event-2 : tie.Need-add-serve-event-2
-add-serve-event-2 c = search needs
-
-mul-serve-event-3 : tie.Need-mul-serve-event-3
-mul-serve-event-3 c = search needs
-
-shared-slice-copy-out-serve-event-3 : tie.Need-shared-slice-copy-out-serve-event-3
-shared-slice-copy-out-serve-event-3 c = search needs
-
-add-serve-event-3 : tie.Need-add-serve-event-3
-add-serve-event-3 c = search needs
-
-mul-serve-event-4 : tie.Need-mul-serve-event-4
-mul-serve-event-4 c = search needs
-
-shared-slice-copy-out-serve-event-4 : tie.Need-shared-slice-copy-out-serve-event-4
-shared-slice-copy-out-serve-event-4 c = search needs
-
-add-serve-event-4 : tie.Need-add-serve-event-4
-add-serve-event-4 c = search needs
-
-mul-serve-event-5 : tie.Need-mul-serve-event-5
-mul-serve-event-5 c = search needs
-
-shared-slice-copy-out-serve-event-5 : tie.Need-shared-slice-copy-out-serve-event-5
-shared-slice-copy-out-serve-event-5 c = search needs
-
-serve-event-requires : tie.Need-serve-event-requires
-serve-event-requires c κs = search needs
-
-write-code-requires : tie.Need-write-code-requires
-write-code-requires c κs = search needs
-
-write-words-requires : tie.Need-write-words-requires
-write-words-requires c κs = search needs
-
-same-length : tie.Need-same-length
-same-length c = search needs
-
-same-length-2 : tie.Need-same-length-2
-same-length-2 c = search needs
-
 returns : tie.Need-returns
 returns c =
     let w = c .before .before in
@@ -88,25 +28,8 @@ returns c =
 pub serve-one-spec : {M : Type 1} → statement M
 serve-one-spec =
     tie.close
-    (tie.spec
-    mul-at
-    mul-serve-event
-    shared-slice-copy-out-serve-event
-    add-serve-event
-    mul-serve-event-2
-    shared-slice-copy-out-serve-event-2
-    add-serve-event-2
-    mul-serve-event-3
-    shared-slice-copy-out-serve-event-3
-    add-serve-event-3
-    mul-serve-event-4
-    shared-slice-copy-out-serve-event-4
-    add-serve-event-4
-    mul-serve-event-5
-    shared-slice-copy-out-serve-event-5
-    serve-event-requires
-    write-code-requires
-    write-words-requires
-    same-length
-    same-length-2
-    returns)
+    (tie.spec (λ c. search needs) (λ c. search needs) (λ c. search needs) (λ c. search needs)
+    (λ c. search needs) (λ c. search needs) (λ c. search needs) (λ c. search needs)
+    (λ c. search needs) (λ c. search needs) (λ c. search needs) (λ c. search needs)
+    (λ c. search needs) (λ c. search needs) (λ c. search needs) (λ c κs. search needs)
+    (λ c κs. search needs) (λ c κs. search needs) (λ c. search needs) (λ c. search needs) returns)

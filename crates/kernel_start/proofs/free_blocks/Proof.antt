@@ -18,18 +18,6 @@ abbrev μ-loop : tie.MeasureT-loop
 loop-holds : tie.Need-loop-holds Inv-loop μ-loop
 loop-holds c = (refl, omega arith)
 
-mark-block-requires : tie.Need-mark-block-requires Inv-loop μ-loop
-mark-block-requires c κs = search needs
-
-add-i : tie.Need-add-i Inv-loop μ-loop
-add-i c = search needs
-
-sub-left : tie.Need-sub-left Inv-loop μ-loop
-sub-left c = search needs
-
-loop-less : tie.Need-loop-less Inv-loop μ-loop
-loop-less c = search needs
-
 loop-again : tie.Need-loop-again Inv-loop μ-loop
 loop-again c =
     let l = c .before .before in
@@ -39,4 +27,4 @@ returns : tie.Need-returns Inv-loop μ-loop
 returns c = turn-none _ _ _ _ (c .loop-test .left) ∙ c .before .loop .inv .0
 
 pub free-blocks-spec : {M : Type 1} → statement M
-free-blocks-spec = tie.close (tie.spec Inv-loop μ-loop loop-holds mark-block-requires add-i sub-left loop-less loop-again returns)
+free-blocks-spec = tie.close (tie.spec Inv-loop μ-loop loop-holds (λ c κs. search needs) (λ c. search needs) (λ c. search needs) (λ c. search needs) loop-again returns)

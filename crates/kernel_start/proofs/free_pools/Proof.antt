@@ -21,15 +21,6 @@ loop-holds c = (refl, omega arith, omega arith)
 free-pool-requires : tie.Need-free-pool-requires Inv-loop μ-loop
 free-pool-requires c κs = c .before .before .loop .inv .2
 
-add-p : tie.Need-add-p Inv-loop μ-loop
-add-p c = search needs
-
-sub-left : tie.Need-sub-left Inv-loop μ-loop
-sub-left c = search needs
-
-loop-less : tie.Need-loop-less Inv-loop μ-loop
-loop-less c = search needs
-
 loop-again : tie.Need-loop-again Inv-loop μ-loop
 loop-again c =
     let l = c .before .before in
@@ -39,4 +30,4 @@ returns : tie.Need-returns Inv-loop μ-loop
 returns c = turn-none _ _ _ _ (c .loop-test .left) ∙ c .before .loop .inv .0
 
 pub free-pools-spec : {M : Type 1} → statement M
-free-pools-spec = tie.close (tie.spec Inv-loop μ-loop loop-holds free-pool-requires add-p sub-left loop-less loop-again returns)
+free-pools-spec = tie.close (tie.spec Inv-loop μ-loop loop-holds free-pool-requires (λ c. search needs) (λ c. search needs) (λ c. search needs) loop-again returns)

@@ -4,9 +4,6 @@ use borrow.Author.Needs.{needs}
 use Rattle.kernel_start.proofs.lay_fresh.Statement.{statement}
 use Rattle.kernel_start.proofs.lay_fresh.Tie as tie
 
-lay-plan-requires : tie.Need-lay-plan-requires
-lay-plan-requires c κs = search needs
-
 free-pools-requires : tie.Need-free-pools-requires
 free-pools-requires c κs = pools-small _ (c .before .lay-plan .ensures .0)
 
@@ -20,4 +17,4 @@ returns c =
     (fresh-steps _ (p .lay-plan .ensures .0) (p .lay-plan .ensures .1) (f .free-pools .ensures) (c .begin-tasks .ensures), refl)
 
 pub lay-fresh-spec : {M : Type 1} → statement M
-lay-fresh-spec = tie.close (tie.spec lay-plan-requires free-pools-requires begin-tasks-requires returns)
+lay-fresh-spec = tie.close (tie.spec (λ c κs. search needs) free-pools-requires begin-tasks-requires returns)

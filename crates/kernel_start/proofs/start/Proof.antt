@@ -3,18 +3,6 @@ use borrow.Author.Needs.{needs}
 use Rattle.kernel_start.proofs.start.Statement.{statement}
 use Rattle.kernel_start.proofs.start.Tie as tie
 
-judge-whole-requires : tie.Need-judge-whole-requires
-judge-whole-requires c κs = search needs
-
-enum-known-d : tie.Need-enum-known-d
-enum-known-d c = search needs
-
-enum-told : tie.Need-enum-told
-enum-told c = search needs
-
-lay-fresh-requires : tie.Need-lay-fresh-requires
-lay-fresh-requires c κs = search needs
-
 returns : tie.Need-returns
 returns c =
     let m = c .before .before .before in
@@ -28,4 +16,4 @@ returns-2 c =
 pub start-spec : {M : Type 1} → statement M
 start-spec =
     tie.close
-    (tie.spec judge-whole-requires enum-known-d enum-told lay-fresh-requires returns returns-2)
+    (tie.spec (λ c κs. search needs) (λ c. search needs) (λ c. search needs) (λ c κs. search needs) returns returns-2)

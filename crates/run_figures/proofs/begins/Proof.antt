@@ -9,15 +9,6 @@ use Rattle.run_figures.proofs.begins.Tie as tie
 slice-aggregate-start : tie.Need-slice-aggregate-start
 slice-aggregate-start c = let a = c .before .before in omega (arith, length-take (a .args .end) (a .args .held .now), a .pre)
 
-start-requires : tie.Need-start-requires
-start-requires c κs = search needs
-
-judged-requires : tie.Need-judged-requires
-judged-requires c κs = search needs
-
-running-task-requires : tie.Need-running-task-requires
-running-task-requires c κs = search needs
-
 returns : tie.Need-returns
 returns c =
     let S = c .before .before .before .before .before in
@@ -26,4 +17,4 @@ returns c =
 pub begins-spec : {M : Type 1} → statement M
 begins-spec =
     tie.close
-    (tie.spec slice-aggregate-start start-requires judged-requires running-task-requires returns)
+    (tie.spec slice-aggregate-start (λ c κs. search needs) (λ c κs. search needs) (λ c κs. search needs) returns)

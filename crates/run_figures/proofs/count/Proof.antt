@@ -20,25 +20,10 @@ Inv-loop numbers₀ held₀ words₀ messages₀ table₀ codes₀ bytes t₀ i�
 abbrev μ-loop : tie.MeasureT-loop
 μ-loop numbers₀ held₀ words₀ messages₀ table₀ codes₀ bytes t₀ i₀ numbers held words messages table codes t i = length bytes - i
 
-judged-requires : tie.Need-judged-requires Inv-loop μ-loop
-judged-requires c κs = search needs
-
-running-task-requires : tie.Need-running-task-requires Inv-loop μ-loop
-running-task-requires c κs = search needs
-
-first-number-requires : tie.Need-first-number-requires Inv-loop μ-loop
-first-number-requires c κs = search needs
-
 loop-holds : tie.Need-loop-holds Inv-loop μ-loop
 loop-holds c =
     let r = c .before .before in
     (reached-none _ _ _ (known-first _ _ (r .before .before .judged .ensures) (r .running-task .ensures)) (ap (λ (n : ℕ). said n 0) (c .first-number .ensures _)), omega arith)
-
-shared-slice-read-take-byte : tie.Need-shared-slice-read-take-byte Inv-loop μ-loop
-shared-slice-read-take-byte c = search needs
-
-take-byte-requires : tie.Need-take-byte-requires Inv-loop μ-loop
-take-byte-requires c κs = search needs
 
 count-item-requires : tie.Need-count-item-requires Inv-loop μ-loop
 count-item-requires c κs = c .before .before .before .before .before .take-byte .ensures .sized
@@ -48,9 +33,6 @@ next-fits c = omega arith
 
 add-i : tie.Need-add-i Inv-loop μ-loop
 add-i c = record { fits = next-fits (c .before .before .before .before .before .before .before .before .before .before) }
-
-loop-less : tie.Need-loop-less Inv-loop μ-loop
-loop-less c = search needs
 
 loop-again : tie.Need-loop-again Inv-loop μ-loop
 loop-again c =
@@ -66,17 +48,6 @@ returns c = let L = c .before in reached-all _ _ (L .loop .i) (c .loop-test .lef
 pub count-spec : {M : Type 1} → statement M
 count-spec =
     tie.close
-    (tie.spec
-    Inv-loop
-    μ-loop
-    judged-requires
-    running-task-requires
-    first-number-requires
-    loop-holds
-    shared-slice-read-take-byte
-    take-byte-requires
-    count-item-requires
-    add-i
-    loop-less
-    loop-again
-    returns)
+    (tie.spec Inv-loop μ-loop (λ c κs. search needs) (λ c κs. search needs) (λ c κs. search needs)
+    loop-holds (λ c. search needs) (λ c κs. search needs) count-item-requires add-i
+    (λ c. search needs) loop-again returns)

@@ -5,18 +5,6 @@ use borrow.Author.Needs.{needs}
 use Rattle.run_figures.proofs.count_event.Statement.{statement}
 use Rattle.run_figures.proofs.count_event.Tie as tie
 
-tasks-requires : tie.Need-tasks-requires
-tasks-requires c κs = search needs
-
-states-requires : tie.Need-states-requires
-states-requires c κs = search needs
-
-table-counted-requires : tie.Need-table-counted-requires
-table-counted-requires c κs = search needs
-
-codes-counted-requires : tie.Need-codes-counted-requires
-codes-counted-requires c κs = search needs
-
 returns : tie.Need-returns
 returns c =
     let P = c .before .before in
@@ -28,4 +16,4 @@ returns c =
 pub count-event-spec : {M : Type 1} → statement M
 count-event-spec =
     tie.close
-    (tie.spec tasks-requires states-requires table-counted-requires codes-counted-requires returns)
+    (tie.spec (λ c κs. search needs) (λ c κs. search needs) (λ c κs. search needs) (λ c κs. search needs) returns)

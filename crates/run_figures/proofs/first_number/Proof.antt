@@ -7,9 +7,6 @@ use borrow.Author.Needs.{needs}
 use Rattle.run_figures.proofs.first_number.Statement.{statement}
 use Rattle.run_figures.proofs.first_number.Tie as tie
 
-is-closed-requires : tie.Need-is-closed-requires
-is-closed-requires c κs = search needs
-
 returns : tie.Need-returns
 returns c = let a = c .before .before .before .args in λ h. first-taken (closed (recorderOf (a .numbers .now) h)) (a .size) (sym (c .before .before .is-closed .ensures h) ∙ c .before .if1 .taken) (c .if2 .taken)
 
@@ -20,4 +17,4 @@ returns-3 : tie.Need-returns-3
 returns-3 c = let a = c .before .before .args in λ h. first-open (closed (recorderOf (a .numbers .now) h)) (a .size) (sym (c .before .is-closed .ensures h) ∙ c .if1 .left)
 
 pub first-number-spec : {M : Type 1} → statement M
-first-number-spec = tie.close (tie.spec is-closed-requires returns returns-2 returns-3)
+first-number-spec = tie.close (tie.spec (λ c κs. search needs) returns returns-2 returns-3)

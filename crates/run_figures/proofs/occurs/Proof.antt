@@ -7,12 +7,6 @@ use borrow.Author.Needs.{needs}
 use Rattle.run_figures.proofs.occurs.Statement.{statement}
 use Rattle.run_figures.proofs.occurs.Tie as tie
 
-serve-held-requires : tie.Need-serve-held-requires
-serve-held-requires c κs = search needs
-
-count-event-requires : tie.Need-count-event-requires
-count-event-requires c κs = search needs
-
 returns : tie.Need-returns
 returns c =
     let S = c .before .before .before .before .before in
@@ -21,4 +15,4 @@ returns c =
     λ i. told-occurs _ _ _ (S .before .before .before .before .args .held .now) i {r = r} (S .serve-held .ensures) (rw (toZ-ofZ {w = w32} (record { sfits = c .before .struct-told .given .0 .1 })) at (c .count-event .ensures))
 
 pub occurs-spec : {M : Type 1} → statement M
-occurs-spec = tie.close (tie.spec serve-held-requires count-event-requires returns)
+occurs-spec = tie.close (tie.spec (λ c κs. search needs) (λ c κs. search needs) returns)

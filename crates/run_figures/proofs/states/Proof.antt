@@ -29,27 +29,6 @@ abbrev μ-loop : tie.MeasureT-loop
 loop-holds : tie.Need-loop-holds Inv-loop μ-loop
 loop-holds c = (λ j h. absurd (omega (arith, h)), omega arith, refl)
 
-cast-state-number : tie.Need-cast-state-number Inv-loop μ-loop
-cast-state-number c = search needs
-
-add-state-number : tie.Need-add-state-number Inv-loop μ-loop
-add-state-number c = search needs
-
-state-number-requires : tie.Need-state-number-requires Inv-loop μ-loop
-state-number-requires c κs = search needs
-
-mul-s : tie.Need-mul-s Inv-loop μ-loop
-mul-s c = search needs
-
-array-write-s : tie.Need-array-write-s Inv-loop μ-loop
-array-write-s c = search needs
-
-add-i : tie.Need-add-i Inv-loop μ-loop
-add-i c = search needs
-
-loop-less : tie.Need-loop-less Inv-loop μ-loop
-loop-less c = search needs
-
 loop-again : tie.Need-loop-again Inv-loop μ-loop
 loop-again c =
     let L = c .before .before in
@@ -65,16 +44,6 @@ returns c =
 pub states-spec : {M : Type 1} → statement M
 states-spec =
     tie.close
-    (tie.spec
-    Inv-loop
-    μ-loop
-    loop-holds
-    cast-state-number
-    add-state-number
-    state-number-requires
-    mul-s
-    array-write-s
-    add-i
-    loop-less
-    loop-again
-    returns)
+    (tie.spec Inv-loop μ-loop loop-holds (λ c. search needs) (λ c. search needs)
+    (λ c κs. search needs) (λ c. search needs) (λ c. search needs) (λ c. search needs)
+    (λ c. search needs) loop-again returns)

@@ -11,21 +11,6 @@ slice-aggregate-start c =
     let S = c .before .before .before in
     omega (arith, length-take (S .args .end) (S .args .held .now), S .pre)
 
-start-requires : tie.Need-start-requires
-start-requires c κs = search needs
-
-judged-requires : tie.Need-judged-requires
-judged-requires c κs = search needs
-
-running-task-requires : tie.Need-running-task-requires
-running-task-requires c κs = search needs
-
-start-line-requires : tie.Need-start-line-requires
-start-line-requires c κs = search needs
-
-same-length : tie.Need-same-length
-same-length c = search needs
-
 returns : tie.Need-returns
 returns c =
     let L = c .before .before in
@@ -37,11 +22,5 @@ returns c =
 pub begins-spec : {M : Type 1} → statement M
 begins-spec =
     tie.close
-    (tie.spec
-    slice-aggregate-start
-    start-requires
-    judged-requires
-    running-task-requires
-    start-line-requires
-    same-length
-    returns)
+    (tie.spec slice-aggregate-start (λ c κs. search needs) (λ c κs. search needs)
+    (λ c κs. search needs) (λ c κs. search needs) (λ c. search needs) returns)

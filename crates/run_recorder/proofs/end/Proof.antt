@@ -5,41 +5,8 @@ use borrow.Author.Needs.{needs}
 use Rattle.run_recorder.proofs.end.Statement.{statement}
 use Rattle.run_recorder.proofs.end.Tie as tie
 
-is-ended-requires : tie.Need-is-ended-requires
-is-ended-requires c κs = search needs
-
 returns : tie.Need-returns
 returns c = ended-again _ _ _ (sym (c .before .is-ended .ensures _) ∙ c .if1 .taken)
-
-at-end-requires : tie.Need-at-end-requires
-at-end-requires c κs = search needs
-
-enum-known-fault : tie.Need-enum-known-fault
-enum-known-fault c = search needs
-
-end-refused-requires : tie.Need-end-refused-requires
-end-refused-requires c κs = search needs
-
-enum-told : tie.Need-enum-told
-enum-told c = search needs
-
-end-quiet-requires : tie.Need-end-quiet-requires
-end-quiet-requires c κs = search needs
-
-enum-told-2 : tie.Need-enum-told-2
-enum-told-2 c = search needs
-
-end-quiet-requires-2 : tie.Need-end-quiet-requires-2
-end-quiet-requires-2 c κs = search needs
-
-enum-told-3 : tie.Need-enum-told-3
-enum-told-3 c = search needs
-
-end-quiet-requires-3 : tie.Need-end-quiet-requires-3
-end-quiet-requires-3 c κs = search needs
-
-same-length : tie.Need-same-length
-same-length c = search needs
 
 returns-2 : tie.Need-returns-2
 returns-2 c =
@@ -73,20 +40,7 @@ returns-5 c =
 pub end-spec : {M : Type 1} → statement M
 end-spec =
     tie.close
-    (tie.spec
-    is-ended-requires
-    returns
-    at-end-requires
-    enum-known-fault
-    end-refused-requires
-    enum-told
-    end-quiet-requires
-    enum-told-2
-    end-quiet-requires-2
-    enum-told-3
-    end-quiet-requires-3
-    same-length
-    returns-2
-    returns-3
-    returns-4
-    returns-5)
+    (tie.spec (λ c κs. search needs) returns (λ c κs. search needs) (λ c. search needs)
+    (λ c κs. search needs) (λ c. search needs) (λ c κs. search needs) (λ c. search needs)
+    (λ c κs. search needs) (λ c. search needs) (λ c κs. search needs) (λ c. search needs) returns-2
+    returns-3 returns-4 returns-5)

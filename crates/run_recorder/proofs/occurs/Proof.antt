@@ -7,15 +7,6 @@ use borrow.Author.Needs.{needs}
 use Rattle.run_recorder.proofs.occurs.Statement.{statement}
 use Rattle.run_recorder.proofs.occurs.Tie as tie
 
-serve-held-requires : tie.Need-serve-held-requires
-serve-held-requires c κs = search needs
-
-event-line-requires : tie.Need-event-line-requires
-event-line-requires c κs = search needs
-
-same-length : tie.Need-same-length
-same-length c = search needs
-
 returns : tie.Need-returns
 returns c =
     let L = c .before .before in
@@ -26,4 +17,4 @@ returns c =
     plays-occurs (now (S .before .before .before .before .args .held)) _ _ _ _ _ {r = r} (S .serve-held .ensures) W
 
 pub occurs-spec : {M : Type 1} → statement M
-occurs-spec = tie.close (tie.spec serve-held-requires event-line-requires same-length returns)
+occurs-spec = tie.close (tie.spec (λ c κs. search needs) (λ c κs. search needs) (λ c. search needs) returns)

@@ -8,19 +8,10 @@ use Rattle.run_recorder.proofs.part.Tie as tie
 returns : tie.Need-returns
 returns c = part-empty _ _ _ (c .if1 .taken)
 
-is-closed-requires : tie.Need-is-closed-requires
-is-closed-requires c κs = search needs
-
 returns-2 : tie.Need-returns-2
 returns-2 c =
     let i = c .before in
     part-closed _ _ _ (i .before .before .if1 .left) (sym (i .is-closed .ensures _) ∙ c .if2 .taken)
-
-take-part-requires : tie.Need-take-part-requires
-take-part-requires c κs = search needs
-
-same-length : tie.Need-same-length
-same-length c = search needs
 
 returns-3 : tie.Need-returns-3
 returns-3 c =
@@ -31,4 +22,4 @@ returns-3 c =
 pub part-spec : {M : Type 1} → statement M
 part-spec =
     tie.close
-    (tie.spec returns is-closed-requires returns-2 take-part-requires same-length returns-3)
+    (tie.spec returns (λ c κs. search needs) returns-2 (λ c κs. search needs) (λ c. search needs) returns-3)

@@ -5,50 +5,23 @@ use borrow.Author.Needs.{needs}
 use Rattle.run_recorder.proofs.play_item.Statement.{statement}
 use Rattle.run_recorder.proofs.play_item.Tie as tie
 
-enum-told : tie.Need-enum-told
-enum-told c = search needs
-
-enum-known-item : tie.Need-enum-known-item
-enum-known-item c = search needs
-
 begins-requires : tie.Need-begins-requires
 begins-requires c κs =
     let i = c .before .before .before .before in
     rw (i .item .given .1) at (i .before .before .before .pre)
 
-enum-known-item-2 : tie.Need-enum-known-item-2
-enum-known-item-2 c = search needs
-
-occurs-requires : tie.Need-occurs-requires
-occurs-requires c κs = search needs
-
-enum-known-item-3 : tie.Need-enum-known-item-3
-enum-known-item-3 c = search needs
-
-refusal-line-requires : tie.Need-refusal-line-requires
-refusal-line-requires c κs = search needs
-
 returns : tie.Need-returns
 returns c = rw (c .enum-told .given .1) (plays-nothing (now (c .before .before .before .args .held)) _ _ _ _)
-
-same-length : tie.Need-same-length
-same-length c = search needs
 
 returns-2 : tie.Need-returns-2
 returns-2 c =
     let b = c .before .before in
     rw (b .before .before .before .before .before .item .given .1) (b .begins .ensures)
 
-same-length-2 : tie.Need-same-length-2
-same-length-2 c = search needs
-
 returns-3 : tie.Need-returns-3
 returns-3 c =
     let o = c .before .before in
     rw (o .before .before .before .before .before .item2 .given .1) (o .occurs .ensures)
-
-same-length-3 : tie.Need-same-length-3
-same-length-3 c = search needs
 
 returns-4 : tie.Need-returns-4
 returns-4 c =
@@ -58,18 +31,6 @@ returns-4 c =
 pub play-item-spec : {M : Type 1} → statement M
 play-item-spec =
     tie.close
-    (tie.spec
-    enum-told
-    enum-known-item
-    begins-requires
-    enum-known-item-2
-    occurs-requires
-    enum-known-item-3
-    refusal-line-requires
-    returns
-    same-length
-    returns-2
-    same-length-2
-    returns-3
-    same-length-3
-    returns-4)
+    (tie.spec (λ c. search needs) (λ c. search needs) begins-requires (λ c. search needs)
+    (λ c κs. search needs) (λ c. search needs) (λ c κs. search needs) returns (λ c. search needs)
+    returns-2 (λ c. search needs) returns-3 (λ c. search needs) returns-4)

@@ -3,15 +3,6 @@ use borrow.Author.Needs.{needs}
 use Rattle.run_recorder.proofs.step.Statement.{statement}
 use Rattle.run_recorder.proofs.step.Tie as tie
 
-take-byte-requires : tie.Need-take-byte-requires
-take-byte-requires c κs = search needs
-
-play-item-requires : tie.Need-play-item-requires
-play-item-requires c κs = search needs
-
-same-length : tie.Need-same-length
-same-length c = search needs
-
 returns : tie.Need-returns
 returns c =
     let P = c .before .before in
@@ -19,4 +10,4 @@ returns c =
     record { next = T .take-byte .ensures .next; plays = λ K. P .play-item .ensures _ (T .take-byte .ensures .tells) K }
 
 pub step-spec : {M : Type 1} → statement M
-step-spec = tie.close (tie.spec take-byte-requires play-item-requires same-length returns)
+step-spec = tie.close (tie.spec (λ c κs. search needs) (λ c κs. search needs) (λ c. search needs) returns)

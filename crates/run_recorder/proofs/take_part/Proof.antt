@@ -15,12 +15,6 @@ Inv-loop numbers₀ held₀ words₀ messages₀ bytes text₀ found₀ me₀ i�
 abbrev μ-loop : tie.MeasureT-loop
 μ-loop numbers₀ held₀ words₀ messages₀ bytes text₀ found₀ me₀ i₀ at₀ numbers held words messages text found me i at = length bytes - i
 
-judged-requires : tie.Need-judged-requires Inv-loop μ-loop
-judged-requires c κs = search needs
-
-running-task-requires : tie.Need-running-task-requires Inv-loop μ-loop
-running-task-requires c κs = search needs
-
 loop-holds : tie.Need-loop-holds Inv-loop μ-loop
 loop-holds c = going-first _ _ _ (c .before .before .judged .ensures) (c .running-task .ensures)
 
@@ -39,21 +33,6 @@ same-length c = taken-length _ _ _ (c .before .before .loop .inv .done)
 
 returns : tie.Need-returns Inv-loop μ-loop
 returns c = part-full _ _ _ (c .before .before .loop .inv) (c .before .loop-test .taken) (c .if1 .taken)
-
-shared-slice-read-step : tie.Need-shared-slice-read-step Inv-loop μ-loop
-shared-slice-read-step c = search needs
-
-sub-step : tie.Need-sub-step Inv-loop μ-loop
-sub-step c = search needs
-
-part-step-start : tie.Need-part-step-start Inv-loop μ-loop
-part-step-start c = search needs
-
-part-step-end : tie.Need-part-step-end Inv-loop μ-loop
-part-step-end c = search needs
-
-step-requires : tie.Need-step-requires Inv-loop μ-loop
-step-requires c κs = search needs
 
 add-i : tie.Need-add-i Inv-loop μ-loop
 add-i c = record { fits = more-fits (c .before .before .before .before .before .before .before .before .before .before) }
@@ -95,25 +74,7 @@ returns-3 c = part-taken _ _ _ (c .before .loop .inv) (c .loop-test .left)
 pub take-part-spec : {M : Type 1} → statement M
 take-part-spec =
     tie.close
-    (tie.spec
-    Inv-loop
-    μ-loop
-    judged-requires
-    running-task-requires
-    loop-holds
-    sub-if1
-    same-length
-    returns
-    shared-slice-read-step
-    sub-step
-    part-step-start
-    part-step-end
-    step-requires
-    add-i
-    add-at
-    same-length-2
-    returns-2
-    loop-less
-    loop-again
-    same-length-3
-    returns-3)
+    (tie.spec Inv-loop μ-loop (λ c κs. search needs) (λ c κs. search needs) loop-holds sub-if1
+    same-length returns (λ c. search needs) (λ c. search needs) (λ c. search needs)
+    (λ c. search needs) (λ c κs. search needs) add-i add-at same-length-2 returns-2 loop-less
+    loop-again same-length-3 returns-3)

@@ -20,39 +20,6 @@ read h e q = toZ-ofZ {w = w32} (record { sfits = h }) ∙ e ∙ ap signedWord q
 slice-aggregate-event : tie.Need-slice-aggregate-event
 slice-aggregate-event c = omega (arith, length-take 20 (c .before .before .args .held .now), c .before .all .given)
 
-word-requires : tie.Need-word-requires
-word-requires c κs = search needs
-
-signed-requires : tie.Need-signed-requires
-signed-requires c κs = search needs
-
-word-requires-2 : tie.Need-word-requires-2
-word-requires-2 c κs = search needs
-
-signed-requires-2 : tie.Need-signed-requires-2
-signed-requires-2 c κs = search needs
-
-word-requires-3 : tie.Need-word-requires-3
-word-requires-3 c κs = search needs
-
-signed-requires-3 : tie.Need-signed-requires-3
-signed-requires-3 c κs = search needs
-
-word-requires-4 : tie.Need-word-requires-4
-word-requires-4 c κs = search needs
-
-signed-requires-4 : tie.Need-signed-requires-4
-signed-requires-4 c κs = search needs
-
-word-requires-5 : tie.Need-word-requires-5
-word-requires-5 c κs = search needs
-
-signed-requires-5 : tie.Need-signed-requires-5
-signed-requires-5 c κs = search needs
-
-serve-requires : tie.Need-serve-requires
-serve-requires c κs = search needs
-
 returns : tie.Need-returns
 returns c =
     let s5 = c .before .before .before in
@@ -71,17 +38,7 @@ returns c =
 pub serve-held-spec : {M : Type 1} → statement M
 serve-held-spec =
     tie.close
-    (tie.spec
-    slice-aggregate-event
-    word-requires
-    signed-requires
-    word-requires-2
-    signed-requires-2
-    word-requires-3
-    signed-requires-3
-    word-requires-4
-    signed-requires-4
-    word-requires-5
-    signed-requires-5
-    serve-requires
-    returns)
+    (tie.spec slice-aggregate-event (λ c κs. search needs) (λ c κs. search needs)
+    (λ c κs. search needs) (λ c κs. search needs) (λ c κs. search needs) (λ c κs. search needs)
+    (λ c κs. search needs) (λ c κs. search needs) (λ c κs. search needs) (λ c κs. search needs)
+    (λ c κs. search needs) returns)

@@ -12,41 +12,20 @@ Inv-loop links n a low most x₀ left₀ x left = Deciding n (nexts links) a low
 abbrev μ-loop : tie.MeasureT-loop
 μ-loop links n a low most x₀ left₀ x left = left
 
-follow-requires : tie.Need-follow-requires Inv-loop μ-loop
-follow-requires c κs = search needs
-
-add-left : tie.Need-add-left Inv-loop μ-loop
-add-left c = search needs
-
 loop-holds : tie.Need-loop-holds Inv-loop μ-loop
 loop-holds c = deciding-starts _ _ _ _ _ (c .follow .ensures)
 
 returns : tie.Need-returns Inv-loop μ-loop
 returns c = known-back _ _ _ _ _ _ _ (c .before .before .loop .inv) (c .if1 .taken)
 
-shows-requires : tie.Need-shows-requires Inv-loop μ-loop
-shows-requires c κs = search needs
-
 returns-2 : tie.Need-returns-2 Inv-loop μ-loop
 returns-2 c = let i = c .before .before in known-wrong _ _ _ _ _ _ _ (i .before .before .loop .inv) (i .before .loop-test .taken) (i .if1 .left) (failed (c .before .shows .ensures) (c .if2 .taken))
-
-within-requires : tie.Need-within-requires Inv-loop μ-loop
-within-requires c κs = search needs
 
 returns-3 : tie.Need-returns-3 Inv-loop μ-loop
 returns-3 c =
     let s = c .before .before in
     let i = s .before .before in
     known-stray _ _ _ _ _ _ _ (i .before .before .loop .inv) (i .before .loop-test .taken) (i .if1 .left) (passed (s .before .shows .ensures) (s .if2 .left)) (failed (c .before .within .ensures) (c .if3 .taken))
-
-follow-requires-2 : tie.Need-follow-requires-2 Inv-loop μ-loop
-follow-requires-2 c κs = search needs
-
-sub-left : tie.Need-sub-left Inv-loop μ-loop
-sub-left c = search needs
-
-loop-less : tie.Need-loop-less Inv-loop μ-loop
-loop-less c = search needs
 
 loop-again : tie.Need-loop-again Inv-loop μ-loop
 loop-again c =
@@ -61,19 +40,6 @@ returns-4 c = known-spent _ _ _ _ _ _ _ (c .before .loop .inv) (c .loop-test .le
 pub line-known-spec : {M : Type 1} → statement M
 line-known-spec =
     tie.close
-    (tie.spec
-    Inv-loop
-    μ-loop
-    follow-requires
-    add-left
-    loop-holds
-    returns
-    shows-requires
-    returns-2
-    within-requires
-    returns-3
-    follow-requires-2
-    sub-left
-    loop-less
-    loop-again
-    returns-4)
+    (tie.spec Inv-loop μ-loop (λ c κs. search needs) (λ c. search needs) loop-holds returns
+    (λ c κs. search needs) returns-2 (λ c κs. search needs) returns-3 (λ c κs. search needs)
+    (λ c. search needs) (λ c. search needs) loop-again returns-4)

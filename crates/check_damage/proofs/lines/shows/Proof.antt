@@ -6,9 +6,6 @@ use borrow.Author.Needs.{needs}
 use Rattle.check_damage.proofs.lines.shows.Statement.{statement}
 use Rattle.check_damage.proofs.lines.shows.Tie as tie
 
-sub-result : tie.Need-sub-result
-sub-result c = search needs
-
 returns : tie.Need-returns
 returns c = let a = c .before .args in rw (lt-leb 1 (a .x - a .low) (omega arith))
 
@@ -16,4 +13,4 @@ returns-2 : tie.Need-returns-2
 returns-2 c = let a = c .before .args in rw (le-leb 1 (a .x - a .low) (omega arith))
 
 pub shows-spec : {M : Type 1} → statement M
-shows-spec = tie.close (tie.spec sub-result returns returns-2)
+shows-spec = tie.close (tie.spec (λ c. search needs) returns returns-2)

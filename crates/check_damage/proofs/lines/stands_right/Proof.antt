@@ -5,15 +5,9 @@ use Rattle.check_damage.specs.Lists.{standsRight}
 use Rattle.check_damage.proofs.lines.stands_right.Statement.{statement}
 use Rattle.check_damage.proofs.lines.stands_right.Tie as tie
 
-times-in-requires : tie.Need-times-in-requires
-times-in-requires c κs = search needs
-
-one-if-same-requires : tie.Need-one-if-same-requires
-one-if-same-requires c κs = search needs
-
 returns : tie.Need-returns
 unfolding standsRight
 returns c = λ z. eqb (c .before .times-in .ensures .0 z) (c .one-if-same .ensures .0 z)
 
 pub stands-right-spec : {M : Type 1} → statement M
-stands-right-spec = tie.close (tie.spec times-in-requires one-if-same-requires returns)
+stands-right-spec = tie.close (tie.spec (λ c κs. search needs) (λ c κs. search needs) returns)
