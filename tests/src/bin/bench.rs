@@ -4,7 +4,7 @@
 //! Each row sets two sides beside each other in one run: they take turns, round after round, each from the same state over the same events,
 //! and the quickest round of each counts. Two kernels must have answered alike. With two words, a side (events, calls, rings,
 //! checked, c, checkedc) and a setup (small, middle, large), that side alone plays the mixed events once, for a profiler; with `blocks`
-//! as the second word, the grants and returns on large.
+//! as the second word, the grants and returns on large, with `ticks` and `timed` ticks over 32 tasks of which none or all are timed.
 use okrozumba::brightness::Curve;
 use okrozumba::recorder::Recorder;
 use okrozumba::{Answer, State};
@@ -115,6 +115,20 @@ fn pair_of_blocks() -> Vec<i32> {
     let returned = |k| [[0, 24, 1, 0, 0], [0, 25, 1, k, 0]];
     let round: Vec<Five> = (1..=32).flat_map(returned).collect();
     repeated(&round, MIXED)
+}
+
+fn only_ticks() -> Vec<i32> {
+    repeated(&[[2, 0, 0, 0, 0]], MIXED)
+}
+
+/// Each of 32 tasks sleeps.
+fn all_asleep() -> Vec<i32> {
+    repeated(&[[0, 9, 0, 0, 0]], 32)
+}
+
+/// Each of 32 tasks waits for as long as it may.
+fn all_timed() -> Vec<i32> {
+    repeated(&[[0, 10, i32::MAX, 0, 0]], 32)
 }
 
 /// A message in each of its places.
@@ -321,9 +335,7 @@ fn growth(what: &str, many: &State, few: &State) {
 
 fn ticks() {
     let s = &with_tasks(32);
-    let events = &repeated(&[[2, 0, 0, 0, 0]], MIXED);
-    let asleep = &repeated(&[[0, 9, 0, 0, 0]], 32);
-    let timed = &repeated(&[[0, 10, i32::MAX, 0, 0]], 32);
+    let (events, asleep, timed) = (&only_ticks(), &all_asleep(), &all_timed());
     let none = after(Events(proved(s)), asleep);
     let all = after(Events(proved(s)), timed);
     row(
@@ -552,20 +564,27 @@ fn profiled(side: &str, name: &str) {
     let s = &match name {
         "small" => small(),
         "middle" => middle(),
+        "ticks" | "timed" => with_tasks(32),
         _ => large(),
+    };
+    let before = &match name {
+        "ticks" => all_asleep(),
+        "timed" => all_timed(),
+        _ => Vec::new(),
     };
     let events = &match name {
         "blocks" => pair_of_blocks(),
+        "ticks" | "timed" => only_ticks(),
         _ => mixed(s, MIXED),
     };
     let to = &mut Answers::of(events);
     match side {
-        "events" => Events(proved(s)).play(events, to),
-        "calls" => Calls(proved(s)).play(events, to),
-        "rings" => Unchecked(rings(s)).play(events, to),
-        "c" => C(c(s)).play(events, to),
-        "checkedc" => CheckedC(c(s)).play(events, to),
-        _ => Checked(rings(s)).play(events, to),
+        "events" => after(Events(proved(s)), before).play(events, to),
+        "calls" => after(Calls(proved(s)), before).play(events, to),
+        "rings" => after(Unchecked(rings(s)), before).play(events, to),
+        "c" => after(C(c(s)), before).play(events, to),
+        "checkedc" => after(CheckedC(c(s)), before).play(events, to),
+        _ => after(Checked(rings(s)), before).play(events, to),
     }
 }
 
