@@ -1,3 +1,4 @@
+use mathlib.Core.Path.{_∙_}
 use Rattle.kernel_fresh.specs.Laying.{laidFlag}
 use borrow.Author.Needs.{needs}
 use Rattle.kernel_fresh.proofs.lay_flag.Statement.{statement}
@@ -5,7 +6,7 @@ use Rattle.kernel_fresh.proofs.lay_flag.Tie as tie
 
 returns : tie.Need-returns
 unfolding laidFlag
-returns c = cc
+returns c = c .set-flag .ensures ∙ rw (c .before .word-at .ensures)
 
 pub lay-flag-spec : {M : Type 1} → statement M
 lay-flag-spec =

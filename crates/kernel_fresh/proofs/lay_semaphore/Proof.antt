@@ -1,3 +1,4 @@
+use mathlib.Core.Path.{_∙_}
 use Rattle.kernel_fresh.specs.Laying.{laidSemaphore}
 use borrow.Author.Needs.{needs}
 use Rattle.kernel_fresh.proofs.lay_semaphore.Statement.{statement}
@@ -5,7 +6,7 @@ use Rattle.kernel_fresh.proofs.lay_semaphore.Tie as tie
 
 returns : tie.Need-returns
 unfolding laidSemaphore
-returns c = cc
+returns c = c .set-semaphore .ensures ∙ rw (c .before .word-at .ensures)
 
 pub lay-semaphore-spec : {M : Type 1} → statement M
 lay-semaphore-spec =

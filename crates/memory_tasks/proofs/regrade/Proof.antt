@@ -1,3 +1,4 @@
+use mathlib.Core.Path.{_∙_}
 use borrow.Author.Tests.{eq-eqb, ne-eqb}
 use borrow.Author.Needs.{needs}
 use Rattle.memory_tasks.specs.Moves.{regraded}
@@ -8,7 +9,7 @@ returns : tie.Need-returns
 unfolding regraded
 returns c =
     let i = c .before .before in
-    simp (← i .before .before .before .status .ensures, eq-eqb _ _ (i .if1 .taken)) (cc)
+    simp (← i .before .before .before .status .ensures, eq-eqb _ _ (i .if1 .taken)) (c .rotate .ensures ∙ rw (i .before .set-priority .ensures))
 
 returns-2 : tie.Need-returns-2
 unfolding regraded

@@ -1,3 +1,4 @@
+use mathlib.Core.Path.{_∙_}
 use borrow.Author.Tests.{eq-eqb, ne-eqb}
 use borrow.Author.Needs.{needs}
 use Rattle.memory_tasks.specs.Moves.{released}
@@ -8,13 +9,14 @@ returns : tie.Need-returns
 unfolding released
 returns c =
     let i = c .before .before .before .before in
-    simp (← i .before .status .ensures, eq-eqb _ _ (i .if1 .taken)) (cc)
+    simp (← i .before .status .ensures, eq-eqb _ _ (i .if1 .taken)) (c .make-ready .ensures ∙ rw (c .before .before .end-wait .ensures))
 
 returns-2 : tie.Need-returns-2
 unfolding released
 returns-2 c =
-    let i = c .before .before .before .before .before .before in
-    simp (← i .before .before .status .ensures, ne-eqb _ _ (i .before .if1 .left), eq-eqb _ _ (i .if2 .taken)) (cc)
+    let s = c .before .before in
+    let i = s .before .before .before .before in
+    simp (← i .before .before .status .ensures, ne-eqb _ _ (i .before .if1 .left), eq-eqb _ _ (i .if2 .taken)) (c .leave .ensures ∙ rw (s .set-status .ensures, s .before .before .end-wait2 .ensures))
 
 returns-3 : tie.Need-returns-3
 unfolding released

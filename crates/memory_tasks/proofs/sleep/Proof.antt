@@ -1,3 +1,4 @@
+use mathlib.Core.Path.{_∙_}
 use borrow.Author.Needs.{needs}
 use Rattle.memory_tasks.specs.Moves.{slept}
 use Rattle.memory_tasks.proofs.sleep.Statement.{statement}
@@ -5,7 +6,7 @@ use Rattle.memory_tasks.proofs.sleep.Tie as tie
 
 returns : tie.Need-returns
 unfolding slept
-returns c = cc
+returns c = c .leave .ensures ∙ rw (c .before .before .write-wait .ensures)
 
 pub sleep-spec : {M : Type 1} → statement M
 sleep-spec = tie.close (tie.spec (λ c κs. search needs) (λ c κs. search needs) returns)

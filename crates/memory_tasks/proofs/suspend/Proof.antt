@@ -1,3 +1,4 @@
+use mathlib.Core.Path.{_∙_}
 use borrow.Author.Tests.{eq-eqb, ne-eqb}
 use borrow.Author.Needs.{needs}
 use Rattle.memory_tasks.specs.Moves.{halted}
@@ -8,7 +9,7 @@ returns : tie.Need-returns
 unfolding halted
 returns c =
     let i = c .before .before .before .before in
-    simp (← i .before .status .ensures, eq-eqb _ _ (i .if1 .taken)) (cc)
+    simp (← i .before .status .ensures, eq-eqb _ _ (i .if1 .taken)) (c .leave .ensures ∙ rw (c .before .before .set-status .ensures))
 
 returns-2 : tie.Need-returns-2
 unfolding halted

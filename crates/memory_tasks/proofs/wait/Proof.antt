@@ -1,3 +1,4 @@
+use mathlib.Core.Path.{_∙_}
 use borrow.Author.Needs.{needs}
 use Rattle.memory_tasks.specs.Moves.{waited}
 use Rattle.memory_tasks.proofs.wait.Statement.{statement}
@@ -5,7 +6,10 @@ use Rattle.memory_tasks.proofs.wait.Tie as tie
 
 returns : tie.Need-returns
 unfolding waited
-returns c = cc
+returns c =
+    let a = c .before in
+    let l = a .before .before in
+    c .push .ensures ∙ rw (a .wait-anchor .ensures, l .leave .ensures, l .before .before .write-wait .ensures)
 
 pub wait-spec : {M : Type 1} → statement M
 wait-spec =

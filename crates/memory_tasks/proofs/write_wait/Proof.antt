@@ -1,15 +1,17 @@
+use mathlib.Core.Path.{_∙_}
 use borrow.Author.Needs.{needs}
-use Rattle.memory_tasks.proofs.Steps.{wait-steps}
+use Rattle.memory_tasks.specs.Moves.{awaiting}
 use Rattle.memory_tasks.proofs.write_wait.Statement.{statement}
 use Rattle.memory_tasks.proofs.write_wait.Tie as tie
 
 returns : tie.Need-returns
+unfolding awaiting
 returns c =
     let m = c .before .before in
     let w = m .before .before in
     let o = w .before .before in
     let k = o .before .before in
-    wait-steps _ _ _ _ _ _ _ (k .before .before .set-status .ensures) (k .set-kind .ensures) (o .set-object .ensures) (w .set-wish .ensures) (m .set-mode .ensures) (c .set-ticks .ensures)
+    c .set-ticks .ensures ∙ rw (m .set-mode .ensures, w .set-wish .ensures, o .set-object .ensures, k .set-kind .ensures, k .before .before .set-status .ensures)
 
 pub write-wait-spec : {M : Type 1} → statement M
 write-wait-spec =

@@ -1,3 +1,4 @@
+use mathlib.Core.Path.{_∙_}
 use borrow.Author.Needs.{needs}
 use Rattle.memory_objects.specs.Moves.{agedAll}
 use Rattle.memory_objects.proofs.time.age_all.Statement.{statement}
@@ -5,7 +6,9 @@ use Rattle.memory_objects.proofs.time.age_all.Tie as tie
 
 returns : tie.Need-returns
 unfolding agedAll
-returns c = cc (c .before .before .at-most .ensures .0)
+returns c =
+    let n = c .before .before in
+    c .age-tasks .ensures ∙ rw (n .at-most .ensures .0, n .before .system .ensures)
 
 pub age-all-spec : {M : Type 1} → statement M
 age-all-spec = tie.close (tie.spec (λ c κs. search needs) (λ c κs. search needs) (λ c κs. search needs) returns)

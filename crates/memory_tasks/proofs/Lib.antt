@@ -1,2 +1,0 @@
--- Laws of the acts on tasks.
-pub mod Steps
