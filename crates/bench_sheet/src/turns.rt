@@ -8,7 +8,7 @@ use crate::text::signed;
 use crate::text::upto;
 use kernel_batches::Batch;
 use kernel_batches::Ran;
-use kernel_events::Answer;
+use kernel_steps::Answer;
 use memory_columns::STATE_WORDS;
 
 // The kinds of events in a list.

@@ -18,7 +18,7 @@ use Rattle.rules.proofs.Breach.{breach-tells}
 use Rattle.rules.proofs.Broken.{read-kept, read-there}
 use Rattle.rules.proofs.Events.{event-next}
 use Rattle.memory_picture.specs.Picture.{viewShown, Accepted}
-use Rattle.kernel_events.specs.Steps.{Reply, Link, Step, Chain}
+use Rattle.kernel_steps.specs.Steps.{Reply, Link, Step, Chain}
 use Rattle.kernel_cells.specs.Promises.{Reads}
 use Rattle.brightness.specs.DarkRoom.{stateIn, UntilFreed}
 

@@ -19,7 +19,7 @@ use Rattle.rules.proofs.Broken.{stays-broken, broken-read}
 use Rattle.rules.specs.Table.{judge}
 use Rattle.rules.proofs.Events.{cell-reads, event-served, event-next}
 use Rattle.memory_picture.specs.Picture.{viewShown, Accepted}
-use Rattle.kernel_events.specs.Steps.{Reply, told, Link, Step, Chain}
+use Rattle.kernel_steps.specs.Steps.{Reply, told, Link, Step, Chain}
 use Rattle.brightness_curve.specs.declared.Curve.{Curve}
 use Rattle.brightness_curve.specs.declared.Judged.{Judged}
 use Rattle.brightness_curve.specs.declared.Judged.the-variants.{Good, BadPoint}

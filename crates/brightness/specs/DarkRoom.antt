@@ -9,7 +9,7 @@ use Rattle.rules.specs.Events.{nat}
 use Rattle.rules.specs.View.{line}
 use Rattle.rules.specs.Broken.{isFresh, Unless, BreaksOff}
 use Rattle.memory_picture.specs.Picture.{viewShown}
-use Rattle.kernel_events.specs.Steps.{Link}
+use Rattle.kernel_steps.specs.Steps.{Link}
 use Rattle.brightness_curve.specs.declared.Curve.{Curve}
 use Rattle.brightness_curve.specs.declared.Judged.the-variants.{Good}
 use Rattle.brightness_curve.specs.Curves.{judgedOf}

@@ -6,7 +6,7 @@ use Prim.Native.Nat.{ℕ}
 use lib.Dec.{leb}
 use lib.IntN.{ℤ, pos}
 use Rattle.rules.specs.Events.{call}
-use Rattle.kernel_events.specs.Steps.{Reply, Step}
+use Rattle.kernel_steps.specs.Steps.{Reply, Step}
 use Rattle.kernel_cells.specs.Promises.{Reads, Runs}
 use Rattle.brightness_curve.specs.declared.Curve.{Curve}
 use Rattle.brightness_curve.specs.declared.Judged.the-variants.{Good, BadPoint}

@@ -3,8 +3,8 @@
 //
 // The kernel is used only through what its calls promise: `Step` of `call`, `Reads` of `cell` and `Runs` of `running`.
 // A reader sees it in two places. crates.txt names, of the kernel, `rules`, `kernel_events` and `kernel_cells`, which
-// promise, and besides `memory_columns` for the memory's size in the functions' types and `memory_picture` for
-// `viewShown` and `Accepted`, the names in which `Step` speaks of a state. And `grep -rho 'Rattle·[a-z_]*'
+// promise, `kernel_steps`, which has the words of the promise, and besides `memory_columns` for the memory's size in the
+// functions' types and `memory_picture` for `viewShown` and `Accepted`, in which `Step` speaks of a state. And `grep -rho 'Rattle·[a-z_]*'
 // crates/brightness/specs crates/brightness/proofs | sort -u` lists every crate that a statement or a proof here cites.
 use brightness_curve::Curve;
 use brightness_curve::Judged;

@@ -11,7 +11,7 @@ use Rattle.rules.specs.Setup.{Read, got, refused, Setup, setup}
 use Rattle.kernel_start.specs.Starting.{StartsAs, Starts}
 use Rattle.kernel_start.specs.declared.Started.{Started}
 use Rattle.kernel_start.specs.declared.Started.the-variants.{Fresh, Refused}
-use Rattle.kernel_events.specs.Written.{Lent, lent, RanThrough, Room}
+use Rattle.kernel_steps.specs.Written.{Lent, lent, RanThrough, Room}
 use Rattle.kernel_batches.specs.declared.Batch.{Batch}
 use Rattle.kernel_batches.specs.declared.Batch.the-variants.{Done, Ragged, FewCodes, FewWords}
 use Rattle.kernel_batches.specs.declared.Ran.{Ran}

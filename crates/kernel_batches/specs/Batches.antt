@@ -13,8 +13,8 @@ use Rattle.kernel_batches.specs.declared.Batch.{Batch}
 use Rattle.kernel_batches.specs.declared.Batch.the-variants as Batch
 use Rattle.kernel_batches.specs.declared.Ran.{Ran}
 use Rattle.kernel_batches.specs.declared.Ran.the-variants as Ran
-pub use Rattle.kernel_events.specs.Written.{Lent, lent, codesOf, wordsOf, RanThrough}
-unfoldable pub use Rattle.kernel_events.specs.Written.{over}
+pub use Rattle.kernel_steps.specs.Written.{Lent, lent, codesOf, wordsOf, RanThrough}
+unfoldable pub use Rattle.kernel_steps.specs.Written.{over}
 
 -- ---- whether it runs
 

@@ -1,6 +1,6 @@
 // Many events, one after the other: the state is checked once, at the beginning, and the running task is carried from event to event.
 use check_damage::judged;
-use kernel_events::serve_all;
+use kernel_serving::serve_all;
 use kernel_start::Started;
 use memory_columns::STATE_WORDS;
 use memory_running::running_task;

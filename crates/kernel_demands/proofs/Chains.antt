@@ -17,7 +17,7 @@ use Rattle.memory_picture.specs.Picture.{viewShown}
 use Rattle.kernel_start.specs.Starting.{Starts, Holds}
 use Rattle.kernel_start.specs.declared.Started.{Started}
 use Rattle.kernel_cells.specs.Promises.{Runs}
-use Rattle.kernel_events.specs.Steps.{Reply, told, Step, Link, Chain, lastWords, lastMarks}
+use Rattle.kernel_steps.specs.Steps.{Reply, told, Step, Link, Chain, lastWords, lastMarks}
 use Rattle.kernel_demands.specs.Demands.{CellIs}
 
 -- a start leaves the fresh state of its setup

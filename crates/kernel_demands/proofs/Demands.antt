@@ -31,7 +31,7 @@ use Rattle.rules.proofs.OnlyBroken.{only-rel-wai, never-answered}
 use Rattle.memory_picture.specs.Picture.{viewShown, Accepted}
 use Rattle.kernel_start.specs.Starting.{Starts, Holds}
 use Rattle.kernel_start.specs.declared.Started.{Started}
-use Rattle.kernel_events.specs.Steps.{Reply, told, unsound, Step, Link, Chain}
+use Rattle.kernel_steps.specs.Steps.{Reply, told, unsound, Step, Link, Chain}
 use Rattle.kernel_demands.specs.Demands.{Same, seen, Demand3OnCode, Balanced, OutNotGranted, BlocksOnce, seenAll, WornEvenlyOnCode, stateIn, StaysBrokenOnCode, BrokenOnCode, OnlyRelWaiOnCode}
 use Rattle.kernel_demands.proofs.Chains.{start-holds, chain-words, runs-is, cell-is, step-holds, step-says}
 

@@ -14,7 +14,7 @@ use Rattle.rules_turns.specs.Turns.{Whether}
 use Rattle.rules.proofs.Interrupted.{Interrupts, interrupts-on, head-reported, under, quietly, head-runs, enters}
 use Rattle.memory_picture.specs.Picture.{viewShown, Accepted}
 use Rattle.kernel_start.specs.Starting.{Holds}
-use Rattle.kernel_events.specs.Steps.{Reply, reply, told, Link, Chain}
+use Rattle.kernel_steps.specs.Steps.{Reply, reply, told, Link, Chain}
 use Rattle.kernel_demands.specs.Demands.{openIn, UntilReturn, InterruptedOnCode}
 use Rattle.kernel_demands.proofs.Chains.{step-holds, step-says}
 

@@ -14,7 +14,7 @@ use Rattle.rules_turns.specs.Turns.{gave, gifts, Whether, Leaves}
 use Rattle.rules_turns.proofs.Turns.{in-turn}
 use Rattle.memory_picture.specs.Picture.{viewShown, Accepted}
 use Rattle.kernel_start.specs.Starting.{Holds}
-use Rattle.kernel_events.specs.Steps.{Reply, Link, Chain}
+use Rattle.kernel_steps.specs.Steps.{Reply, Link, Chain}
 use Rattle.kernel_demands.specs.Turns.{giftsOnCode, LeavesOnCode, InTurnOnCode}
 use Rattle.kernel_demands.proofs.Chains.{chain-words, cell-is, step-holds, step-says}
 

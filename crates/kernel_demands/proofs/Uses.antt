@@ -10,7 +10,7 @@ use Rattle.memory_picture.specs.Picture.{Accepted}
 use Rattle.kernel_start.specs.Starting.{Starts, StartsAs}
 use Rattle.kernel_start.specs.declared.Started.{Started}
 use Rattle.kernel_start.specs.declared.Started.the-variants.{Fresh, Refused}
-use Rattle.kernel_events.specs.Steps.{Link, Chain, lastWords, lastMarks}
+use Rattle.kernel_steps.specs.Steps.{Link, Chain, lastWords, lastMarks}
 use Rattle.kernel_batches.specs.declared.Batch.{Batch}
 use Rattle.kernel_batches.specs.declared.Batch.the-variants as Batch
 use Rattle.kernel_batches.specs.declared.Ran.{Ran}

@@ -26,7 +26,7 @@ use Rattle.kernel_start.specs.Starting.{Starts}
 use Rattle.kernel_start.specs.declared.Started.{Started}
 use Rattle.kernel_start.specs.declared.Started.the-variants.{Fresh}
 use Rattle.kernel_cells.specs.Promises.{Reads, Runs}
-use Rattle.kernel_events.specs.Steps.{Reply, told, Link, Chain, lastWords, lastMarks}
+use Rattle.kernel_steps.specs.Steps.{Reply, told, Link, Chain, lastWords, lastMarks}
 
 -- whatever `cell` reads of a task in this memory is this cell
 abbrev pub CellIs : List ℕ → List ℕ → ℤ → Cell → Type 0

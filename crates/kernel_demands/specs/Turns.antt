@@ -10,7 +10,7 @@ use Rattle.rules.specs.State.{Kind}
 use Rattle.rules.specs.Ahead.{waitsAt, ahead}
 use Rattle.rules_turns.specs.Turns.{gave, servedCell, Whether}
 use Rattle.memory_picture.specs.Picture.{viewShown}
-use Rattle.kernel_events.specs.Steps.{Link}
+use Rattle.kernel_steps.specs.Steps.{Link}
 use Rattle.kernel_demands.specs.Demands.{CellIs}
 
 -- how many links are accepted calls that give to object o of kind k

@@ -9,7 +9,7 @@ use Rattle.rules.specs.Events.{Event}
 use Rattle.rules.specs.Plain.{plainFresh}
 use Rattle.kernel_start.specs.Starting.{Starts}
 use Rattle.kernel_start.specs.declared.Started.the-variants.{Fresh}
-use Rattle.kernel_events.specs.Steps.{Reply, Step, Link}
+use Rattle.kernel_steps.specs.Steps.{Reply, Step, Link}
 use Rattle.kernel_batches.specs.declared.Batch.{Batch}
 use Rattle.kernel_batches.specs.declared.Batch.the-variants as Batch
 use Rattle.kernel_batches.specs.Batches.{Lent, lent, RanThrough, fitted, BatchedAs, Batched}

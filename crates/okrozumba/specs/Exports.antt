@@ -4,22 +4,12 @@ use mathlib.Core.Path.{_≡_}
 use Prim.Native.Nat.{ℕ, _+_}
 use lib.IntN.{ℤ}
 use Rattle.kernel_start.specs.Starting.{Starts}
-use Rattle.kernel_start.specs.declared.Started.{Started}
-use Rattle.kernel_start.specs.declared.Started.the-variants as Started
 use Rattle.kernel_batches.specs.declared.Ran.{Ran}
 use Rattle.kernel_batches.specs.declared.Ran.the-variants as Ran
 use Rattle.kernel_batches.specs.Batches.{batchNumber, Lent, Batched, RunsFrom}
+use Rattle.okrozumba_numbers.specs.Numbers.{startNumber, startPlace}
 
 -- ---- numbers and places
-
--- 0, or 1 to 4 for S1 to S4
-abbrev pub startNumber : Started → ℕ
-startNumber Started.Fresh = 0
-startNumber (Started.Refused digit place) = digit
-
-abbrev pub startPlace : Started → ℕ
-startPlace Started.Fresh = 0
-startPlace (Started.Refused digit place) = place
 
 -- 0; 1 to 3 as a batch; 11 to 14 for S1 to S4
 abbrev pub ranNumber : Ran → ℕ

@@ -1,23 +1,7 @@
 // What a changed setup changes, for programs in C and Rust.
-use run_compare_text::Told;
-ghost use mathlib.Core.Path.{_≡_};
-ghost use Rattle.okrozumba.specs.Compare.{toldNumber, toldLength, ComparedTold};
-
-// 0: the text stands at the front of the output, so many bytes. 1: it takes so many, and the output is as it was.
-#[repr(C)]
-pub struct Comparison {
-    pub number: u32,
-    pub length: usize,
-}
-
-fn in_numbers(told: Told) -> Comparison
-    ensures { λ r. ⌜ (r .number ≡ toldNumber told) × (r .length ≡ toldLength told) ⌝ }
-{
-    match told {
-        Told::Written(length) => Comparison { number: 0, length },
-        Told::Short(length) => Comparison { number: 1, length },
-    }
-}
+use okrozumba_numbers::Comparison;
+use okrozumba_numbers::in_numbers;
+ghost use Rattle.okrozumba.specs.Compare.{ComparedTold};
 
 // What the second setup of an input changes in its run.
 #[no_mangle]

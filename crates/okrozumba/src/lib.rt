@@ -1,23 +1,26 @@
 // The public functions under plain names, for programs in C and Rust: include/okrozumba.h declares them. Each promises what the
-// function that it wraps promises; an answer that is an enum there is told by its number and place here (specs/Exports.antt).
+// function that it wraps promises; an answer that is an enum there is told by its number and place here (specs/, and `okrozumba_numbers`).
 pub mod compare;
 
 use brightness_curve::Curve;
-use brightness_curve::Judged;
-use brightness_curve::Leveled;
 use brightness_light::Light;
-use brightness_light::News;
-use brightness_light::Shown;
-use kernel_batches::Batch;
 use kernel_batches::Ran;
 use kernel_cells::Reading;
 use kernel_cells::TASK_PLACES;
-use kernel_events::Answer;
-use kernel_start::Started;
+use kernel_steps::Answer;
 use memory_columns::STATE_WORDS;
+use okrozumba_numbers::Display;
+use okrozumba_numbers::Judgement;
+use okrozumba_numbers::Level;
+use okrozumba_numbers::Outcome;
+use okrozumba_numbers::batch_number;
+use okrozumba_numbers::judged_told;
+use okrozumba_numbers::leveled_told;
+use okrozumba_numbers::report_number;
+use okrozumba_numbers::shown_told;
+use okrozumba_numbers::start_outcome;
 use run_figures::Counted;
 use run_month::Record;
-use run_month::Reporting;
 use run_reading::HEAD;
 use run_recorder::Parted;
 use run_stream::NUMBERS;
@@ -27,47 +30,26 @@ use run_tally::TASKS;
 ghost use mathlib.Core.Path.{_≡_};
 ghost use Prim.Native.Nat.{_≤_};
 ghost use Rattle.rules.specs.Events as Events;
-ghost use Rattle.kernel_events.specs.Steps.{reply, Step};
+ghost use Rattle.kernel_steps.specs.Steps.{replyOf, Step};
 ghost use Rattle.kernel_cells.specs.Promises.{Reads, Runs, Lists};
-ghost use Rattle.kernel_batches.specs.Batches.{batchNumber, lent};
+ghost use Rattle.kernel_batches.specs.Batches.{lent};
 ghost use Rattle.brightness_curve.specs.Curves.{judgedOf, levelOf};
 ghost use Rattle.brightness_light.specs.Lights.{firstShown, takenOf};
 ghost use Rattle.brightness.specs.Readings.{Receives, Resumes};
-ghost use Rattle.okrozumba.specs.Brightness.{judgedNumber, judgedPoint, leveledNumber, leveledValue, DisplayTold, Displayed};
+ghost use Rattle.okrozumba_numbers.specs.Brightness.{judgedNumber, judgedPoint, leveledNumber, leveledValue, DisplayTold};
+ghost use Rattle.okrozumba.specs.Brightness.{Displayed};
 ghost use Rattle.run_reading.specs.Recorder.{begun};
 ghost use Rattle.run_stream.specs.Lent.{Is};
 ghost use Rattle.run_recorder.specs.Recording as Recording;
 ghost use Rattle.run_recorder.specs.Recording.{Parts, Ends};
-ghost use Rattle.run_month.specs.Monthly.{digit, Reported};
+ghost use Rattle.run_month.specs.Monthly.{Reported};
 ghost use Rattle.run_tally.specs.Tables.{Flat};
 ghost use Rattle.run_figures.specs.Figures.{figures};
 ghost use Rattle.run_figures.specs.Counting as Counting;
 ghost use Rattle.run_figures.specs.Counting.{memory, Counts};
-ghost use Rattle.okrozumba.specs.Exports.{startNumber, startPlace, ranNumber, ranPlace, StartsTold, BatchedTold, RunsTold};
-
-// An enum's number; and the place of a setup's fault, else 0.
-#[repr(C)]
-pub struct Outcome {
-    pub number: u32,
-    pub place: usize,
-}
+ghost use Rattle.okrozumba.specs.Exports.{ranNumber, ranPlace, StartsTold, BatchedTold, RunsTold};
 
 // ---- a fresh state
-
-fn start_outcome(started: Started) -> Outcome
-    ensures { λ r. ⌜ (r .number ≡ startNumber started) × (r .place ≡ startPlace started) ⌝ }
-{
-    match started {
-        Started::Fresh => Outcome {
-            number: 0,
-            place: 0,
-        },
-        Started::Refused(digit, place) => Outcome {
-            number: digit,
-            place,
-        },
-    }
-}
 
 // The fresh state of a setup: 0, or the digit of its fault with the place, and the memory as it was.
 #[no_mangle]
@@ -96,7 +78,7 @@ pub extern "C" fn okrozumba_call(
     c: i32,
 ) -> Answer
     ensures { λ r. ⌜ Step (Events.call context number a b c) (now (words .entry)) (now (messages .entry))
-        (reply (r .code) (r .w1) (r .w2) (r .running) (r .released)) (now (words .exit)) (now (messages .exit)) ⌝ }
+        (replyOf r) (now (words .exit)) (now (messages .exit)) ⌝ }
 {
     kernel_events::call(words, messages, context, number, a, b, c)
 }
@@ -105,7 +87,7 @@ pub extern "C" fn okrozumba_call(
 #[no_mangle]
 pub extern "C" fn okrozumba_tick(words: &mut [u32; STATE_WORDS], messages: &[u32; 256]) -> Answer
     ensures { λ r. ⌜ Step Events.tick (now (words .entry)) (now (messages .entry))
-        (reply (r .code) (r .w1) (r .w2) (r .running) (r .released)) (now (words .exit)) (now (messages .entry)) ⌝ }
+        (replyOf r) (now (words .exit)) (now (messages .entry)) ⌝ }
 {
     kernel_events::tick(words, messages)
 }
@@ -114,7 +96,7 @@ pub extern "C" fn okrozumba_tick(words: &mut [u32; STATE_WORDS], messages: &[u32
 #[no_mangle]
 pub extern "C" fn okrozumba_enter(words: &mut [u32; STATE_WORDS], messages: &[u32; 256]) -> Answer
     ensures { λ r. ⌜ Step Events.enter (now (words .entry)) (now (messages .entry))
-        (reply (r .code) (r .w1) (r .w2) (r .running) (r .released)) (now (words .exit)) (now (messages .entry)) ⌝ }
+        (replyOf r) (now (words .exit)) (now (messages .entry)) ⌝ }
 {
     kernel_events::enter(words, messages)
 }
@@ -123,7 +105,7 @@ pub extern "C" fn okrozumba_enter(words: &mut [u32; STATE_WORDS], messages: &[u3
 #[no_mangle]
 pub extern "C" fn okrozumba_leave(words: &mut [u32; STATE_WORDS], messages: &[u32; 256]) -> Answer
     ensures { λ r. ⌜ Step Events.exit (now (words .entry)) (now (messages .entry))
-        (reply (r .code) (r .w1) (r .w2) (r .running) (r .released)) (now (words .exit)) (now (messages .entry)) ⌝ }
+        (replyOf r) (now (words .exit)) (now (messages .entry)) ⌝ }
 {
     kernel_events::leave(words, messages)
 }
@@ -164,17 +146,6 @@ pub extern "C" fn okrozumba_states(
 }
 
 // ---- many events
-
-fn batch_number(b: Batch) -> u32
-    ensures { λ r. ⌜ r ≡ batchNumber b ⌝ }
-{
-    match b {
-        Batch::Done => 0,
-        Batch::Ragged => 1,
-        Batch::FewCodes => 2,
-        Batch::FewWords => 3,
-    }
-}
 
 // The events, five words each: 0, or the number of why none was served, and everything as it was.
 #[no_mangle]
@@ -302,17 +273,6 @@ pub extern "C" fn okrozumba_record_of(
     run_tally::flat(*table, *codes)
 }
 
-fn report_number(r: Reporting) -> u32
-    ensures { λ n. ⌜ n ≡ digit r ⌝ }
-{
-    match r {
-        Reporting::Done => 0,
-        Reporting::Many => 1,
-        Reporting::Size => 2,
-        Reporting::Beyond => 3,
-    }
-}
-
 // The totals of the records: 0, or the digit of T1 to T3, and the output as it was.
 #[no_mangle]
 pub extern "C" fn okrozumba_month(records: &[Record], out: &mut [u32]) -> u32
@@ -323,47 +283,12 @@ pub extern "C" fn okrozumba_month(records: &[Record], out: &mut [u32]) -> u32
 
 // ---- brightness
 
-// Whether a curve is good, 0, or bad, 1; and the first bad point.
-#[repr(C)]
-pub struct Judgement {
-    pub number: u32,
-    pub point: u32,
-}
-
-fn judged_told(judged: Judged) -> Judgement
-    ensures { λ r. ⌜ (r .number ≡ judgedNumber judged) × (r .point ≡ judgedPoint judged) ⌝ }
-{
-    match judged {
-        Judged::Good => Judgement {
-            number: 0,
-            point: 0,
-        },
-        Judged::BadPoint(point) => Judgement { number: 1, point },
-    }
-}
-
 // Judges a curve.
 #[no_mangle]
 pub extern "C" fn okrozumba_curve_judge(curve: Curve) -> Judgement
     ensures { λ r. ⌜ (r .number ≡ judgedNumber (judgedOf curve)) × (r .point ≡ judgedPoint (judgedOf curve)) ⌝ }
 {
     judged_told(brightness_curve::judge(curve))
-}
-
-// 0 and a level; or 1 and the curve's first bad point.
-#[repr(C)]
-pub struct Level {
-    pub number: u32,
-    pub value: u32,
-}
-
-fn leveled_told(leveled: Leveled) -> Level
-    ensures { λ r. ⌜ (r .number ≡ leveledNumber leveled) × (r .value ≡ leveledValue leveled) ⌝ }
-{
-    match leveled {
-        Leveled::Level(value) => Level { number: 0, value },
-        Leveled::BadPoint(value) => Level { number: 1, value },
-    }
 }
 
 // The level of a curve at a lux.
@@ -374,52 +299,10 @@ pub extern "C" fn okrozumba_curve_level(curve: Curve, lux: u32) -> Level
     leveled_told(brightness_curve::level_of(curve, lux))
 }
 
-// A light, the number of what became of an arrival, and the curve's first bad point.
-#[repr(C)]
-pub struct Display {
-    pub light: Light,
-    pub news: u32,
-    pub point: u32,
-}
-
-fn shown_told(shown: Shown) -> Display
-    ensures { λ r. ⌜ DisplayTold shown (r .light) (r .news) (r .point) ⌝ }
-{
-    let light = shown.light;
-    let news = shown.news;
-    match news {
-        News::Set => Display {
-            light,
-            news: 0,
-            point: 0,
-        },
-        News::Waits => Display {
-            light,
-            news: 1,
-            point: 0,
-        },
-        News::Stays => Display {
-            light,
-            news: 2,
-            point: 0,
-        },
-        News::NoSlot => Display {
-            light,
-            news: 3,
-            point: 0,
-        },
-        News::BadCurve(point) => Display {
-            light,
-            news: 4,
-            point,
-        },
-    }
-}
-
 // The light that a display starts with.
 #[no_mangle]
 pub extern "C" fn okrozumba_light_first(curve: Curve) -> Display
-    ensures { λ r. ⌜ DisplayTold (firstShown curve) (r .light) (r .news) (r .point) ⌝ }
+    ensures { λ r. ⌜ DisplayTold (firstShown curve) r ⌝ }
 {
     shown_told(brightness_light::first_light(curve))
 }
@@ -433,7 +316,7 @@ pub extern "C" fn okrozumba_light_take(
     code: i32,
     word: u32,
 ) -> Display
-    ensures { λ r. ⌜ DisplayTold (takenOf curve (now (slots .entry)) light code word) (r .light) (r .news) (r .point) ⌝ }
+    ensures { λ r. ⌜ DisplayTold (takenOf curve (now (slots .entry)) light code word) r ⌝ }
 {
     shown_told(brightness_light::take(curve, slots, light, code, word))
 }
@@ -449,7 +332,7 @@ pub extern "C" fn okrozumba_light_receive(
     mailbox: i32,
 ) -> Display
     ensures { λ r. ⌜ Displayed (λ s. Receives curve (now (slots .entry)) light mailbox (now (words .entry))
-        (now (messages .entry)) s (now (words .exit)) (now (messages .exit))) (r .light) (r .news) (r .point) ⌝ }
+        (now (messages .entry)) s (now (words .exit)) (now (messages .exit))) r ⌝ }
 {
     shown_told(brightness::receive(words, messages, curve, slots, light, mailbox))
 }
@@ -464,8 +347,7 @@ pub extern "C" fn okrozumba_light_resumed(
     light: Light,
 ) -> Display
     ensures { λ r. ⌜ Displayed
-        (λ s. Resumes curve (now (slots .entry)) light (now (words .entry)) (now (messages .entry)) s) (r .light)
-        (r .news) (r .point) ⌝ }
+        (λ s. Resumes curve (now (slots .entry)) light (now (words .entry)) (now (messages .entry)) s) r ⌝ }
 {
     shown_told(brightness::resumed(words, messages, curve, slots, light))
 }

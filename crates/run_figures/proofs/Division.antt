@@ -15,7 +15,7 @@ use Rattle.rules.specs.Kernel.{fresh, event}
 use Rattle.rules.specs.Writing.{joined}
 use Rattle.memory_picture.specs.Picture.{viewShown, tasksShown}
 use Rattle.kernel_start.specs.Starting.{Holds}
-use Rattle.kernel_events.specs.Steps.{Reply, Step, Link}
+use Rattle.kernel_steps.specs.Steps.{Reply, Step, Link}
 use Rattle.call_words.proofs.Tasks.{tasks-count}
 use Rattle.call_reading.specs.Reading.{numberAt}
 use Rattle.call_reading.proofs.Readings.{number-read}

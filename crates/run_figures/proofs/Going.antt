@@ -16,9 +16,9 @@ use Rattle.check_damage.specs.declared.Breach.{Breach}
 use Rattle.check_damage.specs.Judged.{Judged}
 use Rattle.kernel_start.specs.Starting.{Starts, Holds}
 use Rattle.kernel_start.specs.declared.Started.{Started}
-use Rattle.kernel_events.specs.Steps.{Reply, Step, Link}
-use Rattle.kernel_events.specs.Serving.{Known}
-use Rattle.kernel_events.proofs.Served.{known-on, known-first}
+use Rattle.kernel_steps.specs.Steps.{Reply, Step, Link}
+use Rattle.kernel_steps.specs.Serving.{Known}
+use Rattle.kernel_serving.proofs.Served.{known-on, known-first}
 use Rattle.call_reading.specs.Reading.{numberAt}
 use Rattle.run_reading.specs.Recorded.{Item, begins, occurs, refuses, eventIn, eventBytes}
 use Rattle.run_reading.specs.Recorder.{Recorder, items, after, eat}

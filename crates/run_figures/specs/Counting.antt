@@ -11,8 +11,8 @@ use Rattle.rules.specs.Kernel.{fresh}
 use Rattle.memory_picture.specs.Picture.{tasksShown}
 use Rattle.call_reading.specs.Reading.{numberAt}
 use Rattle.kernel_start.specs.Starting.{Holds}
-use Rattle.kernel_events.specs.Steps.{Step, Link}
-use Rattle.kernel_events.specs.Serving.{Known}
+use Rattle.kernel_steps.specs.Steps.{Step, Link}
+use Rattle.kernel_steps.specs.Serving.{Known}
 use Rattle.run_reading.specs.Recorded.{Item, begins, occurs, refuses}
 use Rattle.run_reading.specs.Recorder.{Recorder, closed, items, after}
 use Rattle.run_stream.specs.declared.Completed.{Completed}

@@ -14,8 +14,8 @@ use Rattle.rules.specs.Setup.{S1, S2, S3, S4, Read, got, refused, digit}
 use Rattle.memory_running.specs.Running.{runningOf}
 use Rattle.check_damage.specs.declared.Breach.{Breach}
 use Rattle.check_damage.specs.Judged.{Judged}
-use Rattle.kernel_events.specs.Serving.{Known}
-use Rattle.kernel_events.proofs.Served.{known-first}
+use Rattle.kernel_steps.specs.Serving.{Known}
+use Rattle.kernel_serving.proofs.Served.{known-first}
 use Rattle.run_reading.specs.Recorded.{Head, readHead, eventBytes, eventIn, Item, begins, occurs, refuses}
 use Rattle.run_reading.specs.Recorder.{Recorder, heading, running, stopped, ended, closed, fed, onHead, eat, items, after}
 use Rattle.run_reading.proofs.Division.{items-append, after-append}

@@ -12,9 +12,9 @@ use Rattle.check_damage.specs.declared.Breach.{Breach}
 use Rattle.check_damage.specs.Judged.{Judged}
 use Rattle.kernel_start.specs.declared.Started.{Started}
 use Rattle.kernel_start.specs.Starting.{Starts, Holds}
-use Rattle.kernel_events.specs.Steps.{Reply, reply}
-use Rattle.kernel_events.specs.Serving.{Serves}
-use Rattle.kernel_events.proofs.Served.{known-on, known-first}
+use Rattle.kernel_steps.specs.Steps.{Reply, reply}
+use Rattle.kernel_steps.specs.Serving.{Serves}
+use Rattle.kernel_serving.proofs.Served.{known-on, known-first}
 use Rattle.kernel_demands.specs.Demands.{figures}
 use Rattle.kernel_demands.proofs.Chains.{start-holds}
 use Rattle.run_reading.specs.Recorded.{eventIn, Item, begins, occurs, refuses}

@@ -7,7 +7,7 @@ use lib.Dec.{leb}
 use lib.ListN.{length, take}
 use Rattle.rules.specs.Setup.{digit}
 use Rattle.check_damage.specs.declared.Breach.{Breach}
-use Rattle.kernel_events.specs.Serving.{Known}
+use Rattle.kernel_steps.specs.Serving.{Known}
 use Rattle.run_reading.specs.Recorded.{Item, begins, occurs, refuses}
 use Rattle.run_reading.specs.Recorder.{Recorder, closed, isEnded, ended, eat, items, after, atEnd}
 use Rattle.run_stream.specs.declared.Completed.{Completed}

@@ -1,8 +1,8 @@
 // The event whose bytes a recorder holds, served. Whoever takes a recorded run in parts, for its text or for its
 // figures, runs its events by this function.
 use check_damage::Breach;
-use kernel_events::Answer;
-use kernel_events::serve;
+use kernel_serving::serve;
+use kernel_steps::Answer;
 use memory_columns::MESSAGE_WORDS;
 use memory_columns::STATE_WORDS;
 use run_reading::EVENT;
@@ -10,8 +10,8 @@ use run_reading::HEAD;
 use run_reading::signed;
 use setup::word;
 ghost use lib.ListN.{take};
-ghost use Rattle.kernel_events.specs.Steps.{reply};
-ghost use Rattle.kernel_events.specs.Serving.{Serves};
+ghost use Rattle.kernel_steps.specs.Steps.{replyOf};
+ghost use Rattle.kernel_steps.specs.Serving.{Serves};
 ghost use Rattle.run_reading.specs.Recorded.{eventBytes, eventIn};
 
 // Five words, kind, call, a, b, c, where it is known whether the state is sound and who runs.
@@ -23,8 +23,7 @@ pub fn serve_held(
     me: u32,
 ) -> Answer
     ensures { λ r. ⌜ Serves (eventIn (take eventBytes (now (held .entry)))) found me (now (words .entry))
-        (now (messages .entry)) (reply (r .code) (r .w1) (r .w2) (r .running) (r .released)) (now (words .exit))
-        (now (messages .exit)) ⌝ }
+        (now (messages .entry)) (replyOf r) (now (words .exit)) (now (messages .exit)) ⌝ }
 {
     let all = &held[..];
     let event = &all[..EVENT];

@@ -1,6 +1,6 @@
 -- `brightness::receive`: by what was judged. Assumes nothing.
 use mir.Facts.{toZ-ofZ}
-use Rattle.kernel_events.specs.Steps.{reply}
+use Rattle.kernel_steps.specs.Steps.{replyOf}
 use Rattle.brightness.proofs.Promised.{refused, asked}
 use borrow.Author.Needs.{needs}
 use Rattle.brightness.proofs.receive.Statement.{statement}
@@ -21,7 +21,7 @@ returns-2 c =
     (record {
       caller = at-running .running .result;
       runs = at-running .running .ensures;
-      reply = reply (answer .code) (answer .w1) (answer .w2) (answer .running) (answer .released);
+      reply = replyOf answer;
       step = rw (toZ-ofZ (start .fits .mailbox)) at (at-call .call .ensures);
       shows = rw (toZ-ofZ (record { sfits = told .struct-told .given .0 .1 })) at (c .heard .ensures);
     })

@@ -1,7 +1,7 @@
 -- `kernel_events::call` meets its contract: by the check, the running task and the context. Assumes nothing.
 use mathlib.Core.Path.{sym, _∙_}
 use mir.Facts.{toZ-ofZ}
-use Rattle.kernel_events.proofs.Served.{call-words, known-first, misnamed-step, named-kind}
+use Rattle.kernel_serving.proofs.Served.{call-words, known-first, misnamed-step, named-kind}
 use borrow.Author.Needs.{needs}
 use Rattle.kernel_events.proofs.call.Statement.{statement}
 use Rattle.kernel_events.proofs.call.Tie as tie

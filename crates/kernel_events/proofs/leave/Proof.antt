@@ -1,5 +1,5 @@
 -- `kernel_events::leave` meets its contract: by the check and the running task. Assumes nothing.
-use Rattle.kernel_events.proofs.Served.{known-first}
+use Rattle.kernel_serving.proofs.Served.{known-first}
 use borrow.Author.Needs.{needs}
 use Rattle.kernel_events.proofs.leave.Statement.{statement}
 use Rattle.kernel_events.proofs.leave.Tie as tie

@@ -4,7 +4,7 @@ use Prim.Native.Nat.{ℕ, _+_, _-_, _^_, _≤_, _<_}
 use native.Mathlib.Omega.{arith}
 use borrow.Author.Needs.{needs}
 use lib.ListN.{length, take, getD}
-use Rattle.kernel_events.proofs.Served.{known-first}
+use Rattle.kernel_serving.proofs.Served.{known-first}
 use Rattle.run_stream.specs.Lent.{recorderOf}
 use Rattle.run_figures.specs.Figures.{figures}
 use Rattle.run_figures.specs.Counting.{memory, lent, said, firstSaid}

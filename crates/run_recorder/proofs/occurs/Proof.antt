@@ -1,7 +1,7 @@
 -- `occurs`: a step, and its line. Assumes nothing.
 use denote.Ref.{now}
 use Rattle.call_words.proofs.Signed.{signed}
-use Rattle.kernel_events.specs.Steps.{reply}
+use Rattle.kernel_steps.specs.Steps.{replyOf}
 use Rattle.run_recorder.proofs.Items.{plays-occurs}
 use borrow.Author.Needs.{needs}
 use Rattle.run_recorder.proofs.occurs.Statement.{statement}
@@ -12,7 +12,7 @@ returns c =
     let L = c .before .before in
     let S = L .before .before .before in
     let a = S .serve-held .result in
-    let r = reply (a .code) (a .w1) (a .w2) (a .running) (a .released) in
+    let r = replyOf a in
     let W = rw (signed _ (L .before .struct-told .given .0 .1)) at (L .event-line .ensures) in
     plays-occurs (now (S .before .before .before .before .args .held)) _ _ _ _ _ {r = r} (S .serve-held .ensures) W
 

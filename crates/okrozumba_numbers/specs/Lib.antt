@@ -1,0 +1,3 @@
+-- Enums as numbers.
+pub mod Numbers
+pub mod Brightness
