@@ -5,7 +5,7 @@ use Prim.Native.Nat.{ℕ}
 use Rattle.run_compare_text.specs.declared.Told.{Told}
 use Rattle.run_compare_text.specs.Output.{Shown}
 use Rattle.run_compare.specs.Difference.{differenceOf}
-use Rattle.okrozumba_numbers.specs.Numbers.{toldNumber, toldLength}
+use Rattle.export_numbers.specs.Numbers.{toldNumber, toldLength}
 
 pub record ComparedTold (input : List ℕ) (number len : ℕ) (old new : List ℕ) : Type 0 where
   pub answer : Told

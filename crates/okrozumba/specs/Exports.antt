@@ -7,7 +7,7 @@ use Rattle.kernel_start.specs.Starting.{Starts}
 use Rattle.kernel_batches.specs.declared.Ran.{Ran}
 use Rattle.kernel_batches.specs.declared.Ran.the-variants as Ran
 use Rattle.kernel_batches.specs.Batches.{batchNumber, Lent, Batched, RunsFrom}
-use Rattle.okrozumba_numbers.specs.Numbers.{startNumber, startPlace}
+use Rattle.export_numbers.specs.Numbers.{startNumber, startPlace}
 
 -- ---- numbers and places
 

@@ -1,6 +1,6 @@
 // What a changed setup changes, for programs in C and Rust.
-use okrozumba_numbers::Comparison;
-use okrozumba_numbers::in_numbers;
+use export_numbers::Comparison;
+use export_numbers::in_numbers;
 ghost use Rattle.okrozumba.specs.Compare.{ComparedTold};
 
 // What the second setup of an input changes in its run.

@@ -1,24 +1,24 @@
 // The public functions under plain names, for programs in C and Rust: include/okrozumba.h declares them. Each promises what the
-// function that it wraps promises; an answer that is an enum there is told by its number and place here (specs/, and `okrozumba_numbers`).
+// function that it wraps promises; an answer that is an enum there is told by its number and place here (specs/, and `export_numbers`).
 pub mod compare;
 
 use brightness_curve::Curve;
 use brightness_light::Light;
+use export_numbers::Display;
+use export_numbers::Judgement;
+use export_numbers::Level;
+use export_numbers::Outcome;
+use export_numbers::batch_number;
+use export_numbers::judged_told;
+use export_numbers::leveled_told;
+use export_numbers::report_number;
+use export_numbers::shown_told;
+use export_numbers::start_outcome;
 use kernel_batches::Ran;
 use kernel_cells::Reading;
 use kernel_cells::TASK_PLACES;
 use kernel_steps::Answer;
 use memory_columns::STATE_WORDS;
-use okrozumba_numbers::Display;
-use okrozumba_numbers::Judgement;
-use okrozumba_numbers::Level;
-use okrozumba_numbers::Outcome;
-use okrozumba_numbers::batch_number;
-use okrozumba_numbers::judged_told;
-use okrozumba_numbers::leveled_told;
-use okrozumba_numbers::report_number;
-use okrozumba_numbers::shown_told;
-use okrozumba_numbers::start_outcome;
 use run_figures::Counted;
 use run_month::Record;
 use run_reading::HEAD;
@@ -36,7 +36,7 @@ ghost use Rattle.kernel_batches.specs.Batches.{lent};
 ghost use Rattle.brightness_curve.specs.Curves.{judgedOf, levelOf};
 ghost use Rattle.brightness_light.specs.Lights.{firstShown, takenOf};
 ghost use Rattle.brightness.specs.Readings.{Receives, Resumes};
-ghost use Rattle.okrozumba_numbers.specs.Brightness.{judgedNumber, judgedPoint, leveledNumber, leveledValue, DisplayTold};
+ghost use Rattle.export_numbers.specs.Brightness.{judgedNumber, judgedPoint, leveledNumber, leveledValue, DisplayTold};
 ghost use Rattle.okrozumba.specs.Brightness.{Displayed};
 ghost use Rattle.run_reading.specs.Recorder.{begun};
 ghost use Rattle.run_stream.specs.Lent.{Is};

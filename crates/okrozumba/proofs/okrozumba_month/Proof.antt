@@ -48,10 +48,10 @@ use Rattle.run_month.proofs.month as month
 use Rattle.run_month.proofs.month.Symbol as month-def
 use Rattle.run_month.proofs.month.Symbol.{name as #run_month·month}
 use Rattle.run_month.proofs.month.Met as month-thm
-use Rattle.okrozumba_numbers.proofs.report_number as number
-use Rattle.okrozumba_numbers.proofs.report_number.Symbol as number-def
-use Rattle.okrozumba_numbers.proofs.report_number.Symbol.{name as #okrozumba_numbers·report_number}
-use Rattle.okrozumba_numbers.proofs.report_number.Met as number-thm
+use Rattle.export_numbers.proofs.report_number as number
+use Rattle.export_numbers.proofs.report_number.Symbol as number-def
+use Rattle.export_numbers.proofs.report_number.Symbol.{name as #export_numbers·report_number}
+use Rattle.export_numbers.proofs.report_number.Met as number-thm
 use Rattle.okrozumba.proofs.okrozumba_month.Key.{name as #okrozumba·okrozumba_month}
 use Rattle.okrozumba.proofs.okrozumba_month as exported
 use Rattle.okrozumba.proofs.okrozumba_month.Statement as stated
@@ -120,7 +120,7 @@ module _ {M : Type 1} (𝓤 : URA M) (H : Heap 𝓤) (A : Atoms 𝓤) (W : Given
       suffices ! _ (ends-at 𝓤 H A exported.ended stayed (exported.clauses 𝓤 H A mem run) W ((κs, (q, (q′, tt)), tt, a, vals), tt) w n (tt, (zs, tt)) (tt, (l, tt))) $ says ! f $ frame ! $
       nothing ! $ move ! (2 ∷ 0 ∷ []) $ fjoin ! $ move ! (1 ∷ 0 ∷ []) $ fjoin ! $ frame ! $ done !
 
-  module _ (C : Calls 𝓤 H) (Λ : Loops 𝓤 H) (fm : FmC 𝓤 H (W .laws) C) (known-month : Triple 𝓤 (C #run_month·month) (Sums 𝓤 H A mem run)) (known-number : Triple 𝓤 (C #okrozumba_numbers·report_number) (Tells 𝓤 H A mem run)) where
+  module _ (C : Calls 𝓤 H) (Λ : Loops 𝓤 H) (fm : FmC 𝓤 H (W .laws) C) (known-month : Triple 𝓤 (C #run_month·month) (Sums 𝓤 H A mem run)) (known-number : Triple 𝓤 (C #export_numbers·report_number) (Tells 𝓤 H A mem run)) where
     walk : ent 𝓤 (onEntry 𝓤 H A exported.signature κs (q, (q′, tt)) a vals) (WpFn 𝓤 H C Λ code.function (s ∷ s′ ∷ []) Post)
     walk =
         qed W ((‵ (flft κ q) ⊛ ‵ (flft κ′ q′) ⊛ ‵ ftrue) ∷ ‵ Owns ∷ []) ∵ enter ! C Λ code.function (s ∷ s′ ∷ []) _ $
@@ -152,14 +152,14 @@ module _ {M : Type 1} (𝓤 : URA M) (H : Heap 𝓤) (A : Atoms 𝓤) (W : Given
         keep ! (2 ∷ 5 ∷ 3 ∷ 0 ∷ []) $ by ! (exits n w (zs .1 .0) (subst (λ (d : ℕ). Reported (x .now) d (y .now) (zs .1 .0)) (sym e) f) l)))))))))))))))))
 
 module _ {M : Type 1} (𝓤 : URA M) (H : Heap 𝓤) (A : Atoms 𝓤) (W : Given 𝓤 H A) (mem : Memory → SProp 𝓤) (run : Routine → Fun 𝓤) where
-  month-walks : (C : Calls 𝓤 H) (Λ : Loops 𝓤 H) → FmC 𝓤 H (W .laws) C → Triple 𝓤 (C #run_month·month) (Sums 𝓤 H A mem run) → Triple 𝓤 (C #okrozumba_numbers·report_number) (Tells 𝓤 H A mem run)
+  month-walks : (C : Calls 𝓤 H) (Λ : Loops 𝓤 H) → FmC 𝓤 H (W .laws) C → Triple 𝓤 (C #run_month·month) (Sums 𝓤 H A mem run) → Triple 𝓤 (C #export_numbers·report_number) (Tells 𝓤 H A mem run)
       → Walks 𝓤 H A exported.ended stayed (WpFn 𝓤 H C Λ code.function) (exported.clauses 𝓤 H A mem run)
   month-walks C Λ fm known-month known-number = walked 𝓤 H A exported.ended stayed (exported.clauses 𝓤 H A mem run) (WpFn 𝓤 H C Λ code.function)
       (λ κs. (slice-vals, (slice-vals, tt))) (λ κs. (shr-slice-tells (named 0) (κs .0) R.the-row, (mut-slice-tells (named 1) (κs .1 .0) u32, tt)))
       (λ κs qs bounds a _ are. via 𝓤 _ (fst∗ 𝓤 _ (emp 𝓤)) (walk 𝓤 H A W mem run (κs .0) (κs .1 .0) (qs .0) (qs .1 .0) (a .0) (a .1 .0) (are .0 .0 .1) (are .1 .0 .0 .1) C Λ fm known-month known-number))
 
 month-meets : {M : Type 1} (𝓤 : URA M) (H : Heap 𝓤) (A : Atoms 𝓤) (W : Given 𝓤 H A) (mem : Memory → SProp 𝓤) (run : Routine → Fun 𝓤) (𝓣 : Tables 𝓤 H)
-    → Triple 𝓤 (𝓣 .C #run_month·month) (Sums 𝓤 H A mem run) → Triple 𝓤 (𝓣 .C #okrozumba_numbers·report_number) (Tells 𝓤 H A mem run)
+    → Triple 𝓤 (𝓣 .C #run_month·month) (Sums 𝓤 H A mem run) → Triple 𝓤 (𝓣 .C #export_numbers·report_number) (Tells 𝓤 H A mem run)
     → Meets 𝓤 H A exported.signature (WpFn 𝓤 H (𝓣 .C) (𝓣 .Λ) code.function) (exported.spec 𝓤 H A mem run)
 month-meets 𝓤 H A W mem run 𝓣 known-month known-number =
     walk-meets 𝓤 H A exported.ended stayed W (goes-none-slice 𝓤 H A W 2 (0 ∷ []) tt (plain (λ _. R.the-row)) yes, (goes-gave-slice 𝓤 H A W 2 1 tt (plain (λ _. u32)), tt)) (exported.clauses 𝓤 H A mem run)
@@ -172,4 +172,4 @@ okrozumba-month-spec 𝓤 H 𝓜 𝓖 𝓡 =
     (tables 𝓤 H 𝓜 𝓡 code.env .C) (tables 𝓤 H 𝓜 𝓡 code.env .Λ) #okrozumba·okrozumba_month code.function (code.unfolded 𝓤 H 𝓜 𝓡)
     (month-meets 𝓤 H (𝓖 .A) (givenOf 𝓤 H 𝓜 𝓖) (𝓜 .mem) (𝓡 .run) (tablesOf 𝓤 H 𝓜 (tables 𝓤 H 𝓜 𝓡 code.env))
     (cited 𝓤 H (Sums 𝓤 H (𝓖 .A) (𝓜 .mem) (𝓡 .run)) 𝓜 𝓡 code.env #run_month·month month-def.routine code.calls-run-month·month (month-thm.met 𝓤 H 𝓜 𝓖 𝓡))
-    (cited 𝓤 H (Tells 𝓤 H (𝓖 .A) (𝓜 .mem) (𝓡 .run)) 𝓜 𝓡 code.env #okrozumba_numbers·report_number number-def.routine code.calls-okrozumba-numbers·report-number (number-thm.met 𝓤 H 𝓜 𝓖 𝓡)))
+    (cited 𝓤 H (Tells 𝓤 H (𝓖 .A) (𝓜 .mem) (𝓡 .run)) 𝓜 𝓡 code.env #export_numbers·report_number number-def.routine code.calls-export-numbers·report-number (number-thm.met 𝓤 H 𝓜 𝓖 𝓡)))

@@ -7,7 +7,7 @@ use Rattle.brightness_curve.specs.declared.Leveled.{Leveled}
 use Rattle.brightness_curve.specs.declared.Leveled.the-variants as Leveled
 use Rattle.brightness_light.specs.declared.Shown.{Shown}
 use Rattle.brightness_light.specs.Lights.{newsNumber, newsPoint}
-use Rattle.okrozumba_numbers.specs.declared.Display.{Display}
+use Rattle.export_numbers.specs.declared.Display.{Display}
 
 -- 0 good, 1 bad; and the first bad point
 abbrev pub judgedNumber : Judged → ℕ

@@ -12,8 +12,8 @@ use run_month::Reporting;
 ghost use mathlib.Core.Path.{_≡_};
 ghost use Rattle.kernel_batches.specs.Batches.{batchNumber};
 ghost use Rattle.run_month.specs.Monthly.{digit};
-ghost use Rattle.okrozumba_numbers.specs.Numbers.{startNumber, startPlace, toldNumber, toldLength};
-ghost use Rattle.okrozumba_numbers.specs.Brightness.{judgedNumber, judgedPoint, leveledNumber, leveledValue, DisplayTold};
+ghost use Rattle.export_numbers.specs.Numbers.{startNumber, startPlace, toldNumber, toldLength};
+ghost use Rattle.export_numbers.specs.Brightness.{judgedNumber, judgedPoint, leveledNumber, leveledValue, DisplayTold};
 
 // ---- a fresh state, and many events
 
