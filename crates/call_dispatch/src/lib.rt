@@ -47,10 +47,8 @@ use call_alarms::can_alm;
 use call_alarms::set_abs;
 use call_alarms::set_rel;
 use call_flags::clr_flg;
-use call_flags::flg_sts;
-use call_flags::pol_flg;
 use call_flags::set_flg;
-use call_flags::wai_flg;
+use call_flags::take_flg;
 use call_judging::ALIVE;
 use call_judging::ANOTHER;
 use call_judging::ANYONE;
@@ -67,18 +65,14 @@ use call_judging::on_queue;
 use call_judging::on_setting;
 use call_judging::on_task;
 use call_judging::on_time;
-use call_mailboxes::mbx_sts;
-use call_mailboxes::prcv_msg;
-use call_mailboxes::rcv_msg;
 use call_mailboxes::snd_msg;
-use call_pools::get_blk;
-use call_pools::mpl_sts;
-use call_pools::pget_blk;
+use call_mailboxes::take_msg;
+use call_objects::Otherwise;
 use call_pools::rel_blk;
-use call_semaphores::preq_sem;
-use call_semaphores::sem_sts;
+use call_pools::take_blk;
 use call_semaphores::sig_sem;
-use call_semaphores::wai_sem;
+use call_semaphores::take_sem;
+use call_status::obj_sts;
 use call_tasks::chg_pri;
 use call_tasks::cre_tsk;
 use call_tasks::del_tsk;
@@ -102,9 +96,13 @@ use call_words::codes::H_CALL;
 use call_words::codes::OK;
 use call_words::named;
 use call_words::refuse;
+use memory_columns::FLAG;
 use memory_columns::FLAGS;
+use memory_columns::MAILBOX;
 use memory_columns::MAILBOXES;
+use memory_columns::POOL;
 use memory_columns::POOLS;
+use memory_columns::SEMAPHORE;
 use memory_columns::SEMAPHORES;
 use memory_columns::STATE_WORDS;
 ghost use Rattle.call_dispatch.specs.Dispatching.{Dispatches};
@@ -179,11 +177,11 @@ pub fn dispatch(
             e => refuse(e),
         },
         WAI_SEM => match on_object(words, SEMAPHORES, TASK_ONLY, handler, me, i) {
-            OK => wai_sem(words, me, i),
+            OK => take_sem(words, i, Otherwise::Waits(me)),
             e => refuse(e),
         },
         PREQ_SEM => match on_object(words, SEMAPHORES, BOTH, handler, me, i) {
-            OK => preq_sem(words, i),
+            OK => take_sem(words, i, Otherwise::Polls),
             e => refuse(e),
         },
         SET_FLG => match on_object(words, FLAGS, BOTH, handler, me, i) {
@@ -195,11 +193,11 @@ pub fn dispatch(
             e => refuse(e),
         },
         WAI_FLG => match on_flag(words, TASK_ONLY, handler, me, i, p, c) {
-            OK => wai_flg(words, me, i, p, named(c)),
+            OK => take_flg(words, i, p, named(c), Otherwise::Waits(me)),
             e => refuse(e),
         },
         POL_FLG => match on_flag(words, BOTH, handler, me, i, p, c) {
-            OK => pol_flg(words, i, p, named(c)),
+            OK => take_flg(words, i, p, named(c), Otherwise::Polls),
             e => refuse(e),
         },
         SND_MSG => match on_message(words, handler, me, i, j) {
@@ -207,19 +205,19 @@ pub fn dispatch(
             e => refuse(e),
         },
         RCV_MSG => match on_object(words, MAILBOXES, TASK_ONLY, handler, me, i) {
-            OK => rcv_msg(words, messages, me, i),
+            OK => take_msg(words, messages, i, Otherwise::Waits(me)),
             e => refuse(e),
         },
         PRCV_MSG => match on_object(words, MAILBOXES, BOTH, handler, me, i) {
-            OK => prcv_msg(words, messages, i),
+            OK => take_msg(words, messages, i, Otherwise::Polls),
             e => refuse(e),
         },
         GET_BLK => match on_object(words, POOLS, TASK_ONLY, handler, me, i) {
-            OK => get_blk(words, me, i),
+            OK => take_blk(words, i, Otherwise::Waits(me)),
             e => refuse(e),
         },
         PGET_BLK => match on_object(words, POOLS, BOTH, handler, me, i) {
-            OK => pget_blk(words, i),
+            OK => take_blk(words, i, Otherwise::Polls),
             e => refuse(e),
         },
         REL_BLK => match on_object(words, POOLS, BOTH, handler, me, i) {
@@ -235,19 +233,19 @@ pub fn dispatch(
             e => refuse(e),
         },
         SEM_STS => match on_object(words, SEMAPHORES, BOTH, handler, me, i) {
-            OK => sem_sts(words, i),
+            OK => obj_sts(words, SEMAPHORE, i),
             e => refuse(e),
         },
         FLG_STS => match on_object(words, FLAGS, BOTH, handler, me, i) {
-            OK => flg_sts(words, i),
+            OK => obj_sts(words, FLAG, i),
             e => refuse(e),
         },
         MBX_STS => match on_object(words, MAILBOXES, BOTH, handler, me, i) {
-            OK => mbx_sts(words, i),
+            OK => obj_sts(words, MAILBOX, i),
             e => refuse(e),
         },
         MPL_STS => match on_object(words, POOLS, BOTH, handler, me, i) {
-            OK => mpl_sts(words, i),
+            OK => obj_sts(words, POOL, i),
             e => refuse(e),
         },
         GET_TIM => match on_nothing(words, BOTH, handler, me) {

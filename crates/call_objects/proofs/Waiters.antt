@@ -1,11 +1,11 @@
 -- An object that a call names, over the kind: how many there are, and the first waiter. Assumes nothing.
-use mathlib.Core.List.{List, [], _∷_}
-use mathlib.Core.Path.{_≡_, refl, sym, ap, _∙_, subst}
+use mathlib.Core.List.{List}
+use mathlib.Core.Path.{_≡_, refl, ap, _∙_, subst}
 use Prim.Native.Nat.{ℕ, _≤_}
 use native.Mathlib.Omega.{arith}
 use lib.IntN.{pos}
 use borrow.Author.Tests.{le-leb}
-use Rattle.rules.specs.Ids.{In, first}
+use Rattle.rules.specs.Ids.{In}
 use Rattle.rules.specs.Acts.{release}
 use Rattle.rules.specs.Codes.{OK}
 use Rattle.rules.specs.State.{Kind, semaphore, flag, mailbox, pool, objects}
@@ -13,19 +13,14 @@ use Rattle.rules.specs.Places.{waiters}
 use Rattle.rules.specs.View.{line}
 use Rattle.rules.specs.Verdicts.{Verdict}
 use Rattle.rules.specs.Objects.{to-first, obj-sts}
-use Rattle.rules.proofs.Lines.{line-tabulate}
 use Rattle.memory_rings.specs.Links.{firstOf}
-use Rattle.memory_rings.proofs.Laws.{first-law}
-use Rattle.memory_columns.specs.declared.Rings.the-variants.{Tasks}
 use Rattle.memory_columns.specs.Layout as Layout
-use Rattle.memory_columns.specs.Layout.{words}
-use Rattle.memory_columns.specs.Layout.{entry}
+use Rattle.memory_columns.specs.Layout.{words, entry}
 use Rattle.memory_queues.specs.Moves.{waitAnchor}
 use Rattle.memory_tasks.specs.Moves.{released}
-use Rattle.memory_picture.specs.Picture.{kindNumber, tasksShown, storeShown, bodyShown, anchor, lineShown, viewShown, Accepted}
+use Rattle.memory_picture.specs.Picture.{kindNumber, storeShown, bodyShown, anchor, lineShown, viewShown, Accepted}
 use Rattle.memory_picture.specs.Perform.{performed, performedMarks}
-use Rattle.memory_running.proofs.Lowest.{HeadOf, head-of}
-use Rattle.memory_picture.proofs.Done.{used-at}
+use Rattle.memory_running.proofs.Lowest.{HeadOf}
 use Rattle.call_words.specs.declared.Outcome.{Outcome}
 use Rattle.call_words.specs.Outcomes.{outcome}
 use Rattle.call_words.specs.Doing.{Does}
@@ -33,10 +28,7 @@ use Rattle.call_words.specs.Naming.{NamesObject}
 use Rattle.call_words.proofs.Tasks.{objects-count}
 use Rattle.call_words.proofs.Verdicts.{gives-none, gives-one, first-none, first-some}
 use Rattle.call_objects.specs.Waiting.{firstWaiter}
-
-pub head-first : (v : ℕ) (l : List ℕ) → HeadOf v l → v ≡ first l
-head-first v [] h = h
-head-first v (x ∷ l) h = h .0
+use Rattle.call_objects.proofs.First.{head-first, line-at, first-at}
 
 kind-small : (k : Kind) → kindNumber k ≤ 5
 kind-small semaphore = omega arith
@@ -64,15 +56,12 @@ module _ (k : Kind) (o : ℕ) (b m : List ℕ) (A : Accepted b m) (h : NamesObje
   anchor-is = rw (le-leb (kindNumber k) 5 (kind-small k), le-leb o 16 (omega (arith, h .1, few k)))
 
   pub line-is : line (viewShown b m) (waiters k o) ≡ lineShown b (waiters k o)
-  unfolding viewShown
-  line-is = line-tabulate (storeShown b m) (lineShown b) (waiters k o) there
+  line-is = line-at b m A (waiters k o) there
 
   -- what stands first in the queue is the first waiter; in an empty queue stands nobody
-  pub waiter-law : HeadOf (firstWaiter (kindNumber k) o b) (line (viewShown b m) (waiters k o))
-  unfolding firstWaiter lineShown
-  waiter-law = subst (HeadOf _) (sym line-is)
-      (head-of (tasksShown b) _ (lineShown b (waiters k o)) (ap (firstOf (words Layout.next b)) anchor-is ∙ first-law (A .whole .rings Tasks) (anchor (waiters k o)) (used-at (waiters k o) there))
-      (A .whole .rings Tasks .ring (anchor (waiters k o)) (used-at (waiters k o) there) .ids))
+  waiter-law : HeadOf (firstWaiter (kindNumber k) o b) (line (viewShown b m) (waiters k o))
+  unfolding firstWaiter
+  waiter-law = first-at b m A (waiters k o) there (omega (arith, ap (firstOf (words Layout.next b)) anchor-is))
 
   -- by the first waiter x, as the code has read it
   module _ {x : ℕ} (ex : x ≡ firstWaiter (kindNumber k) o b) where

@@ -1,2 +1,3 @@
--- What the calls on objects read.
+-- What the calls on objects read and share.
 pub mod Waiting
+pub mod Taking

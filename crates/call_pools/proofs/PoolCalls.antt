@@ -1,58 +1,41 @@
 -- The calls on pools: at each return of the code the rule's verdict is what was answered and done. Assumes nothing.
 use mathlib.Core.Bool.{Bool, true, false}
-use mathlib.Core.List.{List, [], _∷_, map}
-use mathlib.Core.Path.{_≡_, refl, sym, ap, _∙_, subst}
+use mathlib.Core.List.{List}
+use mathlib.Core.Path.{_≡_, refl, sym, _∙_}
 use Prim.Native.Nat.{ℕ, _-_, _≤_}
 use native.Mathlib.Omega.{arith}
 use lib.IntN.{pos}
 use borrow.Author.Tests.{le-leb}
 use Rattle.rules.specs.Acts.{mark}
-use Rattle.rules.specs.Codes.{number, H-POLL, H-ILBLK}
-use Rattle.rules.specs.State.{pool, on}
-use Rattle.rules.specs.Places.{freeIn, many as manyAt, Exists}
+use Rattle.rules.specs.Codes.{number, H-ILBLK}
+use Rattle.rules.specs.State.{pool}
+use Rattle.rules.specs.Places.{freeIn}
 use Rattle.rules.specs.View.{line}
 use Rattle.rules.specs.Verdicts.{Verdict}
-use Rattle.rules.specs.Objects.{polls, waits-on, obj-sts, blocksOf, free, take-blk, rel-blk}
-use Rattle.rules.specs.Sound.{Known}
-use Rattle.rules.proofs.Lines.{line-tabulate}
+use Rattle.rules.specs.Objects.{take-blk, rel-blk}
 use Rattle.memory_rings.specs.Links.{firstOf}
-use Rattle.memory_rings.specs.Rings.{IsId, All, headOf}
-use Rattle.memory_rings.proofs.Laws.{first-law}
-use Rattle.memory_columns.specs.declared.Rings.the-variants.{Blocks}
 use Rattle.memory_columns.specs.Layout as Layout
-use Rattle.memory_columns.specs.Layout.{maxPools, beforePool, words, entry}
+use Rattle.memory_columns.specs.Layout.{maxPools, beforePool, words}
 use Rattle.memory_queues.specs.Moves.{freeAnchor, nodeOfBlock}
-use Rattle.memory_tasks.specs.Moves.{released, waited}
+use Rattle.memory_tasks.specs.Moves.{released}
 use Rattle.memory_objects.specs.Moves.{marked}
-use Rattle.memory_picture.specs.Perform.{put-to-wait, performed, performedMarks}
-use Rattle.memory_picture.specs.Picture.{storeShown, bodyShown, anchor, nodesShown, lineShown, viewShown, Accepted}
-use Rattle.memory_picture.proofs.Done.{used-at}
-use Rattle.memory_running.proofs.Lowest.{HeadOf, head-of}
+use Rattle.memory_picture.specs.Perform.{performed, performedMarks}
+use Rattle.memory_picture.specs.Picture.{bodyShown, anchor, viewShown, Accepted}
+use Rattle.memory_running.proofs.Lowest.{HeadOf}
 use Rattle.call_words.specs.declared.Outcome.{Outcome}
 use Rattle.call_words.specs.Outcomes.{outcome}
 use Rattle.call_words.specs.Doing.{Does, DoesOnWords}
 use Rattle.call_words.specs.Naming.{NamesObject}
-use Rattle.call_words.proofs.Verdicts.{refuses-with, check-stops, check-passes, first-none, first-some, gives-one, waits-one}
+use Rattle.call_words.proofs.Verdicts.{check-stops, check-passes, first-none, first-some, gives-one}
 use Rattle.call_objects.specs.Waiting.{firstWaiter, firstBlock}
-use Rattle.call_pools.specs.Blocks.{bitCount, notOut}
-use Rattle.call_objects.proofs.Waiters.{to-nobody, to-waiter, status-is}
-use Rattle.call_pools.proofs.Blocks.{free-read, out-read}
+use Rattle.call_pools.specs.Blocks.{notOut}
+use Rattle.call_objects.proofs.First.{first-at}
+use Rattle.call_objects.proofs.Waiters.{to-nobody, to-waiter}
+use Rattle.call_pools.proofs.Blocks.{out-read}
 
 -- ---- the first free block
 
-head-less : (d : ℕ) (l : List ℕ) → headOf (map (λ x. x - d) l) 0 ≡ headOf l 0 - d
-head-less d [] = omega arith
-head-less d (x ∷ l) = refl
-
-ids-known : (n : ℕ) (l : List ℕ) → Known n l → All (IsId n) l
-ids-known n [] h = tt
-ids-known n (x ∷ l) h = (h .0, ids-known n l (h .1))
-
 module _ (o : ℕ) (b m : List ℕ) (A : Accepted b m) (h : NamesObject pool o (viewShown b m)) where
-  there : Exists (storeShown b m) (freeIn o)
-  unfolding viewShown bodyShown
-  there = h
-
   few : o ≤ maxPools
   few = omega (arith, h .1, A .sound .body .sizes .pools)
 
@@ -65,11 +48,8 @@ module _ (o : ℕ) (b m : List ℕ) (A : Accepted b m) (h : NamesObject pool o (
 
   -- it stands first in the pool's queue; in an empty one stands none
   block-law : HeadOf (firstBlock o b) (line (viewShown b m) (freeIn o))
-  unfolding firstBlock lineShown viewShown bodyShown
-  block-law = subst (HeadOf _) (sym (line-tabulate (storeShown b m) (lineShown b) (freeIn o) there))
-      (head-of (manyAt (bodyShown b m) (freeIn o)) _ (lineShown b (freeIn o))
-      (rw (anchor-is, before-is) (ap (λ (x : ℕ). x - beforePool o) (first-law (A .whole .rings Blocks) (anchor (freeIn o)) (used-at (freeIn o) there)) ∙ sym (head-less (beforePool o) (nodesShown b (freeIn o)))))
-      (ids-known (manyAt (bodyShown b m) (freeIn o)) (lineShown b (freeIn o)) (subst (Known (manyAt (bodyShown b m) (freeIn o))) (line-tabulate (storeShown b m) (lineShown b) (freeIn o) there) (A .sound .queues (freeIn o) there .known))))
+  unfolding firstBlock viewShown bodyShown
+  block-law = first-at b m A (freeIn o) h (rw (anchor-is, before-is))
 
 -- as the code has read it: the anchor y, its first node x, what comes before the pool's nodes
 pub block-none : (o : ℕ) (b : List ℕ) {y x d : ℕ} → y ≡ freeAnchor o → x ≡ firstOf (words Layout.blockNext b) y → d ≡ nodeOfBlock o 0 → x ≤ d → 0 ≡ firstBlock o b
@@ -81,27 +61,16 @@ unfolding firstBlock
 block-some o b ey ex ed = rw (ex, ed, ey)
 
 module _ (i : ℕ) {b : List ℕ} {s : Outcome} where
-  pub sts-done : {x f n : ℕ} → x ≡ firstWaiter 5 i b → f ≡ entry Layout.free b i → n ≡ bitCount 32 f → s ≡ outcome (pos 0) x n 0
-      → DoesOnWords (NamesObject pool i) (λ v. obj-sts v pool (pos i) (free (blocksOf v (pos i)))) s b b
-  sts-done ex ef en e m A k = status-is pool i b m A k ex (en ∙ ap (bitCount 32) ef ∙ free-read i b m A k) e
-
   -- ---- get_blk, pget_blk: the first free block is taken, or as r says
 
-  module _ {n : ℕ} (en : n ≡ firstBlock i b) where
-    pub takes : (r : Verdict) → (n ≡ 0 → ⊥) → {b′ : List ℕ} → b′ ≡ marked i n false b → s ≡ outcome (pos 0) n 0 0 → DoesOnWords (NamesObject pool i) (λ v. take-blk v (pos i) r) s b b′
-    unfolding take-blk performed performedMarks
-    takes r z g e m A k = first-some _ r _ z (rw en (block-law i b m A k)) (gives-one (mark i n false) refl e g)
-
-    none : (r : Verdict) → n ≡ 0 → {b′ : List ℕ} → ((m : List ℕ) → Does r s b m b′ m) → DoesOnWords (NamesObject pool i) (λ v. take-blk v (pos i) r) s b b′
+  module _ {n : ℕ} (en : n ≡ firstBlock i b) (r : Verdict) where
+    pub none-taken : n ≡ 0 → {b′ : List ℕ} → ((m : List ℕ) → Does r s b m b′ m) → DoesOnWords (NamesObject pool i) (λ v. take-blk v (pos i) r) s b b′
     unfolding take-blk
-    none r z d m A k = first-none _ r _ z (rw en (block-law i b m A k)) (d m)
+    none-taken z d m A k = first-none _ r _ z (rw en (block-law i b m A k)) (d m)
 
-    pub pget-none : n ≡ 0 → s ≡ outcome (number H-POLL) 0 0 0 → DoesOnWords (NamesObject pool i) (λ v. take-blk v (pos i) polls) s b b
-    pget-none z e = none polls z (λ m. refuses-with H-POLL e)
-
-    pub get-waits : (me : ℕ) → n ≡ 0 → {b′ : List ℕ} → b′ ≡ waited me 5 i 0 0 b → s ≡ outcome (pos 1) 0 0 0 → DoesOnWords (NamesObject pool i) (λ v. take-blk v (pos i) (waits-on me pool (pos i))) s b b′
-    unfolding performed put-to-wait
-    get-waits me z g e = none _ z (λ m. waits-one me (on pool i 0 0) e g)
+    pub block-taken : (n ≡ 0 → ⊥) → {b′ : List ℕ} → b′ ≡ marked i n false b → s ≡ outcome (pos 0) n 0 0 → DoesOnWords (NamesObject pool i) (λ v. take-blk v (pos i) r) s b b′
+    unfolding take-blk performed performedMarks
+    block-taken z g e m A k = first-some _ r _ z (rw en (block-law i b m A k)) (gives-one (mark i n false) refl e g)
 
   -- ---- rel_blk
 

@@ -1,0 +1,21 @@
+-- `call_mailboxes::take_msg` meets its contract. It is its rule, whatever the last resort is. Assumes nothing.
+use mathlib.Core.Path.{refl}
+use Rattle.rules.specs.State.{mailbox}
+use Rattle.call_mailboxes.proofs.MailboxCalls.{none-taken, message-taken}
+use borrow.Author.Needs.{needs}
+use Rattle.call_mailboxes.proofs.take_msg.Statement.{statement}
+use Rattle.call_mailboxes.proofs.take_msg.Tie as tie
+
+returns : tie.Need-returns
+returns c =
+    let none = c .before .before in
+    none-taken _ (none .before .first-message .ensures) _ (none .if1 .taken) (c .wait-or-poll .ensures mailbox refl _)
+
+returns-2 : tie.Need-returns-2
+returns-2 c =
+    let at-receive = c .before in
+    let some = at-receive .before .before .before in
+    message-taken _ (some .before .first-message .ensures) _ (some .if1 .left) (at-receive .receive .ensures) (c .gives .ensures)
+
+pub take-msg-spec : {M : Type 1} → statement M
+take-msg-spec = tie.close (tie.spec (λ c κs. search needs) (λ c κs. search needs) returns (λ c κs. search needs) (λ c κs. search needs) returns-2)

@@ -1,0 +1,21 @@
+-- `call_pools::take_blk` meets its contract. It is its rule, whatever the last resort is. Assumes nothing.
+use mathlib.Core.Path.{refl}
+use Rattle.rules.specs.State.{pool}
+use Rattle.call_pools.proofs.PoolCalls.{none-taken, block-taken}
+use borrow.Author.Needs.{needs}
+use Rattle.call_pools.proofs.take_blk.Statement.{statement}
+use Rattle.call_pools.proofs.take_blk.Tie as tie
+
+returns : tie.Need-returns
+returns c =
+    let none = c .before .before in
+    none-taken _ (none .before .first-block .ensures) _ (none .if1 .taken) (c .wait-or-poll .ensures pool refl)
+
+returns-2 : tie.Need-returns-2
+returns-2 c =
+    let at-mark-block = c .before in
+    let some = at-mark-block .before .before in
+    block-taken _ (some .before .first-block .ensures) _ (some .if1 .left) (at-mark-block .mark-block .ensures) (c .gives .ensures)
+
+pub take-blk-spec : {M : Type 1} → statement M
+take-blk-spec = tie.close (tie.spec (λ c κs. search needs) (λ c κs. search needs) returns (λ c κs. search needs) (λ c κs. search needs) returns-2)

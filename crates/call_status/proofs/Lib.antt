@@ -1,0 +1,2 @@
+-- Laws of the status calls.
+pub mod Reading

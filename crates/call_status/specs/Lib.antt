@@ -1,0 +1,2 @@
+-- The status calls, over the kind.
+pub mod Status
