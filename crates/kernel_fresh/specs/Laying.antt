@@ -6,10 +6,12 @@ use lib.Dec.{eqb}
 use lib.ListN.{replicate}
 use Rattle.rules.specs.Setup.{wordAt}
 use Rattle.setup.specs.declared.Plan.{Plan}
-use Rattle.memory_columns.specs.declared.Rings.the-variants.{Tasks, Messages, Blocks}
+use Rattle.memory_columns.specs.declared.Rings.the-variants as Rings
 use Rattle.memory_columns.specs.Layout as Layout
 use Rattle.memory_columns.specs.Layout.{stateWords, maxAlarms, atMost, readyNode, waitNode, mailNode, freeNode, put}
 use Rattle.memory_queues.specs.Moves.{emptied as emptiedAt}
+use Rattle.kernel_fresh.specs.declared.Section.{Section}
+use Rattle.kernel_fresh.specs.declared.Section.the-variants.{Tasks, Semaphores, Flags, Pools, Alarms}
 
 -- f for n ids from i on
 unfoldable pub inTurn : (ℕ → List ℕ → List ℕ) → ℕ → ℕ → List ℕ → List ℕ
@@ -45,6 +47,14 @@ laidPool s at i b = put Layout.size i (wordOfId s at 4 i) b
 unfoldable pub laidAlarm : List ℕ → ℕ → ℕ → List ℕ → List ℕ
 laidAlarm s at k b = put Layout.alarmWakes k (atMost (wordAt s (at + (8 * (k - 1) + 8))) 1) (put Layout.alarmTask k (wordAt s (at + (8 * (k - 1) + 4))) b)
 
+-- entry i of a section
+abbrev pub laidEntry : Section → List ℕ → ℕ → ℕ → List ℕ → List ℕ
+laidEntry Tasks s at = laidTask s at
+laidEntry Semaphores s at = laidSemaphore s at
+laidEntry Flags s at = laidFlag s at
+laidEntry Pools s at = laidPool s at
+laidEntry Alarms s at = laidAlarm s at
+
 -- the counter, if there is one
 unfoldable pub laidCounter : List ℕ → ℕ → ℕ → List ℕ → List ℕ
 laidCounter s at n b = cond (eqb n 0) b (inTurn (laidAlarm s at) maxAlarms 1 (put Layout.counter Layout.counterSize (wordAt s at) b))
@@ -64,11 +74,11 @@ anchorsOf p =
 
 unfoldable pub emptiedQueues : List (ℕ × ℕ) → List ℕ → List ℕ
 emptiedQueues [] b = b
-emptiedQueues ((a, n) ∷ l) b = emptiedQueues l (inTurn (emptiedAt Tasks) n a b)
+emptiedQueues ((a, n) ∷ l) b = emptiedQueues l (inTurn (emptiedAt Rings.Tasks) n a b)
 
 -- then the mailboxes, and the queues of free blocks
 unfoldable pub emptied : Plan → List ℕ → List ℕ
-emptied p b = inTurn (emptiedAt Blocks) (p .pools) (freeNode 1) (inTurn (emptiedAt Messages) (p .mailboxes) (mailNode 1) (emptiedQueues (anchorsOf p) b))
+emptied p b = inTurn (emptiedAt Rings.Blocks) (p .pools) (freeNode 1) (inTurn (emptiedAt Rings.Messages) (p .mailboxes) (mailNode 1) (emptiedQueues (anchorsOf p) b))
 
 -- all of it, in a memory of zeros; no block is free and no task started yet
 unfoldable pub laid : List ℕ → Plan → List ℕ

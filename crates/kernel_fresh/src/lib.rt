@@ -36,10 +36,10 @@ ghost use Prim.Native.Nat.{_+_, _≤_, _<_};
 ghost use lib.ListN.{length};
 ghost use Rattle.rules.specs.Setup.{wordAt};
 ghost use Rattle.setup.specs.Layout.{planOf, PlanFits};
-ghost use Rattle.memory_columns.specs.Layout.{maxPriorities, maxTasks, maxObjects, maxPools, maxAlarms};
+ghost use Rattle.memory_columns.specs.Layout.{maxPriorities, maxTasks, maxObjects, maxPools};
 ghost use Rattle.memory_queues.specs.Moves.{emptied as emptiedAt};
-ghost use Rattle.kernel_fresh.specs.Laying.{inTurn, counted, laidTask, laidSemaphore, laidFlag, laidPool};
-ghost use Rattle.kernel_fresh.specs.Laying.{laidAlarm, laidCounter, entered, emptied, laid};
+ghost use Rattle.kernel_fresh.specs.Laying.{inTurn, counted, wordOfId, laidTask, laidAlarm, laidEntry};
+ghost use Rattle.kernel_fresh.specs.Laying.{laidCounter, entered, emptied, laid};
 
 // The word `k` bytes behind an offset, 0 past the end. The two are not added before it is known that their sum is within the bytes.
 pub fn word_at(bytes: &[u8], at: usize, k: usize) -> u32
@@ -70,6 +70,23 @@ fn lay_counts(words: &mut [u32; STATE_WORDS], p: Plan)
 
 // ---- entries: the first lies at the offset `at`
 
+// The sections that have entries; those of the counter's are its alarms.
+enum Section {
+    Tasks,
+    Semaphores,
+    Flags,
+    Pools,
+    Alarms,
+}
+
+// Entry i, where each is one word.
+fn word_of(bytes: &[u8], at: usize, i: u32) -> u32
+    requires { ⌜ 1 ≤ i ⌝ }
+    ensures { λ r. ⌜ r ≡ wordOfId (now (bytes .entry)) at 4 i ⌝ }
+{
+    word_at(bytes, at, 4 * (i - 1) as usize)
+}
+
 // Task i rests at its starting priority.
 fn lay_task(bytes: &[u8], at: usize, i: u32, words: &mut [u32; STATE_WORDS])
     requires { ⌜ 1 ≤ i ⌝ }
@@ -78,80 +95,6 @@ fn lay_task(bytes: &[u8], at: usize, i: u32, words: &mut [u32; STATE_WORDS])
     let p = word_at(bytes, at, 8 * (i - 1) as usize);
     set_priority(words, i, p);
     set_start(words, i, p);
-}
-
-fn lay_tasks(bytes: &[u8], at: usize, n: u32, words: &mut [u32; STATE_WORDS])
-    requires { ⌜ n ≤ maxTasks ⌝ }
-    ensures { λ _. ⌜ now (words .exit) ≡ inTurn (laidTask (now (bytes .entry)) at) n 1 (now (words .entry)) ⌝ }
-{
-    let mut i: u32 = 1;
-    let mut left = n;
-    while 0 < left {
-        lay_task(bytes, at, i, words);
-        i += 1;
-        left -= 1;
-    }
-}
-
-fn lay_semaphore(bytes: &[u8], at: usize, i: u32, words: &mut [u32; STATE_WORDS])
-    requires { ⌜ 1 ≤ i ⌝ }
-    ensures { λ _. ⌜ now (words .exit) ≡ laidSemaphore (now (bytes .entry)) at i (now (words .entry)) ⌝ }
-{
-    set_semaphore(words, i, word_at(bytes, at, 4 * (i - 1) as usize));
-}
-
-fn lay_semaphores(bytes: &[u8], at: usize, n: u32, words: &mut [u32; STATE_WORDS])
-    requires { ⌜ n ≤ maxObjects ⌝ }
-    ensures { λ _. ⌜ now (words .exit) ≡ inTurn (laidSemaphore (now (bytes .entry)) at) n 1 (now (words .entry)) ⌝ }
-{
-    let mut i: u32 = 1;
-    let mut left = n;
-    while 0 < left {
-        lay_semaphore(bytes, at, i, words);
-        i += 1;
-        left -= 1;
-    }
-}
-
-fn lay_flag(bytes: &[u8], at: usize, i: u32, words: &mut [u32; STATE_WORDS])
-    requires { ⌜ 1 ≤ i ⌝ }
-    ensures { λ _. ⌜ now (words .exit) ≡ laidFlag (now (bytes .entry)) at i (now (words .entry)) ⌝ }
-{
-    set_flag(words, i, word_at(bytes, at, 4 * (i - 1) as usize));
-}
-
-fn lay_flags(bytes: &[u8], at: usize, n: u32, words: &mut [u32; STATE_WORDS])
-    requires { ⌜ n ≤ maxObjects ⌝ }
-    ensures { λ _. ⌜ now (words .exit) ≡ inTurn (laidFlag (now (bytes .entry)) at) n 1 (now (words .entry)) ⌝ }
-{
-    let mut i: u32 = 1;
-    let mut left = n;
-    while 0 < left {
-        lay_flag(bytes, at, i, words);
-        i += 1;
-        left -= 1;
-    }
-}
-
-// So many blocks, all out.
-fn lay_pool(bytes: &[u8], at: usize, i: u32, words: &mut [u32; STATE_WORDS])
-    requires { ⌜ 1 ≤ i ⌝ }
-    ensures { λ _. ⌜ now (words .exit) ≡ laidPool (now (bytes .entry)) at i (now (words .entry)) ⌝ }
-{
-    set_size(words, i, word_at(bytes, at, 4 * (i - 1) as usize));
-}
-
-fn lay_pools(bytes: &[u8], at: usize, n: u32, words: &mut [u32; STATE_WORDS])
-    requires { ⌜ n ≤ maxPools ⌝ }
-    ensures { λ _. ⌜ now (words .exit) ≡ inTurn (laidPool (now (bytes .entry)) at) n 1 (now (words .entry)) ⌝ }
-{
-    let mut i: u32 = 1;
-    let mut left = n;
-    while 0 < left {
-        lay_pool(bytes, at, i, words);
-        i += 1;
-        left -= 1;
-    }
 }
 
 // Alarm k of the counter whose entry lies at `at`: its task, and 1 if it wakes it. It is idle.
@@ -164,14 +107,40 @@ fn lay_alarm(bytes: &[u8], at: usize, k: u32, words: &mut [u32; STATE_WORDS])
     set_alarm_wakes(words, k, at_most(word_at(bytes, at, behind + 8), WAKES));
 }
 
-fn lay_alarms(bytes: &[u8], at: usize, words: &mut [u32; STATE_WORDS])
-    ensures { λ _. ⌜ now (words .exit) ≡ inTurn (laidAlarm (now (bytes .entry)) at) maxAlarms 1 (now (words .entry)) ⌝ }
+// Entry i of a section: a count, a pattern, so many blocks, all out.
+fn lay_entry(section: Section, bytes: &[u8], at: usize, i: u32, words: &mut [u32; STATE_WORDS])
+    requires { ⌜ 1 ≤ i ⌝ }
+    ensures { λ _. ⌜ now (words .exit) ≡ laidEntry section (now (bytes .entry)) at i (now (words .entry)) ⌝ }
 {
-    let mut k: u32 = 1;
-    let mut left = MAX_ALARMS;
+    match section {
+        Section::Tasks => {
+            lay_task(bytes, at, i, words);
+        }
+        Section::Semaphores => {
+            set_semaphore(words, i, word_of(bytes, at, i));
+        }
+        Section::Flags => {
+            set_flag(words, i, word_of(bytes, at, i));
+        }
+        Section::Pools => {
+            set_size(words, i, word_of(bytes, at, i));
+        }
+        Section::Alarms => {
+            lay_alarm(bytes, at, i, words);
+        }
+    }
+}
+
+// The first n of them.
+fn lay_section(section: Section, bytes: &[u8], at: usize, n: u32, words: &mut [u32; STATE_WORDS])
+    requires { ⌜ n ≤ maxTasks ⌝ }
+    ensures { λ _. ⌜ now (words .exit) ≡ inTurn (laidEntry section (now (bytes .entry)) at) n 1 (now (words .entry)) ⌝ }
+{
+    let mut i: u32 = 1;
+    let mut left = n;
     while 0 < left {
-        lay_alarm(bytes, at, k, words);
-        k += 1;
+        lay_entry(section, bytes, at, i, words);
+        i += 1;
         left -= 1;
     }
 }
@@ -184,17 +153,23 @@ fn lay_counter(bytes: &[u8], at: usize, n: u32, words: &mut [u32; STATE_WORDS])
         return;
     }
     set_counter(words, COUNTER_SIZE, setup::word(bytes, at));
-    lay_alarms(bytes, at, words);
+    lay_section(Section::Alarms, bytes, at, MAX_ALARMS, words);
 }
 
 fn lay_entries(bytes: &[u8], p: Plan, words: &mut [u32; STATE_WORDS])
     requires { ⌜ PlanFits p (length (now bytes)) ⌝ }
     ensures { λ _. ⌜ now (words .exit) ≡ entered (now (bytes .entry)) p (now (words .entry)) ⌝ }
 {
-    lay_tasks(bytes, p.at.tasks, p.tasks, words);
-    lay_semaphores(bytes, p.at.semaphores, p.semaphores, words);
-    lay_flags(bytes, p.at.flags, p.flags, words);
-    lay_pools(bytes, p.at.pools, p.pools, words);
+    lay_section(Section::Tasks, bytes, p.at.tasks, p.tasks, words);
+    lay_section(
+        Section::Semaphores,
+        bytes,
+        p.at.semaphores,
+        p.semaphores,
+        words,
+    );
+    lay_section(Section::Flags, bytes, p.at.flags, p.flags, words);
+    lay_section(Section::Pools, bytes, p.at.pools, p.pools, words);
     lay_counter(bytes, p.at.counter, p.counters, words);
 }
 

@@ -12,7 +12,7 @@ returns-2 : tie.Need-returns-2
 unfolding laidCounter
 returns-2 c =
     let sized = c .before .before in
-    simp (ne-eqb _ _ (sized .before .before .before .if1 .left), c .lay-alarms .ensures, sized .set-counter .ensures, sized .before .word .ensures)
+    simp (ne-eqb _ _ (sized .before .before .before .if1 .left), c .lay-section .ensures, sized .set-counter .ensures, sized .before .word .ensures)
 
 pub lay-counter-spec : {M : Type 1} → statement M
 lay-counter-spec =

@@ -8,7 +8,7 @@ returns c =
     let p = c .before .before in
     let f = p .before .before in
     let s = f .before .before in
-    entry-steps _ _ _ (s .before .before .lay-tasks .ensures) (s .lay-semaphores .ensures) (f .lay-flags .ensures) (p .lay-pools .ensures) (c .lay-counter .ensures)
+    entry-steps _ _ _ (s .before .before .lay-section .ensures) (s .lay-section2 .ensures) (f .lay-section3 .ensures) (p .lay-section4 .ensures) (c .lay-counter .ensures)
 
 pub lay-entries-spec : {M : Type 1} → statement M
 lay-entries-spec =
