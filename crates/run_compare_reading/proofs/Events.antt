@@ -1,18 +1,16 @@
 -- The section of events read word by word: what it gives, and what judging it gives. Assumes nothing.
-use mathlib.Core.Bool.{Bool, true, false, cond}
 use mathlib.Core.List.{List, [], _∷_, _++_, map}
 use mathlib.Core.Path.{_≡_, refl, sym, ap, _∙_}
-use Prim.Native.Nat.{ℕ, zero, suc, _+_, _-_, _*_, _≤_, _<_}
+use Prim.Native.Nat.{ℕ, zero, suc, _+_, _*_, _≤_}
 use native.Mathlib.Omega.{arith}
-use lib.Dec.{leb}
 use lib.IntN.{ℤ}
 use lib.ListN.{length, replicate, length-replicate}
-use Rattle.rules.specs.Setup.{S2, S3, S4, Read, got, refused, and-then, wordAt, Range, to, readWord, readEntry, readEntries, readSection, at-end}
-use Rattle.rules.proofs.Accepted.{Reads, reads-then, from-read}
-use Rattle.setup.specs.Judging.{judgedOf, onGood}
-use Rattle.setup.specs.declared.Judged.the-variants.{Bad, Good}
+use Rattle.rules.specs.Setup.{S2, S3, Read, got, refused, and-then, wordAt, Range, to, readWord, readEntry, readEntries, readSection, at-end}
+use Rattle.rules.proofs.Accepted.{Reads, reads-then}
+use Rattle.setup.specs.Judging.{judgedOf, onGood, endedAt}
+use Rattle.setup.specs.declared.Judged.{Judged}
 use Rattle.setup.proofs.Reading.{WordAt, word-lies}
-use Rattle.setup.proofs.Judging.{nothing-judged, words-judged, then-judged, map-judged}
+use Rattle.setup.proofs.Judging.{map-judged, end-judged}
 use Rattle.rules.specs.Writing.{joined}
 use Rattle.run_reading.specs.Recorded.{signedWord}
 use Rattle.run_reading.proofs.Reach.{word-within}
@@ -97,25 +95,6 @@ module _ (s : List ℕ) where
 
   -- ---- what is judged
 
-  pub events-judged : (i : ℕ) → judgedOf (readEvents s i) ≡ onGood (judgedOf (readWord s (to 0 mostCompared) S2 i)) (λ j. judgedOf (readEntry s (replicate (5 * wordAt s i) anyWord) j))
-  events-judged i =
-      ap judgedOf (events-flat i)
-      ∙ then-judged (readWord s (to 0 mostCompared) S2 i) _ _
-      (λ n j q. map-judged (readEntry s (replicate (5 * n) anyWord) j) _ ∙ ap (λ (m : ℕ). judgedOf (readEntry s (replicate (5 * m) anyWord) j)) (from-read _ _ n j q (word-lies s (to 0 mostCompared) S2 i) .0))
-
-  pub end-judged : {A : Type 0} (r : Read A) → judgedOf (at-end s r) ≡ onGood (judgedOf r) (λ i. cond (leb (length s) i) (Good i) (Bad 4 i))
-  unfolding at-end
-  end-judged {A} (got a i) = pick (leb (length s) i)
-    where
-      pick : (t : Bool) → judgedOf (cond {A = Read A} t (got a i) (refused S4 i)) ≡ cond t (Good i) (Bad 4 i)
-      pick true = refl
-      pick false = refl
-  end-judged (refused d i) = refl
-
-  pub next-word : (n i : ℕ) → 0 < n
-      → judgedOf (readEntry s (replicate n anyWord) i) ≡ onGood (judgedOf (readWord s anyWord S3 i)) (λ j. judgedOf (readEntry s (replicate (n - 1) anyWord) j))
-  next-word zero i h = absurd (omega (arith, h))
-  next-word (suc n) i h = let e : suc n - 1 ≡ n = omega arith in rw e (words-judged s anyWord (replicate n anyWord) i)
-
-  pub no-words : (n i : ℕ) → n ≡ 0 → judgedOf (readEntry s (replicate n anyWord) i) ≡ Good i
-  no-words n i e = rw e (nothing-judged s i)
+  pub events-judged : (i : ℕ) → judgedOf (at-end s (readEvents s i)) ≡ onGood (judgedOf (readSection s events i)) (endedAt (length s))
+  unfolding readEvents
+  events-judged i = end-judged s (readEvents s i) ∙ ap (λ (x : Judged). onGood x (endedAt (length s))) (map-judged (readSection s events i) _)

@@ -3,14 +3,14 @@
 use run_reading::EVENT;
 use run_reading::HEAD;
 use setup::Judged;
+use setup::Shape;
 use setup::Span;
-use setup::judge_word;
-use setup::word;
+use setup::at_end;
+use setup::judge_section;
 ghost use mathlib.Core.Path.{_≡_};
-ghost use lib.ListN.{replicate};
-ghost use Rattle.rules.specs.Setup.{readEntry, at-end};
+ghost use Rattle.rules.specs.Setup.{at-end};
 ghost use Rattle.setup.specs.Judging.{judgedOf};
-ghost use Rattle.run_compare_reading.specs.Compared.{anyWord, readEvents, Judges, JudgesRest};
+ghost use Rattle.run_compare_reading.specs.Compared.{readEvents, Judges, JudgesRest};
 
 // The most events, and the words of each: kind, call and three arguments.
 pub const EVENTS: usize = 3000;
@@ -19,13 +19,6 @@ pub const WORDS_OF_EVENT: usize = 5;
 
 // More bytes than any input has that is not refused: what stands behind them changes nothing.
 pub const INPUT: usize = 2 * HEAD + EVENT * EVENTS;
-
-// The faults, by the papers' names.
-const S2: u32 = 2;
-
-const S3: u32 = 3;
-
-const S4: u32 = 4;
 
 const MOST_WORD: u32 = 4294967295;
 
@@ -37,58 +30,23 @@ pub enum Places {
 
 // ---- the events
 
-// `n` words of any value.
-fn judge_words(bytes: &[u8], n: usize, from: usize) -> Judged
-    ensures { λ r. ⌜ r ≡ judgedOf (readEntry (now (bytes .entry)) (replicate n anyWord) from) ⌝ }
+// The count of events at an offset, five words for each, and nothing may follow.
+fn judge_events(bytes: &[u8], at: usize) -> Judged
+    ensures { λ r. ⌜ r ≡ judgedOf (at-end (now (bytes .entry)) (readEvents (now (bytes .entry)) at)) ⌝ }
 {
     let any = Span {
         least: 0,
         most: MOST_WORD,
     };
-    let mut at = from;
-    let mut left = n;
-    while 0 < left {
-        match judge_word(bytes, any, S3, at) {
-            Judged::Bad(d, i) => {
-                return Judged::Bad(d, i);
-            }
-            Judged::Good(next) => {
-                at = next;
-            }
-        }
-        left -= 1;
-    }
-    Judged::Good(at)
-}
-
-// The count of events at an offset, and five words for each.
-fn judge_section(bytes: &[u8], at: usize) -> Judged
-    ensures { λ r. ⌜ r ≡ judgedOf (readEvents (now (bytes .entry)) at) ⌝ }
-{
-    let count = Span {
-        least: 0,
-        most: EVENTS as u32,
+    let event = Shape {
+        words: WORDS_OF_EVENT as u32,
+        first: any,
+        others: any,
     };
-    match judge_word(bytes, count, S2, at) {
-        Judged::Bad(d, i) => Judged::Bad(d, i),
-        Judged::Good(next) => judge_words(bytes, WORDS_OF_EVENT * word(bytes, at) as usize, next),
-    }
-}
-
-// The same, and nothing may follow.
-fn judge_events(bytes: &[u8], at: usize) -> Judged
-    ensures { λ r. ⌜ r ≡ judgedOf (at-end (now (bytes .entry)) (readEvents (now (bytes .entry)) at)) ⌝ }
-{
-    match judge_section(bytes, at) {
-        Judged::Bad(d, i) => Judged::Bad(d, i),
-        Judged::Good(end) => {
-            if end < bytes.len() {
-                Judged::Bad(S4, end)
-            } else {
-                Judged::Good(end)
-            }
-        }
-    }
+    at_end(
+        bytes.len(),
+        judge_section(bytes, 0, EVENTS as u32, event, at),
+    )
 }
 
 // ---- the whole

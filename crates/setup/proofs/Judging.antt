@@ -6,9 +6,9 @@ use Prim.Native.Nat.{ℕ, zero, suc, _+_, _-_, _≤_, _<_}
 use native.Mathlib.Nat.{min-eq-left}
 use native.Mathlib.Omega.{arith}
 use lib.Dec.{eqb, leb}
-use lib.ListN.{length}
+use lib.ListN.{length, replicate}
 use Rattle.rules.specs.Setup.{Fault, S1, S2, S3, S4, digit, Read, got, refused, and-then, wordAt, Range, to, within, readWord, Section, priorities, sections, alarmRanges, counters, readEntry, readEntries, readSection, readSections, entriesOf, setupOf, readWith, perhaps, at-end, setup}
-use Rattle.setup.specs.Judging.{judgedOf, toldAs, leftOut, onGood}
+use Rattle.setup.specs.Judging.{judgedOf, toldAs, leftOut, onGood, endedAt, ranges}
 use Rattle.setup.specs.Layout.{onward}
 use Rattle.setup.specs.declared.Judged.{Judged}
 use Rattle.setup.specs.declared.Judged.the-variants.{Bad, Good}
@@ -59,12 +59,27 @@ module _ (s : List ℕ) where
   unfolding readEntry
   words-judged r e i = then-judged (readWord s r S3 i) _ _ (λ w j q. map-judged (readEntry s e j) _)
 
-  pub word-judged : (r : Range) (i : ℕ) → judgedOf (readEntry s (r ∷ []) i) ≡ judgedOf (readWord s r S3 i)
+  word-judged : (r : Range) (i : ℕ) → judgedOf (readEntry s (r ∷ []) i) ≡ judgedOf (readWord s r S3 i)
   unfolding readEntry
   word-judged r i = words-judged r [] i ∙ on-good (judgedOf (readWord s r S3 i))
 
-  pub pair-judged : (a b : Range) (i : ℕ) → judgedOf (readEntry s (a ∷ b ∷ []) i) ≡ onGood (judgedOf (readWord s a S3 i)) (λ j. judgedOf (readWord s b S3 j))
+  pair-judged : (a b : Range) (i : ℕ) → judgedOf (readEntry s (a ∷ b ∷ []) i) ≡ onGood (judgedOf (readWord s a S3 i)) (λ j. judgedOf (readWord s b S3 j))
   pair-judged a b i = words-judged a (b ∷ []) i ∙ simp (word-judged b)
+
+  -- n words in a range
+  pub next-word : (r : Range) (n i : ℕ) → 0 < n
+      → judgedOf (readEntry s (replicate n r) i) ≡ onGood (judgedOf (readWord s r S3 i)) (λ j. judgedOf (readEntry s (replicate (n - 1) r) j))
+  next-word r zero i h = absurd (omega (arith, h))
+  next-word r (suc n) i h = let e : suc n - 1 ≡ n = omega arith in rw e (words-judged r (replicate n r) i)
+
+  pub no-words : (r : Range) (n i : ℕ) → n ≡ 0 → judgedOf (readEntry s (replicate n r) i) ≡ Good i
+  no-words r n i e = rw e (nothing-judged i)
+
+  -- an entry goes by what was judged of its first word
+  pub entry-judged : (n : ℕ) (a b : Range) (i : ℕ) → (n ≡ 0 → ⊥)
+      → judgedOf (readEntry s (ranges n a b) i) ≡ onGood (judgedOf (readWord s a S3 i)) (λ j. judgedOf (readEntry s (replicate (n - 1) b) j))
+  entry-judged zero a b i h = absurd (h refl)
+  entry-judged (suc n) a b i h = let e : suc n - 1 ≡ n = omega arith in rw e (words-judged a (replicate n b) i)
 
   pub entries-judged : (e : List Range) (n i : ℕ) → 0 < n → judgedOf (readEntries s e n i) ≡ onGood (judgedOf (readEntry s e i)) (λ j. judgedOf (readEntries s e (n - 1) j))
   unfolding readEntries
@@ -176,17 +191,20 @@ module _ (s : List ℕ) where
           place = omega (arith, h .1)
       first (refused d q) h g = refl
 
-  pub whole-judged : judgedOf (setup s) ≡ onGood (judgedOf (readWith perhaps s 0)) (λ i. cond (leb (length s) i) (Good i) (Bad 4 i))
-  unfolding setup at-end
-  whole-judged = go (readWith perhaps s 0)
+  -- ---- nothing may follow
+
+  pub end-judged : {A : Type 0} (r : Read A) → judgedOf (at-end s r) ≡ onGood (judgedOf r) (endedAt (length s))
+  unfolding at-end
+  end-judged {A} (got a i) = pick (leb (length s) i)
     where
-      go : {A : Type 0} (r : Read A) → judgedOf (at-end s r) ≡ onGood (judgedOf r) (λ i. cond (leb (length s) i) (Good i) (Bad 4 i))
-      go {A} (got a i) = pick (leb (length s) i)
-        where
-          pick : (t : Bool) → judgedOf (cond {A = Read A} t (got a i) (refused S4 i)) ≡ cond t (Good i) (Bad 4 i)
-          pick true = refl
-          pick false = refl
-      go (refused d i) = refl
+      pick : (t : Bool) → judgedOf (cond {A = Read A} t (got a i) (refused S4 i)) ≡ cond t (Good i) (Bad 4 i)
+      pick true = refl
+      pick false = refl
+  end-judged (refused d i) = refl
+
+  pub whole-judged : judgedOf (setup s) ≡ onGood (judgedOf (readWith perhaps s 0)) (endedAt (length s))
+  unfolding setup
+  whole-judged = end-judged (readWith perhaps s 0)
 
 -- ---- a word
 

@@ -1,6 +1,9 @@
 -- What judging a setup gives: what the rules' reader gives, without what was read.
+use mathlib.Core.Bool.{cond}
 use mathlib.Core.List.{List, [], _∷_}
 use Prim.Native.Nat.{ℕ, zero, suc}
+use lib.Dec.{leb}
+use lib.ListN.{replicate}
 use Rattle.rules.specs.Setup.{S1, S2, S3, S4, digit, Read, got, refused, Range, to, Section}
 use Rattle.setup.specs.declared.Judged.{Judged}
 use Rattle.setup.specs.declared.Judged.the-variants.{Bad, Good}
@@ -28,12 +31,15 @@ abbrev pub onGood : Judged → (ℕ → Judged) → Judged
 onGood (Good i) f = f i
 onGood (Bad d i) f = Bad d i
 
--- none of two ranges, the first, or both
-abbrev pub firstOf : ℕ → Range → Range → List Range
-firstOf zero a b = []
-firstOf (suc zero) a b = a ∷ []
-firstOf (suc (suc n)) a b = a ∷ b ∷ []
+-- nothing may follow, of n bytes
+abbrev pub endedAt : ℕ → ℕ → Judged
+endedAt n i = cond (leb n i) (Good i) (Bad (digit S4) i)
+
+-- n ranges: the first, and the other for each further word
+abbrev pub ranges : ℕ → Range → Range → List Range
+ranges zero a b = []
+ranges (suc n) a b = a ∷ replicate n b
 
 -- the ranges of the words of an entry
 abbrev pub rangesOf : Shape → List Range
-rangesOf e = firstOf (e .words) (to (e .first .least) (e .first .most)) (to (e .second .least) (e .second .most))
+rangesOf e = ranges (e .words) (to (e .first .least) (e .first .most)) (to (e .others .least) (e .others .most))

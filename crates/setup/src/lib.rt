@@ -4,10 +4,10 @@ ghost use mathlib.Core.Path.{_≡_};
 ghost use mathlib.Core.List.{[], _∷_};
 ghost use Prim.Native.Nat.{_+_, _≤_, _<_};
 ghost use lib.Dec.{leb};
-ghost use lib.ListN.{length, getD};
+ghost use lib.ListN.{length, getD, replicate};
 ghost use Rattle.rules.specs.Setup.{S3, wordAt, to, section, counters, readWord, readEntry, readEntries, readSection};
 ghost use Rattle.rules.specs.Setup.{readWith, readSetup, perhaps, setup};
-ghost use Rattle.setup.specs.Judging.{judgedOf, toldAs, onGood, rangesOf, leftOut};
+ghost use Rattle.setup.specs.Judging.{judgedOf, toldAs, onGood, endedAt, rangesOf, leftOut};
 ghost use Rattle.setup.specs.Layout.{countAt, onward, partAt, planOf};
 
 // The largest counts.
@@ -90,11 +90,11 @@ pub struct Span {
     pub most: u32,
 }
 
-// The words of an entry: none, the first, or both.
-struct Shape {
-    words: u32,
-    first: Span,
-    second: Span,
+// The words of an entry: how many, the range of the first, and that of each further one.
+pub struct Shape {
+    pub words: u32,
+    pub first: Span,
+    pub others: Span,
 }
 
 // The word at an offset is whole, or has the fault S1; and it lies within its range, or has the fault whose digit is given.
@@ -115,20 +115,36 @@ pub fn judge_word(bytes: &[u8], r: Span, fault: u32, at: usize) -> Judged
     Judged::Good(next)
 }
 
-// An entry of none, one or two words.
+// `n` words in a range.
+fn judge_words(bytes: &[u8], r: Span, n: u32, from: usize) -> Judged
+    ensures { λ j. ⌜ j ≡ judgedOf (readEntry (now (bytes .entry)) (replicate n (to (r .least) (r .most))) from) ⌝ }
+{
+    let mut at = from;
+    let mut left = n;
+    while 0 < left {
+        match judge_word(bytes, r, 3, at) {
+            Judged::Bad(d, i) => {
+                return Judged::Bad(d, i);
+            }
+            Judged::Good(next) => {
+                at = next;
+            }
+        }
+        left -= 1;
+    }
+    Judged::Good(at)
+}
+
+// One entry.
 fn judge_entry(bytes: &[u8], e: Shape, at: usize) -> Judged
     ensures { λ r. ⌜ r ≡ judgedOf (readEntry (now (bytes .entry)) (rangesOf e) at) ⌝ }
 {
     if e.words == 0 {
         return Judged::Good(at);
     }
-    let first = judge_word(bytes, e.first, 3, at);
-    if e.words == 1 {
-        return first;
-    }
-    match first {
+    match judge_word(bytes, e.first, 3, at) {
         Judged::Bad(d, i) => Judged::Bad(d, i),
-        Judged::Good(next) => judge_word(bytes, e.second, 3, next),
+        Judged::Good(next) => judge_words(bytes, e.others, e.words - 1, next),
     }
 }
 
@@ -153,7 +169,7 @@ fn judge_entries(bytes: &[u8], e: Shape, n: u32, from: usize) -> Judged
 }
 
 // A count from `least` to `most`, and an entry for each that it counts.
-fn judge_section(bytes: &[u8], least: u32, most: u32, e: Shape, at: usize) -> Judged
+pub fn judge_section(bytes: &[u8], least: u32, most: u32, e: Shape, at: usize) -> Judged
     ensures { λ r. ⌜ r ≡ judgedOf (readSection (now (bytes .entry)) (section (to least most) (rangesOf e)) at) ⌝ }
 {
     match judge_word(bytes, Span { least, most }, 2, at) {
@@ -179,7 +195,7 @@ fn no_words() -> Shape
     Shape {
         words: 0,
         first: none,
-        second: none,
+        others: none,
     }
 }
 
@@ -190,7 +206,7 @@ fn one_word(least: u32, most: u32) -> Shape
     Shape {
         words: 1,
         first,
-        second: first,
+        others: first,
     }
 }
 
@@ -199,11 +215,11 @@ fn two_words(most: u32) -> Shape
     ensures { λ r. ⌜ rangesOf r ≡ to 1 most ∷ to 0 1 ∷ [] ⌝ }
 {
     let first = Span { least: 1, most };
-    let second = Span { least: 0, most: 1 };
+    let others = Span { least: 0, most: 1 };
     Shape {
         words: 2,
         first,
-        second,
+        others,
     }
 }
 
@@ -285,21 +301,27 @@ fn judge_alone(bytes: &[u8]) -> Judged
     }
 }
 
-// A setup alone: nothing may follow.
-pub fn judge_whole(bytes: &[u8]) -> Judged
-    ensures { λ r. ⌜ r ≡ judgedOf (setup (now (bytes .entry))) ⌝ }
+// Nothing may follow what was judged, of so many bytes.
+pub fn at_end(length: usize, judged: Judged) -> Judged
+    ensures { λ r. ⌜ r ≡ onGood judged (endedAt length) ⌝ }
 {
-    let judged = judge_alone(bytes);
     match judged {
         Judged::Bad(d, i) => Judged::Bad(d, i),
         Judged::Good(end) => {
-            if end < bytes.len() {
+            if end < length {
                 Judged::Bad(4, end)
             } else {
                 Judged::Good(end)
             }
         }
     }
+}
+
+// A setup alone: nothing may follow.
+pub fn judge_whole(bytes: &[u8]) -> Judged
+    ensures { λ r. ⌜ r ≡ judgedOf (setup (now (bytes .entry))) ⌝ }
+{
+    at_end(bytes.len(), judge_alone(bytes))
 }
 
 // ---- the layout

@@ -4,15 +4,9 @@ use borrow.Author.Needs.{needs}
 use Rattle.run_compare_reading.proofs.judge.Statement.{statement}
 use Rattle.run_compare_reading.proofs.judge.Tie as tie
 
--- src/lib.rt:108:11
--- src/lib.rt:109:21
--- src/lib.rt:110:22
--- src/lib.rt:110:33
--- src/lib.rt:105:1
 returns : tie.Need-returns
 returns c = first-refused _ (c .before .before .before .judge .ensures) _ _ (c .before .d .given .1)
 
--- src/lib.rt:105:1
 returns-2 : tie.Need-returns-2
 returns-2 c =
     let second = c .before .before in

@@ -4,17 +4,9 @@ use borrow.Author.Needs.{needs}
 use Rattle.run_compare_reading.proofs.judge_rest.Statement.{statement}
 use Rattle.run_compare_reading.proofs.judge_rest.Tie as tie
 
--- src/lib.rt:95:11
--- src/lib.rt:96:21
--- src/lib.rt:97:22
--- src/lib.rt:97:39
--- src/lib.rt:98:25
--- src/lib.rt:99:32
--- src/lib.rt:92:1
 returns : tie.Need-returns
 returns c = λ u e. second-refused _ u _ e (c .before .before .before .judge .ensures) _ _ (c .before .d .given .1)
 
--- src/lib.rt:92:1
 returns-2 : tie.Need-returns-2
 returns-2 c =
     let d = c .before in
@@ -22,7 +14,6 @@ returns-2 c =
     let j = E .before .before in
     λ u e. events-refused _ u _ e (j .before .before .judge .ensures) _ (j .events .given .1) (E .judge-events .ensures) _ _ (d .d2 .given .1)
 
--- src/lib.rt:92:1
 returns-3 : tie.Need-returns-3
 returns-3 c =
     let E = c .before .before in
