@@ -47,6 +47,14 @@ pub record Step (e : Event) (b m : List ℕ) (r : Reply) (b′ m′ : List ℕ) 
   pub refuses : (Accepted b m → ⊥) → r ≡ unsound b m
   pub kept : negative (r .code) ≡ true → (b′ ≡ b) × (m′ ≡ m)
 
+-- a lent memory: the words, and the marks of messages
+pub record Memory : Type 0 where
+  pub words : List ℕ
+  pub marks : List ℕ
+
+abbrev pub memory : List ℕ → List ℕ → Memory
+memory b m = record { words = b; marks = m }
+
 -- ---- runs
 
 -- an event, what came back, and the memory that it left

@@ -30,7 +30,7 @@ use run_tally::TASKS;
 ghost use mathlib.Core.Path.{_≡_};
 ghost use Prim.Native.Nat.{_≤_};
 ghost use Rattle.rules.specs.Events as Events;
-ghost use Rattle.kernel_steps.specs.Steps.{replyOf, Step};
+ghost use Rattle.kernel_steps.specs.Steps.{replyOf, Step, memory};
 ghost use Rattle.kernel_cells.specs.Promises.{Reads, Runs, Lists};
 ghost use Rattle.kernel_batches.specs.Batches.{lent};
 ghost use Rattle.brightness_curve.specs.Curves.{judgedOf, levelOf};
@@ -46,7 +46,7 @@ ghost use Rattle.run_month.specs.Monthly.{Reported};
 ghost use Rattle.run_tally.specs.Tables.{Flat};
 ghost use Rattle.run_figures.specs.Figures.{figures};
 ghost use Rattle.run_figures.specs.Counting as Counting;
-ghost use Rattle.run_figures.specs.Counting.{memory, Counts};
+ghost use Rattle.run_figures.specs.Counting.{Counts};
 ghost use Rattle.okrozumba.specs.Exports.{ranNumber, ranPlace, StartsTold, BatchedTold, RunsTold};
 
 // ---- a fresh state

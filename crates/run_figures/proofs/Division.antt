@@ -15,7 +15,7 @@ use Rattle.rules.specs.Kernel.{fresh, event}
 use Rattle.rules.specs.Writing.{joined}
 use Rattle.memory_picture.specs.Picture.{viewShown, tasksShown}
 use Rattle.kernel_start.specs.Starting.{Holds}
-use Rattle.kernel_steps.specs.Steps.{Reply, Step, Link}
+use Rattle.kernel_steps.specs.Steps.{Reply, Step, Link, Memory, memory}
 use Rattle.call_words.proofs.Tasks.{tasks-count}
 use Rattle.call_reading.specs.Reading.{numberAt}
 use Rattle.call_reading.proofs.Readings.{number-read}
@@ -25,7 +25,7 @@ use Rattle.run_reading.proofs.Division as Reading
 use Rattle.run_tally.specs.Tables.{tableCounted, codesCounted}
 use Rattle.run_text.specs.Text.{Stage, unstarted, at, onward, queues}
 use Rattle.run_figures.specs.Figures.{Seen, Figures, figures, none, counted, countedAll, stateIn, seenBehind, seenOf, seenFrom, figuresOf}
-use Rattle.run_figures.specs.Counting.{Memory, memory, Lent, seenIn, seenLink, Went, Taken}
+use Rattle.run_figures.specs.Counting.{Lent, seenIn, seenLink, Went, Taken}
 use Rattle.run_figures.proofs.Going.{counted-alike, counted-append, went-append}
 
 -- ---- parts in turn

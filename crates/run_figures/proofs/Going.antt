@@ -16,7 +16,7 @@ use Rattle.check_damage.specs.declared.Breach.{Breach}
 use Rattle.check_damage.specs.Judged.{Judged}
 use Rattle.kernel_start.specs.Starting.{Starts, Holds}
 use Rattle.kernel_start.specs.declared.Started.{Started}
-use Rattle.kernel_steps.specs.Steps.{Reply, Step, Link}
+use Rattle.kernel_steps.specs.Steps.{Reply, Step, Link, Memory, memory}
 use Rattle.kernel_steps.specs.Serving.{Known}
 use Rattle.kernel_serving.proofs.Served.{known-on, known-first}
 use Rattle.call_reading.specs.Reading.{numberAt}
@@ -25,11 +25,11 @@ use Rattle.run_reading.specs.Recorder.{Recorder, items, after, eat}
 use Rattle.run_reading.proofs.Division.{append-nil, items-append, after-append}
 use Rattle.run_stream.specs.declared.Completed.{Completed}
 use Rattle.run_stream.specs.declared.Completed.the-variants.{Nothing, Begins, Occurs, Refuses}
-use Rattle.run_stream.specs.Lent.{recorderOf, Takes}
+use Rattle.run_stream.specs.Lent.{recorderOf, Takes, said, Said}
 use Rattle.run_tally.specs.Tables.{tableCounted, codesCounted}
 use Rattle.run_figures.specs.declared.Turn.{Turn}
 use Rattle.run_figures.specs.Figures.{Seen, Figures, figures, counted, countedAll}
-use Rattle.run_figures.specs.Counting.{Memory, memory, Lent, seenIn, seenLink, Went, said, Said, refusalFrom, firstSaid, Counts, Goes, CountsTold}
+use Rattle.run_figures.specs.Counting.{Lent, seenIn, seenLink, Went, refusalFrom, firstSaid, Counts, Goes, CountsTold}
 
 -- ---- what is seen
 

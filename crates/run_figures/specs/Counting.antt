@@ -11,24 +11,17 @@ use Rattle.rules.specs.Kernel.{fresh}
 use Rattle.memory_picture.specs.Picture.{tasksShown}
 use Rattle.call_reading.specs.Reading.{numberAt}
 use Rattle.kernel_start.specs.Starting.{Holds}
-use Rattle.kernel_steps.specs.Steps.{Step, Link}
+use Rattle.kernel_steps.specs.Steps.{Step, Link, Memory, memory}
 use Rattle.kernel_steps.specs.Serving.{Known}
 use Rattle.run_reading.specs.Recorded.{Item, begins, occurs, refuses}
 use Rattle.run_reading.specs.Recorder.{Recorder, closed, items, after}
 use Rattle.run_stream.specs.declared.Completed.{Completed}
-use Rattle.run_stream.specs.Lent.{recorderOf, Tells}
+use Rattle.run_stream.specs.Lent.{recorderOf, Tells, Said, said}
 use Rattle.run_figures.specs.declared.Counted.{Counted}
 use Rattle.run_figures.specs.declared.Turn.{Turn}
 use Rattle.run_figures.specs.Figures.{Seen, Figures, countedAll}
 
 -- ---- what is lent
-
-pub record Memory : Type 0 where
-  pub words : List ℕ
-  pub marks : List ℕ
-
-abbrev pub memory : List ℕ → List ℕ → Memory
-memory b m = record { words = b; marks = m }
 
 pub record Lent : Type 0 where
   pub recorder : Recorder
@@ -56,13 +49,6 @@ Went (occurs n e ∷ i) old l new =
 Went (refuses f place ∷ i) old l new = Went i old l new
 
 -- ---- what is said
-
-pub record Said : Type 0 where
-  pub number : ℕ
-  pub place : ℕ
-
-abbrev pub said : ℕ → ℕ → Said
-said n p = record { number = n; place = p }
 
 -- what is said behind items: their refusal by its fault's digit and its place, if there is one; else what was said before
 abbrev pub refusalFrom : Said → List Item → Said

@@ -16,7 +16,8 @@ use Rattle.run_text.specs.Lines.{refusal, longestLine}
 use Rattle.run_text.specs.Output.{Wrote}
 use Rattle.run_text.proofs.Laid.{laid-over}
 use Rattle.run_recorder.specs.declared.Parted.{Parted}
-use Rattle.run_recorder.specs.Running.{Memory, Ran}
+use Rattle.kernel_steps.specs.Steps.{Memory}
+use Rattle.run_recorder.specs.Running.{Ran}
 use Rattle.run_recorder.specs.Recording.{taken, Ends, EndsRefused, EndsQuiet}
 use Rattle.run_recorder.proofs.Items.{ran-one}
 

@@ -11,6 +11,7 @@ use lib.ListN.{length, take, drop, getD, length-append, length-drop, drop-of-len
 use borrow.Rule.Slice.PartMut.{midOf, putMid}
 use borrow.Author.Tests.{le-leb, lt-leb}
 use Rattle.rules.specs.Setup.{S1, S2, S3, S4, Read, got, refused, digit}
+use Rattle.kernel_steps.specs.Steps.{Memory}
 use Rattle.memory_running.specs.Running.{runningOf}
 use Rattle.check_damage.specs.declared.Breach.{Breach}
 use Rattle.check_damage.specs.Judged.{Judged}
@@ -23,8 +24,9 @@ use Rattle.run_text.specs.Lines.{longestLine}
 use Rattle.run_text.specs.Output.{over, laid, Wrote}
 use Rattle.run_text.proofs.Laid.{laid-over}
 use Rattle.run_recorder.specs.declared.Turn.{Turn}
-use Rattle.run_recorder.specs.Running.{Memory, Ran}
-use Rattle.run_recorder.specs.Recording.{Lent, recorderIn, memoryIn, Said, said, taken, S5, full, refusalIn, Admits, Parts, Plays, Eats}
+use Rattle.run_recorder.specs.Running.{Ran}
+use Rattle.run_stream.specs.Lent.{Said, said}
+use Rattle.run_recorder.specs.Recording.{Lent, recorderIn, memoryIn, taken, S5, full, refusalIn, Admits, Parts, Plays, Eats}
 
 -- ---- lists
 

@@ -12,7 +12,7 @@ use Rattle.check_damage.specs.declared.Breach.{Breach}
 use Rattle.check_damage.specs.Judged.{Judged}
 use Rattle.kernel_start.specs.declared.Started.{Started}
 use Rattle.kernel_start.specs.Starting.{Starts, Holds}
-use Rattle.kernel_steps.specs.Steps.{Reply, reply}
+use Rattle.kernel_steps.specs.Steps.{Reply, reply, Memory, memory}
 use Rattle.kernel_steps.specs.Serving.{Serves}
 use Rattle.kernel_serving.proofs.Served.{known-on, known-first}
 use Rattle.kernel_demands.specs.Demands.{figures}
@@ -22,8 +22,9 @@ use Rattle.run_stream.specs.declared.Completed.the-variants.{Nothing, Begins, O
 use Rattle.run_text.specs.Lines.{startLine, eventLine, refusal, longestLine}
 use Rattle.run_text.specs.Output.{laid, Wrote}
 use Rattle.run_recorder.specs.declared.Turn.{Turn}
-use Rattle.run_recorder.specs.Running.{Memory, memory, Does, Ran}
-use Rattle.run_recorder.specs.Recording.{said, PlaysTold}
+use Rattle.run_recorder.specs.Running.{Does, Ran}
+use Rattle.run_stream.specs.Lent.{said}
+use Rattle.run_recorder.specs.Recording.{PlaysTold}
 
 -- a line that was written is as long as what was counted
 long : {line t t′ : List ℕ} {w : ℕ} → Wrote line 0 t t′ w → w ≤ longestLine → length line ≤ longestLine

@@ -10,7 +10,7 @@ use borrow.Author.Tests.{lt-leb, leb-true, leb-false}
 use Rattle.rules.specs.Setup.{S1, S2, S3, S4, Read, got, refused}
 use Rattle.rules.specs.View.{View}
 use Rattle.rules.specs.Answers.{numbers}
-use Rattle.kernel_steps.specs.Steps.{Reply}
+use Rattle.kernel_steps.specs.Steps.{Reply, Memory}
 use Rattle.kernel_demands.specs.Demands.{figures}
 use Rattle.kernel_demands.proofs.Chains.{step-holds, step-says}
 use Rattle.run_reading.specs.Recorded.{eventBytes, eventIn, Head, readHead, Item, begins, occurs, refuses}
@@ -19,10 +19,10 @@ use Rattle.run_reading.proofs.Division.{items-append, after-append, closed-item
 use Rattle.run_text.specs.Lines.{eventLine}
 use Rattle.run_text.specs.Text.{Stage, unstarted, at, lineOf, onward, linesFrom, stageFrom, queues, textOf, stateOf}
 use Rattle.run_text.specs.Output.{over}
-use Rattle.run_stream.specs.Lent.{recorderOf, Is}
+use Rattle.run_stream.specs.Lent.{recorderOf, Is, Said, said}
 use Rattle.run_recorder.specs.declared.Parted.{Parted}
-use Rattle.run_recorder.specs.Running.{Memory, Does, Ran}
-use Rattle.run_recorder.specs.Recording.{Lent, lent, recorderIn, memoryIn, Said, said, taken, S5, full, refusalIn, partSays, Says, Parts, Ends}
+use Rattle.run_recorder.specs.Running.{Does, Ran}
+use Rattle.run_recorder.specs.Recording.{Lent, lent, recorderIn, memoryIn, taken, S5, full, refusalIn, partSays, Says, Parts, Ends}
 use Rattle.run_recorder.specs.Sessions.{Shows, Recorded, isRefusal, Handed, Division, lastLeft, bytesTaken, textWritten, firstSaid, Whole}
 use Rattle.run_recorder.proofs.Going.{take-front}
 

@@ -11,12 +11,13 @@ use Rattle.kernel_steps.specs.Serving.{Known}
 use Rattle.run_reading.specs.Recorded.{Item, begins, occurs, refuses}
 use Rattle.run_reading.specs.Recorder.{Recorder, closed, isEnded, ended, eat, items, after, atEnd}
 use Rattle.run_stream.specs.declared.Completed.{Completed}
-use Rattle.run_stream.specs.Lent.{recorderOf, Is, Tells}
+use Rattle.run_stream.specs.Lent.{recorderOf, Is, Tells, Said, said}
 use Rattle.run_text.specs.Lines.{refusal, longestLine}
 use Rattle.run_text.specs.Output.{over, Wrote}
 use Rattle.run_recorder.specs.declared.Parted.{Parted}
 use Rattle.run_recorder.specs.declared.Turn.{Turn}
-use Rattle.run_recorder.specs.Running.{Memory, memory, Ran}
+use Rattle.kernel_steps.specs.Steps.{Memory, memory}
+use Rattle.run_recorder.specs.Running.{Ran}
 
 -- ---- what is lent
 
@@ -36,13 +37,6 @@ abbrev pub memoryIn : Lent → Memory
 memoryIn x = memory (x .words) (x .marks)
 
 -- ---- what is said
-
-pub record Said : Type 0 where
-  pub number : ℕ
-  pub place : ℕ
-
-abbrev pub said : ℕ → ℕ → Said
-said n p = record { number = n; place = p }
 
 -- all is taken; S5; there is no room for the next line
 abbrev pub taken : Said

@@ -8,17 +8,10 @@ use Rattle.rules.specs.Events.{Event}
 use Rattle.rules.specs.View.{running}
 use Rattle.rules.specs.Kernel.{fresh}
 use Rattle.kernel_start.specs.Starting.{Holds}
-use Rattle.kernel_steps.specs.Steps.{Reply, Step}
+use Rattle.kernel_steps.specs.Steps.{Reply, Step, Memory}
 use Rattle.kernel_demands.specs.Demands.{figures}
 use Rattle.run_reading.specs.Recorded.{Item, begins, occurs, refuses}
 use Rattle.run_text.specs.Lines.{startLine, eventLine, refusal, longestLine}
-
-pub record Memory : Type 0 where
-  pub words : List ℕ
-  pub marks : List ℕ
-
-abbrev pub memory : List ℕ → List ℕ → Memory
-memory b m = record { words = b; marks = m }
 
 -- an event makes a step; its line has the reply
 pub record Answered (number : ℕ) (e : Event) (old : Memory) (text : List ℕ) (new : Memory) : Type 0 where

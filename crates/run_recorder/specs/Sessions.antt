@@ -12,8 +12,9 @@ use Rattle.run_reading.specs.Recorded.{itemsOf}
 use Rattle.run_reading.specs.Recorder.{begun, items, after}
 use Rattle.run_text.specs.Text.{Stage, unstarted, at, stageFrom, queues, textOf, stateOf}
 use Rattle.run_recorder.specs.declared.Parted.{Parted}
-use Rattle.run_recorder.specs.Running.{Memory}
-use Rattle.run_recorder.specs.Recording.{Lent, recorderIn, memoryIn, Said, said, taken, refusalIn, Parts, Ends}
+use Rattle.kernel_steps.specs.Steps.{Memory}
+use Rattle.run_stream.specs.Lent.{Said, said}
+use Rattle.run_recorder.specs.Recording.{Lent, recorderIn, memoryIn, taken, refusalIn, Parts, Ends}
 
 -- the memory shows where the run stands; before the start line it may hold anything
 abbrev pub Shows : Stage View → Memory → Type 0

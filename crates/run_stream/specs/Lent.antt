@@ -80,3 +80,11 @@ pub record Takes (b : ℕ) (n h : List ℕ) (t : Completed) (n′ h′ : List �
   pub next : recorderOf n′ h′ ≡ eat (recorderOf n h) b .next
   pub tells : Tells t h′ (eat (recorderOf n h) b .items)
   pub sized : Sized t h′
+
+-- what is said of a part or of the end: a number, which is the digit of a fault, and a place
+pub record Said : Type 0 where
+  pub number : ℕ
+  pub place : ℕ
+
+abbrev pub said : ℕ → ℕ → Said
+said n p = record { number = n; place = p }

@@ -13,7 +13,8 @@ use Rattle.run_tally.specs.Tables.{Flat}
 use Rattle.run_reading.specs.Recorder.{begun}
 use Rattle.run_stream.specs.Lent.{Is}
 use Rattle.run_figures.specs.Figures.{Figures, none, figuresOf}
-use Rattle.run_figures.specs.Counting.{Memory, Lent, lent, Taken}
+use Rattle.kernel_steps.specs.Steps.{Memory}
+use Rattle.run_figures.specs.Counting.{Lent, lent, Taken}
 use Rattle.run_figures.proofs.Division.{any-division}
 use Rattle.run_totals.specs.Adding.{part, ran, ranWith, RecordsOf, over}
 use Rattle.run_totals.proofs.Sums.{month-rows, month-codes}

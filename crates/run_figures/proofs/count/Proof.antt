@@ -5,9 +5,10 @@ use native.Mathlib.Omega.{arith}
 use borrow.Author.Needs.{needs}
 use lib.ListN.{length, take, getD}
 use Rattle.kernel_serving.proofs.Served.{known-first}
-use Rattle.run_stream.specs.Lent.{recorderOf}
+use Rattle.run_stream.specs.Lent.{recorderOf, said}
 use Rattle.run_figures.specs.Figures.{figures}
-use Rattle.run_figures.specs.Counting.{memory, lent, said, firstSaid}
+use Rattle.kernel_steps.specs.Steps.{memory}
+use Rattle.run_figures.specs.Counting.{lent, firstSaid}
 use Rattle.run_figures.proofs.Going.{Reached, reached-none, reached-next, take-next, reached-all}
 use Rattle.run_figures.proofs.count.Statement.{statement}
 use Rattle.run_figures.proofs.count.Tie as tie
