@@ -70,7 +70,7 @@ use memory_columns::wish;
 use memory_columns::word;
 use memory_objects::marks::mark_of;
 ghost use mathlib.Core.Path.{_≡_};
-ghost use mathlib.Core.Bool.{_&&_};
+ghost use mathlib.Core.Bool.{_&&_, _||_};
 ghost use Prim.Native.Nat.{_≤_};
 ghost use Rattle.memory_columns.specs.Layout.{maxMessages, maxAlarms};
 ghost use Rattle.check_ranges.specs.Ranges as Ranges;
@@ -331,6 +331,12 @@ fn both(a: bool, b: bool) -> bool
     if a { b } else { false }
 }
 
+fn either(a: bool, b: bool) -> bool
+    ensures { λ r. ⌜ r ≡ (a || b) ⌝ }
+{
+    if a { true } else { b }
+}
+
 // All are tried, whatever the first ones said: so the compiler can take several at once.
 fn messages_ok(words: &[u32; STATE_WORDS], messages: &[u32; MESSAGE_WORDS], n: u32) -> bool
     requires { ⌜ n ≤ maxMessages ⌝ }
@@ -383,25 +389,17 @@ fn handling_ok(words: &[u32; STATE_WORDS]) -> bool
 fn kept_ok(wakes: bool, kept: u32) -> bool
     ensures { λ r. ⌜ r ≡ Ranges.keptOk wakes kept ⌝ }
 {
-    match kept {
-        KEPT_OK | KEPT_NOEXS => true,
-        KEPT_NODMT => !wakes,
-        KEPT_DMT | KEPT_QOVR => wakes,
-        _ => false,
-    }
+    let of_both = either(kept == KEPT_OK, kept == KEPT_NOEXS);
+    let of_start = both(!wakes, kept == KEPT_NODMT);
+    let of_wake = both(wakes, either(kept == KEPT_DMT, kept == KEPT_QOVR));
+    either(of_both, either(of_start, of_wake))
 }
 
 // One more than the expiry, and the period; of an idle alarm the period says nothing.
 fn setting_ok(size: u32, due: u32, period: u32) -> bool
     ensures { λ r. ⌜ r ≡ Ranges.settingOk size due period ⌝ }
 {
-    if due == 0 {
-        return true;
-    }
-    if size < due {
-        return false;
-    }
-    period <= size
+    either(due == 0, both(due <= size, period <= size))
 }
 
 // Alarm k of a counter of that size.
@@ -409,31 +407,29 @@ fn alarm_ok(words: &[u32; STATE_WORDS], size: u32, k: u32) -> bool
     ensures { λ r. ⌜ r ≡ Ranges.alarmOk (now (words .entry)) size k ⌝ }
 {
     let wakes = alarm_wakes(words, k);
-    if WAKES < wakes {
-        return false;
-    }
-    if !within(alarm_task(words, k), system(words, TASKS)) {
-        return false;
-    }
-    if !kept_ok(wakes == WAKES, alarm_code(words, k)) {
-        return false;
-    }
-    setting_ok(size, alarm_due(words, k), alarm_period(words, k))
+    let known = both(
+        wakes <= WAKES,
+        within(alarm_task(words, k), system(words, TASKS)),
+    );
+    let kept = kept_ok(wakes == WAKES, alarm_code(words, k));
+    let set = setting_ok(size, alarm_due(words, k), alarm_period(words, k));
+    both(known, both(kept, set))
 }
 
+// All are tried, as the messages are. Which code is kept and which alarm is idle changes from event to event: no branch
+// is taken on it.
 fn alarms_ok(words: &[u32; STATE_WORDS], size: u32) -> bool
     ensures { λ r. ⌜ r ≡ every maxAlarms 1 (Ranges.alarmOk (now (words .entry)) size) ⌝ }
 {
+    let mut fine = true;
     let mut k: u32 = 1;
     let mut left = MAX_ALARMS;
     while 0 < left {
-        if !alarm_ok(words, size, k) {
-            return false;
-        }
+        fine = both(fine, alarm_ok(words, size, k));
         k += 1;
         left -= 1;
     }
-    true
+    fine
 }
 
 // The counter and its alarms. Where there is none, nothing of them is looked at.

@@ -1,7 +1,8 @@
--- `check_ranges::alarm_ok` meets its contract. Each refusal is a test that fails. Assumes nothing.
-use mathlib.Core.Bool.{and-false}
-use mathlib.Core.Path.{refl, sym}
-use Rattle.check_ranges.proofs.Steps.{failed, passed, above, upto, within-at, kept-at, setting-at, also}
+-- `check_ranges::alarm_ok` meets its contract. Its tests are the definition's, of the same words. Assumes nothing.
+use mathlib.Core.Bool.{_&&_}
+use mathlib.Core.Path.{_∙_}
+use lib.Dec.{leb}
+use Rattle.check_ranges.proofs.Steps.{within-at, kept-at, setting-at}
 use Rattle.check_ranges.specs.Ranges.{alarmOk}
 use borrow.Author.Needs.{needs}
 use Rattle.check_ranges.proofs.alarm_ok.Statement.{statement}
@@ -9,38 +10,25 @@ use Rattle.check_ranges.proofs.alarm_ok.Tie as tie
 
 returns : tie.Need-returns
 unfolding alarmOk
-returns c = simp (above (c .before .alarm-wakes .ensures) refl (c .if1 .taken))
-
-returns-2 : tie.Need-returns-2
-unfolding alarmOk
-returns-2 c =
-    let s = c .before .before in
-    simp (failed (within-at (s .before .alarm-task .ensures) (s .system .ensures) (c .before .within .ensures)) (c .if2 .taken), and-false)
-
-returns-3 : tie.Need-returns-3
-unfolding alarmOk
-returns-3 c =
-    let k = c .before .before in
-    let w = k .before .before .before .before .before .before in
-    simp (failed (kept-at (w .alarm-wakes .ensures) (k .alarm-code .ensures) (c .before .kept-ok .ensures)) (c .if3 .taken), and-false)
-
-returns-4 : tie.Need-returns-4
-unfolding alarmOk
-returns-4 c =
-    let p = c .before in
-    let i3 = p .before .before in
-    let k = i3 .before .before in
-    let i2 = k .before in
-    let s = i2 .before .before in
-    let i1 = s .before .before in
-    let w = i1 .before in
-    also (sym (also (upto (w .alarm-wakes .ensures) refl (i1 .if1 .left)) (sym (passed (within-at (s .before .alarm-task .ensures) (s .system .ensures) (i2 .before .within .ensures)) (i2 .if2 .left)))))
-    (also (passed (kept-at (w .alarm-wakes .ensures) (k .alarm-code .ensures) (i3 .before .kept-ok .ensures)) (i3 .if3 .left))
-    (setting-at (p .before .alarm-due .ensures) (p .alarm-period .ensures) _ (c .setting-ok .ensures)))
+returns c =
+    let b2 = c .before in
+    let s = b2 .before in
+    let p = s .before in
+    let k = p .before .before in
+    let b1 = k .before .before in
+    let i = b1 .before in
+    let n = i .before in
+    let t = n .before in
+    let w = t .before in
+    let known = b1 .both .ensures ∙ (λ z. leb (w .alarm-wakes .ensures z) 1 && within-at (t .alarm-task .ensures) (n .system .ensures) (i .within .ensures) z) in
+    let kept = kept-at (w .alarm-wakes .ensures) (k .before .alarm-code .ensures) (k .kept-ok .ensures) in
+    let set = setting-at (p .before .alarm-due .ensures) (p .alarm-period .ensures) _ (s .setting-ok .ensures) in
+    c .both3 .ensures ∙ (λ z. known z && (b2 .both2 .ensures ∙ (λ y. kept y && set y)) z)
 
 pub alarm-ok-spec : {M : Type 1} → statement M
 alarm-ok-spec =
     tie.close
-    (tie.spec (λ c κs. search needs) returns (λ c κs. search needs) (λ c κs. search needs)
-    (λ c κs. search needs) returns-2 (λ c κs. search needs) (λ c κs. search needs) returns-3
-    (λ c κs. search needs) (λ c κs. search needs) (λ c κs. search needs) returns-4)
+    (tie.spec (λ c κs. search needs) (λ c κs. search needs) (λ c κs. search needs)
+    (λ c κs. search needs) (λ c κs. search needs) (λ c κs. search needs) (λ c κs. search needs)
+    (λ c κs. search needs) (λ c κs. search needs) (λ c κs. search needs) (λ c κs. search needs)
+    (λ c κs. search needs) returns)
