@@ -2,7 +2,7 @@
 -- Assumes nothing.
 use Prim.Native.Nat.{ℕ, zero, suc, _+_, _-_, _≤_, _<_}
 use mathlib.Core.Path.{_≡_, refl, sym, ap, _∙_, subst}
-use mathlib.Core.Bool.{Bool, true, false, cond, not}
+use mathlib.Core.Bool.{Bool, true, false, cond, not, false≢true}
 use mathlib.Core.Logic.{_≢_, _↔_, _⊎_, inl, inr}
 use mathlib.Core.List.{List, [], _∷_, _++_, reverse, reverse-cons}
 use native.Mathlib.Omega.{arith}
@@ -30,7 +30,7 @@ module _ (f : ℕ → Bool) (nx pv : List ℕ) (a : ℕ) where
   tour-way : (k x : ℕ) → 1 ≤ toured k f nx pv a x → Way f nx pv a x k (toured k f nx pv a x)
   unfolding toured
   tour-way zero x h = absurd (omega arith)
-  tour-way (suc k) x h = go (f y) (eqb (getD pv y 0) x) (eqb y a) (eqb (getD pv a 0) x) refl refl refl refl (tour-way k y) h
+  tour-way (suc k) x h = go (eqb y a) (eqb (getD pv a 0) x) (f y) (eqb (getD pv y 0) x) refl refl refl refl (tour-way k y) h
     where
       y : ℕ
       y = getD nx x 0
@@ -38,9 +38,11 @@ module _ (f : ℕ → Bool) (nx pv : List ℕ) (a : ℕ) where
       r : ℕ
       r = toured k f nx pv a y
 
-      go : (s t u v : Bool) → f y ≡ s → eqb (getD pv y 0) x ≡ t → eqb y a ≡ u → eqb (getD pv a 0) x ≡ v → (1 ≤ r → Way f nx pv a y k r)
-          → 1 ≤ cond s (cond t r 0) (cond u (cond v (suc k) 0) 0) → Way f nx pv a x (suc k) (cond s (cond t r 0) (cond u (cond v (suc k) 0) 0))
-      go true true u v p q i j rec z =
+      go : (u v s t : Bool) → eqb y a ≡ u → eqb (getD pv a 0) x ≡ v → f y ≡ s → eqb (getD pv y 0) x ≡ t → (1 ≤ r → Way f nx pv a y k r)
+          → 1 ≤ cond u (cond v (suc k) 0) (cond s (cond t r 0) 0) → Way f nx pv a x (suc k) (cond u (cond v (suc k) 0) (cond s (cond t r 0) 0))
+      go true true s t i j p q rec z = record { xs = []; own = tt; forth = eqb-true y a i; back = eqb-true (getD pv a 0) x j; left = omega arith }
+      go true false s t i j p q rec z = absurd (omega arith)
+      go false v true true i j p q rec z =
           let w = rec z in
           record {
             xs = y ∷ w .xs;
@@ -49,18 +51,16 @@ module _ (f : ℕ → Bool) (nx pv : List ℕ) (a : ℕ) where
             back = rw reverse-cons (join pv a (reverse (w .xs)) y [] x (w .back) (eqb-true (getD pv y 0) x q));
             left = omega (arith, w .left);
           }
-      go true false u v p q i j rec z = absurd (omega arith)
-      go false t true true p q i j rec z = record { xs = []; own = tt; forth = eqb-true y a i; back = eqb-true (getD pv a 0) x j; left = omega arith }
-      go false t true false p q i j rec z = absurd (omega arith)
-      go false t false v p q i j rec z = absurd (omega arith)
+      go false v true false i j p q rec z = absurd (omega arith)
+      go false v false t i j p q rec z = absurd (omega arith)
 
   way-tour : f a ≡ false → (k x : ℕ) (xs : List ℕ) → All (λ y. f y ≡ true) xs → Seg nx x xs a → Seg pv a (reverse xs) x → length xs < k → toured k f nx pv a x ≡ k - length xs
   unfolding toured
   way-tour fa zero x xs o s t h = absurd (omega arith)
-  way-tour fa (suc k) x [] o s t h = rw (s, fa, eq-eqb a a refl, eq-eqb (getD pv a 0) x t) (omega arith)
+  way-tour fa (suc k) x [] o s t h = rw (s, eq-eqb a a refl, eq-eqb (getD pv a 0) x t) (omega arith)
   way-tour fa (suc k) x (y ∷ ys) o s t h =
       let sp = split pv a (reverse ys) y [] x (rw reverse-cons at t) in
-      rw (s .0, o .0, eq-eqb (getD pv y 0) x (sp .1)) (way-tour fa k y ys (o .1) (s .1) (sp .0) (omega arith) ∙ omega arith)
+      rw (s .0, ne-eqb y a (λ e. false≢true (sym fa ∙ subst (λ (i : ℕ). f i ≡ true) e (o .0))), o .0, eq-eqb (getD pv y 0) x (sp .1)) (way-tour fa k y ys (o .1) (s .1) (sp .0) (omega arith) ∙ omega arith)
 
 -- ---- several rings
 

@@ -1,23 +1,24 @@
--- The check of the queues of one sort: a survey that meets every id that has a home, where as many are linked, decides that the links are rings
+-- The check of the queues of one sort: a survey that meets every id that belongs to a queue, where as many are linked, decides that the links are rings
 -- and that each line holds just those that belong to it. Assumes nothing.
-use mathlib.Core.Bool.{Bool, true, false, cond, not, _&&_, false≢true}
+use mathlib.Core.Bool.{Bool, true, false, cond, not, false≢true}
 use mathlib.Core.List.{List, [], _∷_, _++_}
 use mathlib.Core.Logic.{_⊎_, inl, inr, _≢_, _↔_}
 use mathlib.Core.Option.{Option, none, some}
 use mathlib.Core.Path.{_≡_, refl, sym, ap, _∙_, subst}
-use Prim.Native.Nat.{ℕ, zero, suc, _+_, _-_, _≤_, _<_}
+use Prim.Native.Nat.{ℕ, zero, suc, _+_, _≤_, _<_}
 use native.Mathlib.Omega.{arith}
-use lib.Dec.{eqb, leb}
+use lib.Dec.{eqb}
 use lib.ListN.{length, getD, drop}
 use lib.Seq.{getD-drop}
-use borrow.Author.Tests.{leb-true, eqb-true, eqb-false, eq-eqb, ne-eqb, le-leb}
+use borrow.Author.Tests.{eqb-true, eqb-false, eq-eqb, ne-eqb, le-leb}
 use Rattle.rules.specs.Ids.{of, In, once, times}
 use Rattle.rules.specs.Places.{Place}
 use Rattle.rules.specs.Sound.{Known}
 use Rattle.memory_rings.specs.Links.{half, nexts, prevs}
 use Rattle.memory_rings.specs.Rings.{IsId, All, Out, Stands, Distinct, lineOf, Linked}
-use Rattle.check_links.specs.Survey.{counted, filled, belongs, surveyed, from, ranged, budget}
-use Rattle.memory_rings.proofs.Lists.{and-of, stands-or-out, stands-out, stands-left, stands-right, stands-cases, dist-join, all-of}
+use Rattle.check_links.specs.declared.Table.{Table}
+use Rattle.check_links.specs.Survey.{counted, filled, idsOf, housed, belongs, owns, covers, mostEntries, surveyed, from, ranged, budget}
+use Rattle.memory_rings.proofs.Lists.{stands-or-out, stands-out, stands-left, stands-right, stands-cases, dist-join, all-of}
 use Rattle.memory_rings.proofs.Halves.{next-at}
 use Rattle.memory_rings.proofs.Laws.{once-law, linked-use}
 use Rattle.check_links.proofs.Counts.{counted-same}
@@ -66,14 +67,20 @@ module _ (top : ℕ) where
   rising-distinct c (r ∷ rs) h = dist-join (from (r .0) (r .1)) (anchorsOf rs) (from-distinct (r .0) (r .1)) (rising-distinct (r .0 + r .1) rs (h .2))
       (λ i s. all-of (λ x. x ≢ i) (anchorsOf rs) (λ x t e. omega (arith, from-stands (r .0) (r .1) i .0 s .1, rising-from (r .0 + r .1) rs (h .2) x t)))
 
-module _ (l hs : List ℕ) (s : ℕ) (room : length hs < half l) where
-  ranges-is : (c : ℕ) (rs : List (ℕ × ℕ)) → s ≤ c → Rising (half l) c rs → (k : ℕ) → ranges l hs s rs k ≡ surveyed (λ a. belongs hs (a - s)) (nexts l) (prevs l) (anchorsOf rs) k
+-- of the anchors of each range the table t of entries l tells, as f does, to whose ring an id belongs
+abbrev pub Told : Table → List ℕ → (ℕ → ℕ → Bool) → List (ℕ × ℕ) → Type 0
+Told t l f [] = Unit {0}
+Told t l f (r ∷ rs) = (covers t l (r .0) (r .1) ≡ true) × (owns t l (r .0) ≡ f) × Told t l f rs
+
+module _ (ls : List ℕ) (t : Table) (l : List ℕ) (f : ℕ → ℕ → Bool) (few : length l ≤ mostEntries) (room : idsOf t l < half ls) where
+  ranges-is : (c : ℕ) (rs : List (ℕ × ℕ)) → Rising (half ls) c rs → Told t l f rs → (k : ℕ) → ranges ls t l rs k ≡ surveyed f (nexts ls) (prevs ls) (anchorsOf rs) k
   unfolding ranges surveyed
-  ranges-is c [] sc h k = refl
-  ranges-is c (r ∷ rs) sc h k =
-      ranges-is (r .0 + r .1) rs (omega (arith, h .0)) (h .2) (ranged l hs s (r .0) (r .1) k)
-      ∙ ap (surveyed (λ a. belongs hs (a - s)) (nexts l) (prevs l) (anchorsOf rs)) (ranged-is l hs s (r .0) (r .1) k room (h .1) (omega (arith, h .0)))
-      ∙ sym (survey-append (λ a. belongs hs (a - s)) (nexts l) (prevs l) (from (r .0) (r .1)) (anchorsOf rs) k)
+  ranges-is c [] h T k = refl
+  ranges-is c (r ∷ rs) h T k =
+      ranges-is (r .0 + r .1) rs (h .2) (T .2) (ranged ls t l (r .0) (r .1) k)
+      ∙ ap (surveyed f (nexts ls) (prevs ls) (anchorsOf rs))
+      (ranged-is ls t l (r .0) (r .1) k few room (h .1) (T .0) ∙ ap (λ (g : ℕ → ℕ → Bool). surveyed g (nexts ls) (prevs ls) (from (r .0) (r .1)) k) (T .1))
+      ∙ sym (survey-append f (nexts ls) (prevs ls) (from (r .0) (r .1)) (anchorsOf rs) k)
 
 -- ---- homes
 
@@ -159,29 +166,22 @@ module _ (n : ℕ) (nx pv qs : List ℕ) (Q : Place → Type 0) (B : Place → �
           held s true e = e
           held s false e = absurd (stands-times i (L q) s (g q u .1 i h ∙ ap once e))
 
+-- ---- a table of homes
+
+pub homed-by : (l : List ℕ) (v i x : ℕ) (P : Type 0) → In i (length l) → of l i 0 ≡ x → (x ≡ v) ↔ P → (belongs l v i ≡ true) ↔ P
+unfolding belongs
+homed-by l v i x P h e k = rw (le-leb 1 i (h .0), le-leb i (length l) (h .1), e) ((λ z. k .0 (eqb-true x v z)), λ p. eq-eqb x v (k .1 p))
+
 -- ---- the whole check of a sort
 
--- The homes hs of n ids, s less than the anchors, are told by `home`. The anchors in use have another name, U.
-module _ (n c s : ℕ) (l hs nx pv : List ℕ) (rs : List (ℕ × ℕ)) (long : length hs ≡ n) (small : n < 4294967295) (room : n < half l) (shift : s ≤ c) (ns : nexts l ≡ nx) (ps : prevs l ≡ pv)
-    (same : length pv ≡ length nx) (rise : Rising (half l) c rs) (Q : Place → Type 0) (B : Place → ℕ → Bool) (H : ℕ → Option Place) (K : Homes n (anchorsOf rs) Q B H) (home : ℕ → ℕ)
-    (is : (i : ℕ) → In i n → home i ≡ anchorOf (H i)) (none-as : (i : ℕ) → In i n → eqb (of hs i 0) 0 ≡ eqb (home i) 0)
-    (own-as : (a i : ℕ) → Stands a (anchorsOf rs) → In i n → (of hs i 0 ≡ a - s) ↔ (home i ≡ a))
+-- The table t of entries l tells of n ids by `own` what `home` tells. The anchors in use have another name, U.
+module _ (n c : ℕ) (ls : List ℕ) (t : Table) (l nx pv : List ℕ) (rs : List (ℕ × ℕ)) (own : ℕ → ℕ → Bool) (few : length l ≤ mostEntries) (many : idsOf t l ≡ n) (room : n < half ls)
+    (ns : nexts ls ≡ nx) (ps : prevs ls ≡ pv) (same : length pv ≡ length nx) (rise : Rising (half ls) c rs) (told : Told t l own rs) (Q : Place → Type 0) (B : Place → ℕ → Bool) (H : ℕ → Option Place)
+    (K : Homes n (anchorsOf rs) Q B H) (home : ℕ → ℕ) (is : (i : ℕ) → In i n → home i ≡ anchorOf (H i)) (own-id : (a i : ℕ) → own a i ≡ true → IsId n i)
+    (own-is : (a i : ℕ) → Stands a (anchorsOf rs) → In i n → (own a i ≡ true) ↔ (home i ≡ a)) (housed-is : (i : ℕ) → In i n → housed t l i ≡ not (eqb (home i) 0))
     (U : ℕ → Type 0) (out : (a : ℕ) → U a → (q : Place) × Q q × (anchor q ≡ a)) (into : (q : Place) → Q q → U (anchor q)) where
-  abbrev own : ℕ → ℕ → Bool
-  own a = belongs hs (a - s)
-
   abbrev qs : List ℕ
   qs = anchorsOf rs
-
-  own-id : (a i : ℕ) → own a i ≡ true → IsId n i
-  unfolding belongs
-  own-id a i e =
-      let p = and-of (leb 1 i) (leb i (length hs) && eqb (of hs i 0) (a - s)) e in
-      (leb-true 1 i (p .0), omega (arith, long, leb-true i (length hs) (and-of (leb i (length hs)) (eqb (of hs i 0) (a - s)) (p .1) .0)))
-
-  own-is : (a i : ℕ) → Stands a qs → IsId n i → (own a i ≡ true) ↔ (home i ≡ a)
-  unfolding belongs
-  own-is a i t h = rw (le-leb 1 i (h .0), le-leb i (length hs) (omega (arith, long, h .1))) ((λ e. own-as a i t h .0 (eqb-true (of hs i 0) (a - s) e)), λ e. eq-eqb (of hs i 0) (a - s) (own-as a i t h .1 e))
 
   known : (i : ℕ) → IsId n i → home i ≢ 0 → Stands (home i) qs
   known i h z = go (H i) refl (K .holds i h)
@@ -196,25 +196,25 @@ module _ (n c s : ℕ) (l hs nx pv : List ℕ) (rs : List (ℕ × ℕ)) (long : 
   abbrev homed : ℕ → Bool
   homed i = not (eqb (home i) 0)
 
-  linked-is : filled (length hs) (drop 1 l) ≡ counted n linked
-  linked-is = ap (λ (k : ℕ). filled k (drop 1 l)) long ∙ counted-same n _ _ (λ i h. ap (λ (x : ℕ). not (eqb x 0)) (at i h ∙ ap (λ (m : List ℕ). getD m i 0) ns))
+  linked-is : filled (idsOf t l) (drop 1 ls) ≡ counted n linked
+  linked-is = ap (λ (k : ℕ). filled k (drop 1 ls)) many ∙ counted-same n _ _ (λ i h. ap (λ (x : ℕ). not (eqb x 0)) (at i h ∙ ap (λ (m : List ℕ). getD m i 0) ns))
     where
-      at : (i : ℕ) → IsId n i → of (drop 1 l) i 0 ≡ getD (nexts l) i 0
+      at : (i : ℕ) → IsId n i → of (drop 1 ls) i 0 ≡ getD (nexts ls) i 0
       at zero h = absurd (omega (arith, h .0))
-      at (suc i) h = getD-drop 1 l i 0 ∙ ap (λ (k : ℕ). getD l k 0) (omega arith) ∙ next-at l (suc i) (omega (arith, room, h .1))
+      at (suc i) h = getD-drop 1 ls i 0 ∙ ap (λ (k : ℕ). getD ls k 0) (omega arith) ∙ next-at ls (suc i) (omega (arith, room, h .1))
 
-  homed-is : filled (length hs) hs ≡ counted n homed
-  homed-is = ap (λ (k : ℕ). filled k hs) long ∙ counted-same n _ _ (λ i h. ap not (none-as i h))
+  homed-is : counted (idsOf t l) (housed t l) ≡ counted n homed
+  homed-is = ap (λ (k : ℕ). counted k (housed t l)) many ∙ counted-same n _ _ housed-is
 
   -- the test, step by step
-  test-is : eqb (ranges l hs s rs (budget l hs)) 1 ≡ eqb (surveyed own nx pv qs (cond (eqb (counted n linked) (counted n homed)) (suc (counted n homed)) 0)) 1
+  test-is : eqb (ranges ls t l rs (budget ls t l)) 1 ≡ eqb (surveyed own nx pv qs (cond (eqb (counted n linked) (counted n homed)) (suc (counted n homed)) 0)) 1
   test-is =
       ap (λ (k : ℕ). eqb k 1)
-      (ranges-is l hs s (omega (arith, long, room)) c rs shift rise (budget l hs)
+      (ranges-is ls t l own few (omega (arith, many, room)) c rs rise told (budget ls t l)
       ∙ (λ z. surveyed own (ns z) (ps z) qs (spent z)))
     where
-      spent : budget l hs ≡ cond (eqb (counted n linked) (counted n homed)) (suc (counted n homed)) 0
-      spent = budget-of l hs (omega (arith, long, small)) (omega (arith, long, room)) ∙ (λ z. cond (eqb (linked-is z) (homed-is z)) (suc (homed-is z)) 0)
+      spent : budget ls t l ≡ cond (eqb (counted n linked) (counted n homed)) (suc (counted n homed)) 0
+      spent = budget-of ls t l few (omega (arith, many, room)) ∙ (λ z. cond (eqb (linked-is z) (homed-is z)) (suc (homed-is z)) 0)
 
   counts-law : Decides (eqb (surveyed own nx pv qs (cond (eqb (counted n linked) (counted n homed)) (suc (counted n homed)) 0)) 1)
       ((counted n linked ≡ counted n homed) × (surveyed own nx pv qs (suc (counted n homed)) ≡ 1))
@@ -225,7 +225,7 @@ module _ (n c s : ℕ) (l hs nx pv : List ℕ) (rs : List (ℕ × ℕ)) (long : 
       go true e = ((λ z. (eqb-true (counted n linked) (counted n homed) e, eqb-true (surveyed own nx pv qs (suc (counted n homed))) 1 z)), λ z. eq-eqb (surveyed own nx pv qs (suc (counted n homed))) 1 (z .1))
       go false e = rw (survey-zero own nx pv qs) (decides-no (λ z. eqb-false (counted n linked) (counted n homed) e (z .0)))
 
-  pub queued-law : Decides (eqb (ranges l hs s rs (budget l hs)) 1) (Linked n U nx pv (lineOf n nx) × ((q : Place) → Q q → Keeps n (B q) (lineOf n nx (anchor q))))
+  pub queued-law : Decides (eqb (ranges ls t l rs (budget ls t l)) 1) (Linked n U nx pv (lineOf n nx) × ((q : Place) → Q q → Keeps n (B q) (lineOf n nx (anchor q))))
   queued-law = subst (λ (t : Bool). Decides t (Linked n U nx pv (lineOf n nx) × ((q : Place) → Q q → Keeps n (B q) (lineOf n nx (anchor q))))) (sym test-is) (decides-as counts-law
       (λ h. let w = law .0 h in (linked-use (w .0) U (λ a t. let r = K .from a t in subst U (r .2) (into (r .0) (r .1))) used, lines-kept n nx pv qs Q B H K home is (w .0) (w .1)))
       (λ h. let w = linked-use (h .0) (λ a. Stands a qs) used (λ a t. let r = K .from a t in subst U (r .2) (into (r .0) (r .1))) in law .1 (w, kept-lines n nx pv qs Q B H K home is w (h .1))))

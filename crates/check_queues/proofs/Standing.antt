@@ -1,11 +1,11 @@
 -- The check of the queues of a sort decides that their links are rings and that each line shown holds just those that belong to it, once the
 -- numbers lie in their ranges. Assumes nothing.
-use mathlib.Core.Bool.{Bool, true, false, cond, _||_, false≢true}
+use mathlib.Core.Bool.{Bool, true, false, cond, not, _||_, false≢true}
 use mathlib.Core.List.{List, []}
 use mathlib.Core.Logic.{inl, inr, _↔_}
 use mathlib.Core.Option.{Option, none, some}
 use mathlib.Core.Path.{_≡_, refl, sym, ap, _∙_, subst}
-use Prim.Native.Nat.{ℕ, zero, suc, _-_, _/_, _%_, _^_, _≤_, _<_}
+use Prim.Native.Nat.{ℕ, zero, suc, _+_, _-_, _*_, _/_, _%_, _^_, _≤_, _<_}
 use native.Mathlib.Omega.{arith}
 use lib.Dec.{eqb, leb, lit≤}
 use lib.ListN.{length}
@@ -30,13 +30,17 @@ use Rattle.memory_queues.proofs.Parts.{nexts-links, prevs-links}
 use Rattle.memory_picture.proofs.PoolBits.{pool-at}
 use Rattle.memory_picture.proofs.FormWords.{few-objects}
 use Rattle.memory_picture.proofs.FormHomes.{place-back, ready-home, wait-home, lies-home, block-home, TaskHolds, task-holds}
+use Rattle.check_links.specs.declared.Table.the-variants.{Masks}
+use Rattle.check_links.specs.Survey.{bits, isSet, idsOf, housed, marked, owns, mostEntries}
+use Rattle.check_links.proofs.Steps.{own-id}
 use Rattle.check_ranges.specs.Ranges.{many}
-use Rattle.check_queues.specs.Queues.{waitHome, home, markAnchor, blockHome, homeIn, idsIn, countIn, ownIn, homesIn, shiftOf, rangesOf, queuedIn}
+use Rattle.check_queues.specs.Queues.{waitHome, home, markAnchor, blockHome, homeIn, idsIn, countIn, entryIn, tableIn, tableOf, rangesOf, queuedIn}
 use Rattle.check_ranges.proofs.Decisions.{Decides, decides-as}
 use Rattle.memory_picture.proofs.Cases.{asked, kind-cases, status-cases}
 use Rattle.check_ranges.proofs.Ranges.{manyOf, objects-shown, Ranges}
-use Rattle.check_queues.proofs.Homes.{anchorsOf, InRange, anchor-range, range-anchor, Rising, rising-from, rising-distinct, anchorOf, Belongs, Homes, Keeps}
+use Rattle.check_queues.proofs.Homes.{anchorsOf, InRange, anchor-range, range-anchor, Rising, rising-from, rising-distinct, Told, anchorOf, Belongs, Homes, Keeps, homed-by}
 use Rattle.check_queues.proofs.Homes as Laws
+use Rattle.check_queues.proofs.Masks.{mark-free, free-mark}
 use Rattle.check_queues.proofs.BlockLines.{nodeHas, block-has, lines-numbers, numbers-lines}
 
 -- ---- the home of a task, by its words
@@ -127,16 +131,32 @@ module _ (b msgs : List ℕ) (size : length b ≡ stateWords) (R : Ranges b msgs
   ids-are Messages = refl
   ids-are Blocks = rw (le-leb (poolsShown b) maxPools pools-few)
 
-  count-is : (r : Rings) → countIn b r ≡ idsShown b r
+  -- the entries of a table
+  abbrev entriesShown : Rings → ℕ
+  entriesShown Tasks = tasksShown b
+  entriesShown Messages = messagesShown b
+  entriesShown Blocks = poolsShown b
+
+  count-is : (r : Rings) → countIn b r ≡ entriesShown r
   count-is Tasks = rw (le-leb (tasksShown b) maxTasks tasks-few)
   count-is Messages = rw (le-leb (messagesShown b) maxMessages messages-few)
-  count-is Blocks = ids-are Blocks
+  count-is Blocks = rw (le-leb (poolsShown b) maxPools pools-few)
 
-  homes-many : (r : Rings) → length (homesIn b msgs r) ≡ idsShown b r
-  homes-many r = length-ids (ownIn b msgs r) (countIn b r) ∙ count-is r
+  table-long : (r : Rings) → length (tableIn b msgs r) ≡ entriesShown r
+  table-long r = length-ids (entryIn b msgs r) (countIn b r) ∙ count-is r
 
-  homes-at : (r : Rings) (i : ℕ) → In i (idsShown b r) → of (homesIn b msgs r) i 0 ≡ ownIn b msgs r i
-  homes-at r i h = of-ids (ownIn b msgs r) (countIn b r) i 0 (subst (In i) (sym (count-is r)) h)
+  table-at : (r : Rings) (i : ℕ) → In i (entriesShown r) → of (tableIn b msgs r) i 0 ≡ entryIn b msgs r i
+  table-at r i h = of-ids (entryIn b msgs r) (countIn b r) i 0 (subst (In i) (sym (count-is r)) h)
+
+  table-few : (r : Rings) → length (tableIn b msgs r) ≤ mostEntries
+  table-few Tasks = omega (arith, table-long Tasks, tasks-few)
+  table-few Messages = omega (arith, table-long Messages, messages-few)
+  table-few Blocks = omega (arith, table-long Blocks, pools-few)
+
+  table-ids : (r : Rings) → idsOf (tableOf r) (tableIn b msgs r) ≡ idsShown b r
+  table-ids Tasks = table-long Tasks
+  table-ids Messages = table-long Messages
+  table-ids Blocks = ap (λ (k : ℕ). bits * k) (table-long Blocks)
 
   there : (k : Kind) (o : ℕ) → In o (objects (storeShown b msgs) k) → In o (manyOf b k)
   there k o h = subst (In o) (objects-shown b msgs k) h
@@ -158,20 +178,10 @@ module _ (b msgs : List ℕ) (size : length b ≡ stateWords) (R : Ranges b msgs
   nodes-are Messages = rw (words-length (linksOf Messages) b size refl)
   nodes-are Blocks = rw (words-length (linksOf Blocks) b size refl)
 
-  ids-small : (r : Rings) → idsShown b r ≤ maxMessages
-  ids-small Tasks = omega (arith, tasks-few)
-  ids-small Messages = messages-few
-  ids-small Blocks = omega (arith, pools-few)
-
   ids-nodes : (r : Rings) → idsShown b r < nextOf r .width
   ids-nodes Tasks = omega (arith, tasks-few)
   ids-nodes Messages = omega (arith, messages-few)
   ids-nodes Blocks = omega (arith, pools-few)
-
-  shift-small : (r : Rings) → shiftOf r ≤ first r
-  shift-small Tasks = lit≤ tt
-  shift-small Messages = lit≤ tt
-  shift-small Blocks = lit≤ tt
 
   first-behind : (r : Rings) → idsShown b r < first r
   first-behind Tasks = omega (arith, tasks-few)
@@ -337,19 +347,26 @@ module _ (b msgs : List ℕ) (size : length b ≡ stateWords) (R : Ranges b msgs
   columns-long Messages = words-length (prevOf Messages) b size refl ∙ sym (words-length (nextOf Messages) b size refl)
   columns-long Blocks = words-length (prevOf Blocks) b size refl ∙ sym (words-length (nextOf Blocks) b size refl)
 
-  -- one that has no home has none as the survey is told it, and one that has one has the same
-  none-is : (r : Rings) (i : ℕ) → In i (idsShown b r) → eqb (ownIn b msgs r i) 0 ≡ eqb (homeIn b msgs r i) 0
-  none-is Tasks i h = refl
-  none-is Messages j h = go (eqb (of msgs j 0) 0) refl (subst (LiesWell (many b Layout.mailboxes)) (message-is b msgs j h) (message-well j h))
+  -- ---- what the tables tell
+
+  abbrev ownsIn : Rings → ℕ → ℕ → Bool
+  ownsIn r = owns (tableOf r) (tableIn b msgs r) (first r)
+
+  told : (r : Rings) → Told (tableOf r) (tableIn b msgs r) (ownsIn r) (rangesOf b r)
+  told Tasks = (refl, refl, (refl, refl, (refl, refl, (refl, refl, (refl, refl, tt)))))
+  told Messages = (refl, refl, tt)
+  told Blocks = (le-leb (poolsShown b) (length (tableIn b msgs Blocks)) (omega (arith, table-long Blocks)), refl, tt)
+
+  -- a message has no mailbox where it has no home, and the same where it has one
+  mail-none : (j : ℕ) → In j (messagesShown b) → eqb (of msgs j 0) 0 ≡ eqb (markAnchor (of msgs j 0)) 0
+  mail-none j h = go (eqb (of msgs j 0) 0) refl (subst (LiesWell (many b Layout.mailboxes)) (message-is b msgs j h) (message-well j h))
     where
       go : (t : Bool) → eqb (of msgs j 0) 0 ≡ t → LiesWell (many b Layout.mailboxes) (cond t none (some (of msgs j 0))) → t ≡ eqb (cond t 0 (mailAnchor (of msgs j 0))) 0
       go true e k = refl
       go false e k = rw (le-leb (of msgs j 0) maxObjects (omega (arith, k .1, objects-few mailbox))) (sym (ne-eqb (mailNode (of msgs j 0)) 0 (λ z. omega (arith, z))))
-  none-is Blocks x h = refl
 
-  own-is : (r : Rings) (a i : ℕ) → Stands a (anchorsOf (rangesOf b r)) → In i (idsShown b r) → (ownIn b msgs r i ≡ a - shiftOf r) ↔ (homeIn b msgs r i ≡ a)
-  own-is Tasks a i s h = ((λ e. omega (arith, e)), λ e. omega (arith, e))
-  own-is Messages a j s h = go (eqb (of msgs j 0) 0) refl (anchor-range a (rangesOf b Messages) s)
+  mail-own : (a j : ℕ) → InRange a (rangesOf b Messages) → (of msgs j 0 ≡ a - mailNode 0) ↔ (markAnchor (of msgs j 0) ≡ a)
+  mail-own a j s = go (eqb (of msgs j 0) 0) refl s
     where
       go : (t : Bool) → eqb (of msgs j 0) 0 ≡ t → InRange a (rangesOf b Messages) → (of msgs j 0 ≡ a - mailNode 0) ↔ (cond t 0 (mailAnchor (of msgs j 0)) ≡ a)
       go true e (inl k) = ((λ z. absurd (omega (arith, z, eqb-true (of msgs j 0) 0 e, k .0))), λ z. absurd (omega (arith, z, k .0)))
@@ -362,16 +379,56 @@ module _ (b msgs : List ℕ) (size : length b ≡ stateWords) (R : Ranges b msgs
           back true z = omega (arith, z)
           back false z = absurd (omega (arith, z, k .0))
       go t e (inr k) = absurd k
-  own-is Blocks a x s h = ((λ e. omega (arith, e)), λ e. omega (arith, e))
+
+  -- a block is free by its pool's mask
+  block-none : (x : ℕ) → In x (idsShown b Blocks) → housed Masks (tableIn b msgs Blocks) x ≡ not (eqb (blockHome b x) 0)
+  unfolding blockHome
+  block-none zero h = absurd (omega (arith, h .0))
+  block-none (suc x) h =
+      let q : suc (x / maxBlocks) ≤ poolsShown b = omega (arith, h .1) in
+      rw (table-at Blocks (suc (x / maxBlocks)) (omega arith, q), ne-eqb (suc x) 0 (λ e. omega arith), le-leb (suc (x / maxBlocks)) maxPools (omega (arith, q, pools-few)))
+      (go (isSet (entry Layout.free b (suc (x / maxBlocks))) (x % maxBlocks)))
+    where
+      go : (t : Bool) → t ≡ not (eqb (cond t (freeNode (suc (x / maxBlocks))) 0) 0)
+      go true = sym (ap not (ne-eqb (freeNode (suc (x / maxBlocks))) 0 (λ e. omega (arith, e))))
+      go false = refl
+
+  block-own : (a x : ℕ) → InRange a (rangesOf b Blocks) → In x (idsShown b Blocks) → (ownsIn Blocks a x ≡ true) ↔ (blockHome b x ≡ a)
+  unfolding blockHome
+  block-own a zero s h = absurd (omega (arith, h .0))
+  block-own a (suc x) (inr s) h = absurd s
+  block-own a (suc x) (inl s) h =
+      let q : suc (x / maxBlocks) ≤ poolsShown b = omega (arith, h .1) in
+      let p : In (suc (a - freeNode 1)) (poolsShown b) = (omega arith, omega (arith, s .0, s .1)) in
+      rw (table-at Blocks (suc (a - freeNode 1)) p, ne-eqb (suc x) 0 (λ e. omega arith), le-leb (suc (x / maxBlocks)) maxPools (omega (arith, q, pools-few)))
+      (to, back (isSet (entry Layout.free b (suc (x / maxBlocks))) (x % maxBlocks)) refl)
+    where
+      to : marked (entry Layout.free b (suc (a - freeNode 1))) (bits * (a - freeNode 1) + 1) (suc x) ≡ true
+          → cond (isSet (entry Layout.free b (suc (x / maxBlocks))) (x % maxBlocks)) (freeNode (suc (x / maxBlocks))) 0 ≡ a
+      to e = let m = mark-free (entry Layout.free b) (a - freeNode 1) x e in rw (m .1) (omega (arith, m .0, s .0))
+
+      back : (t : Bool) → isSet (entry Layout.free b (suc (x / maxBlocks))) (x % maxBlocks) ≡ t → cond t (freeNode (suc (x / maxBlocks))) 0 ≡ a
+          → marked (entry Layout.free b (suc (a - freeNode 1))) (bits * (a - freeNode 1) + 1) (suc x) ≡ true
+      back true e z = free-mark (entry Layout.free b) (a - freeNode 1) x (omega (arith, z)) e
+      back false e z = absurd (omega (arith, z, s .0))
+
+  housed-is : (r : Rings) (i : ℕ) → In i (idsShown b r) → housed (tableOf r) (tableIn b msgs r) i ≡ not (eqb (homeIn b msgs r i) 0)
+  housed-is Tasks i h = ap (λ (x : ℕ). not (eqb x 0)) (table-at Tasks i h)
+  housed-is Messages j h = ap (λ (x : ℕ). not (eqb x 0)) (table-at Messages j h) ∙ ap not (mail-none j h)
+  housed-is Blocks x h = block-none x h
+
+  own-is : (r : Rings) (a i : ℕ) → Stands a (anchorsOf (rangesOf b r)) → In i (idsShown b r) → (ownsIn r a i ≡ true) ↔ (homeIn b msgs r i ≡ a)
+  own-is Tasks a i s h = homed-by (tableIn b msgs Tasks) (a - 0) i (home b i) (home b i ≡ a) (subst (In i) (sym (table-long Tasks)) h) (table-at Tasks i h) ((λ e. omega (arith, e)), λ e. omega (arith, e))
+  own-is Messages a j s h = homed-by (tableIn b msgs Messages) (a - mailNode 0) j (of msgs j 0) (markAnchor (of msgs j 0) ≡ a) (subst (In j) (sym (table-long Messages)) h) (table-at Messages j h) (mail-own a j (anchor-range a (rangesOf b Messages) s))
+  own-is Blocks a x s h = block-own a x (anchor-range a (rangesOf b Blocks) s) h
 
   nodes-law : (r : Rings) → Decides (queuedIn b msgs r) (WholeRings b msgs r × NodesKept r)
   unfolding queuedIn
-  nodes-law r = Laws.queued-law (idsShown b r) (first r) (shiftOf r) (words (linksOf r) b) (homesIn b msgs r) (words (nextOf r) b) (words (prevOf r) b) (rangesOf b r)
-      (homes-many r) (omega (arith, ids-small r)) (rw (nodes-are r) (ids-nodes r)) (shift-small r) (nexts-links b size r) (prevs-links b size r) (columns-long r)
-      (subst (λ (top : ℕ). Rising top (first r) (rangesOf b r)) (sym (nodes-are r)) (rising r))
+  nodes-law r = Laws.queued-law (idsShown b r) (first r) (words (linksOf r) b) (tableOf r) (tableIn b msgs r) (words (nextOf r) b) (words (prevOf r) b) (rangesOf b r) (ownsIn r)
+      (table-few r) (table-ids r) (rw (nodes-are r) (ids-nodes r)) (nexts-links b size r) (prevs-links b size r) (columns-long r)
+      (subst (λ (top : ℕ). Rising top (first r) (rangesOf b r)) (sym (nodes-are r)) (rising r)) (told r)
       (InRings (storeShown b msgs) r) (belongsAt (bodyShown b msgs)) (homeOf (bodyShown b msgs) r) (homes r) (homeIn b msgs r) (home-is r)
-      (λ i h. ap (λ (x : ℕ). eqb x 0) (homes-at r i h) ∙ none-is r i h)
-      (λ a i s h. let k = own-is r a i s h in ((λ e. k .0 (sym (homes-at r i h) ∙ e)), λ e. homes-at r i h ∙ k .1 e))
+      (λ a i e. subst (λ (n : ℕ). In i n) (table-ids r) (own-id (tableOf r) (tableIn b msgs r) (first r) a i e)) (own-is r) (housed-is r)
       (Used (storeShown b msgs) r) (λ a u. (u .place, (u .there, u .among), u .here)) (λ q u. record { place = q; there = u .0; among = u .1; here = refl })
 
   -- ---- the lines shown

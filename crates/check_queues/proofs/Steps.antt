@@ -1,11 +1,11 @@
--- The homes laid one after the other, and the steps of the survey. Assumes nothing.
-use Prim.Native.Nat.{ℕ, suc, _+_, _-_, _*_, _/_, _%_, _^_, _≤_, _<_}
-use native.Mathlib.Decide.{ℕ-discrete, decLe}
+-- The tables laid one entry after the other, and the steps of the survey. Assumes nothing.
+use Prim.Native.Nat.{ℕ, suc, _+_, _-_, _/_, _%_, _^_, _≤_, _<_}
+use native.Mathlib.Decide.{ℕ-discrete}
 use native.Mathlib.Numerals.{add-one, sub-one}
 use native.Mathlib.Omega.{arith}
 use mathlib.Core.List.{List, [], _∷_, map}
 use mathlib.Core.Logic.{_≢_}
-use mathlib.Core.Path.{_≡_, refl, sym, ap, _∙_}
+use mathlib.Core.Path.{_≡_, sym, ap, _∙_}
 use lib.Dec.{eqb}
 use lib.ListN.{length, getD, set, take}
 use lib.Seq.{length-take-le, getD-take, getD-set-same, getD-set-other, ext-getD}
@@ -15,8 +15,9 @@ use Rattle.rules.proofs.Ids.{of-ids, length-ids}
 use Rattle.memory_columns.specs.Layout as Layout
 use Rattle.memory_columns.specs.Layout.{maxBlocks, entry}
 use Rattle.memory_queues.specs.Moves.{freeAnchor}
+use Rattle.check_links.specs.declared.Table.{Table}
 use Rattle.check_links.specs.Survey.{ranged, budget}
-use Rattle.check_queues.specs.Queues.{blockFree, blockHome, Laid, bitHome, PoolLaid, ranges}
+use Rattle.check_queues.specs.Queues.{blockFree, blockHome, Laid, ranges}
 
 -- ---- the home of a block, as the code tests it
 
@@ -38,7 +39,7 @@ module _ (b : List ℕ) (x : ℕ) where
     unfolding blockHome
     block-out h = rw (ne-eqb x 0 ne, ← test, ne-eqb ((m / 2 ^ ((x - 1) % maxBlocks)) % 2) 1 h)
 
--- ---- homes, one after the other
+-- ---- tables, one entry after the other
 
 pub laid-none : (f : ℕ → ℕ) (l : List ℕ) → Laid f 0 l
 laid-none f l = record { home = λ j h. absurd (omega arith) }
@@ -62,58 +63,23 @@ laid-is f n l k h =
     let d : i < n = omega (arith, e) in
     getD-take n l i 0 d ∙ h .home i d ∙ sym (of-ids f n (suc i) 0 (omega arith, d)))
 
--- ---- the homes of a pool's blocks
-
--- the first k are laid
-pub record PartLaid (mask a p k : ℕ) (l l′ : List ℕ) : Type 0 where
-  pub new : (i : ℕ) → i < k → getD l′ (p + i) 0 ≡ bitHome mask a i
-  pub old : (j : ℕ) → j < p → getD l′ j 0 ≡ getD l j 0
-
-module _ (mask a p : ℕ) (l : List ℕ) where
-  pub part-none : PartLaid mask a p 0 l l
-  part-none = record { new = λ i h. absurd (omega arith); old = λ j h. refl }
-
-  pub part-on : (k : ℕ) (l′ : List ℕ) {v : ℕ} → PartLaid mask a p k l l′ → p + k < length l′ → v ≡ bitHome mask a k → PartLaid mask a p (k + 1) l (set l′ (p + k) v)
-  part-on k l′ {v} h b e = record {
-    new = λ i q. elim (ℕ-discrete i k) [
-      | yes z ↦ rw z (getD-set-same l′ (p + k) v 0 b ∙ e)
-      | no ne ↦ getD-set-other l′ (p + k) (p + i) v 0 (λ z. ne (omega arith)) ∙ h .new i (omega arith)
-    ];
-    old = λ j q. getD-set-other l′ (p + k) j v 0 (λ z. omega arith) ∙ h .old j q;
-  }
-
-  pub part-all : (k : ℕ) (l′ : List ℕ) → maxBlocks ≤ k → PartLaid mask a p k l l′ → PoolLaid mask a p l l′
-  part-all k l′ b h = record { new = λ i q. h .new i (omega arith); old = h .old }
-
--- one pool more
-pub pool-on : (b : List ℕ) (p : ℕ) (l l′ : List ℕ) {mask a : ℕ} → Laid (blockHome b) (maxBlocks * p) l → mask ≡ entry Layout.free b (p + 1) → a ≡ freeAnchor (p + 1)
-    → PoolLaid mask a (maxBlocks * p) l l′ → Laid (blockHome b) (maxBlocks * (p + 1)) l′
-unfolding blockHome
-pool-on b p l l′ {mask} {a} h em ea P = record {
-  home = λ j q. elim (decLe (maxBlocks * p) j) [
-    | yes c ↦
-        let e : j ≡ maxBlocks * p + (j - maxBlocks * p) = omega arith in
-        let d : j / maxBlocks ≡ p = omega (arith, q) in
-        let m : j % maxBlocks ≡ j - maxBlocks * p = omega (arith, q) in
-        ap (λ (i : ℕ). getD l′ i 0) e ∙ P .new (j - maxBlocks * p) (omega (arith, q)) ∙ rw (em, ea, ne-eqb (suc j) 0 (λ z. omega arith), d, m, add-one)
-    | no c ↦ P .old j (omega arith) ∙ h .home j (omega arith)
-  ];
-}
-
 -- ---- surveys
 
-pub ranged-at : (hs : List ℕ) (a k : ℕ) {l l′ : List ℕ} {s s′ n n′ t : ℕ} → l ≡ l′ → s ≡ s′ → n ≡ n′ → t ≡ ranged l hs s a n k → t ≡ ranged l′ hs s′ a n′ k
-ranged-at hs a k d f e h = h ∙ (λ z. ranged (d z) hs (f z) a (e z) k)
+pub ranged-at : (l : List ℕ) (a k : ℕ) {ls ls′ : List ℕ} {u u′ : Table} {n n′ t : ℕ} → ls ≡ ls′ → u ≡ u′ → n ≡ n′ → t ≡ ranged ls u l a n k → t ≡ ranged ls′ u′ l a n′ k
+ranged-at l a k d f e h = h ∙ (λ z. ranged (d z) (f z) l a (e z) k)
 
-module _ (l hs : List ℕ) (s a n k : ℕ) {t : ℕ} (e : t ≡ ranged l hs s a n k) where
-  pub ranges-on : (rs : List (ℕ × ℕ)) {u : ℕ} → u ≡ ranges l hs s rs t → u ≡ ranges l hs s ((a, n) ∷ rs) k
+pub budget-at : (l : List ℕ) {ls ls′ : List ℕ} {u u′ : Table} {t : ℕ} → ls ≡ ls′ → u ≡ u′ → t ≡ budget ls u l → t ≡ budget ls′ u′ l
+budget-at l d f h = h ∙ (λ z. budget (d z) (f z) l)
+
+module _ (ls : List ℕ) (u : Table) (l : List ℕ) (a n k : ℕ) {t : ℕ} (e : t ≡ ranged ls u l a n k) where
+  pub ranges-on : (rs : List (ℕ × ℕ)) {v : ℕ} → v ≡ ranges ls u l rs t → v ≡ ranges ls u l ((a, n) ∷ rs) k
   unfolding ranges
-  ranges-on rs h = h ∙ ap (ranges l hs s rs) e
+  ranges-on rs h = h ∙ ap (ranges ls u l rs) e
 
-  pub ranges-last : t ≡ ranges l hs s ((a, n) ∷ []) k
+  pub ranges-last : t ≡ ranges ls u l ((a, n) ∷ []) k
   unfolding ranges
   ranges-last = e
 
 -- the survey g from the budget of all
-pub settled-by : (hs : List ℕ) (g : ℕ → ℕ) {l l′ : List ℕ} {t k : ℕ} → t ≡ g k → k ≡ budget l hs → l ≡ l′ → eqb t 1 ≡ eqb (g (budget l′ hs)) 1
-settled-by hs g e f d = ap (λ (x : ℕ). eqb x 1) (e ∙ ap g (f ∙ ap (λ (l : List ℕ). budget l hs) d))
+pub settled-by : (g : ℕ → ℕ) {t k b : ℕ} → t ≡ g k → k ≡ b → eqb t 1 ≡ eqb (g b) 1
+settled-by g e f = ap (λ (x : ℕ). eqb x 1) (e ∙ ap g f)

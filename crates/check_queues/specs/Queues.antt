@@ -2,10 +2,12 @@
 use mathlib.Core.Bool.{Bool, cond, _||_}
 use mathlib.Core.List.{List, [], _∷_, map}
 use mathlib.Core.Path.{_≡_}
-use Prim.Native.Nat.{ℕ, suc, pred, _+_, _*_, _/_, _%_, _^_, _<_}
+use Prim.Native.Nat.{ℕ, suc, pred, _*_, _/_, _%_, _^_, _<_}
 use lib.Dec.{eqb, leb}
 use lib.ListN.{getD}
 use Rattle.rules.specs.Ids.{of, ids}
+use Rattle.check_links.specs.declared.Table.{Table}
+use Rattle.check_links.specs.declared.Table.the-variants.{Homes, Masks}
 use Rattle.check_links.specs.Survey.{ranged, budget}
 use Rattle.memory_columns.specs.declared.Rings.{Rings}
 use Rattle.memory_columns.specs.declared.Rings.the-variants.{Tasks, Messages, Blocks}
@@ -48,48 +50,39 @@ idsIn b Tasks = many b Layout.tasks
 idsIn b Messages = many b Layout.messages
 idsIn b Blocks = maxBlocks * atMost (many b Layout.pools) maxPools
 
--- those whose homes are known; a count out of range gives none
+-- how many entries their table has; a count out of range gives none
 abbrev pub countIn : List ℕ → Rings → ℕ
 countIn b Tasks = atMost (idsIn b Tasks) maxTasks
 countIn b Messages = atMost (idsIn b Messages) maxMessages
-countIn b Blocks = idsIn b Blocks
+countIn b Blocks = atMost (many b Layout.pools) maxPools
 
--- the home as the survey is told it: of a message it is the number of its mailbox
-abbrev pub ownIn : List ℕ → List ℕ → Rings → ℕ → ℕ
-ownIn b msgs Tasks i = home b i
-ownIn b msgs Messages j = of msgs j 0
-ownIn b msgs Blocks x = blockHome b x
+-- the entries: the home of a task, the mailbox of a message, the mask of a pool
+abbrev pub entryIn : List ℕ → List ℕ → Rings → ℕ → ℕ
+entryIn b msgs Tasks i = home b i
+entryIn b msgs Messages j = of msgs j 0
+entryIn b msgs Blocks p = entry Layout.free b p
 
-abbrev pub homesIn : List ℕ → List ℕ → Rings → List ℕ
-homesIn b msgs r = map (ownIn b msgs r) (ids (countIn b r))
+abbrev pub tableIn : List ℕ → List ℕ → Rings → List ℕ
+tableIn b msgs r = map (entryIn b msgs r) (ids (countIn b r))
 
--- l has the homes of the ids 1 to n
+-- l has the entries 1 to n
 pub record Laid (f : ℕ → ℕ) (n : ℕ) (l : List ℕ) : Type 0 where
   pub home : (j : ℕ) → j < n → getD l j 0 ≡ f (suc j)
 
--- of the block of a bit of a pool's mask
-abbrev pub bitHome : ℕ → ℕ → ℕ → ℕ
-bitHome mask a k = cond (eqb ((mask / 2 ^ k) % 2) 1) a 0
-
--- l′ is l with the homes of the blocks of one pool, from p on
-pub record PoolLaid (mask a p : ℕ) (l l′ : List ℕ) : Type 0 where
-  pub new : (k : ℕ) → k < maxBlocks → getD l′ (p + k) 0 ≡ bitHome mask a k
-  pub old : (j : ℕ) → j < p → getD l′ j 0 ≡ getD l j 0
-
--- by how much the anchor is larger
-abbrev pub shiftOf : Rings → ℕ
-shiftOf Tasks = 0
-shiftOf Messages = mailNode 0
-shiftOf Blocks = 0
+-- what the table has; a mailbox's anchor is so much larger than its number
+abbrev pub tableOf : Rings → Table
+tableOf Tasks = Homes 0
+tableOf Messages = Homes (mailNode 0)
+tableOf Blocks = Masks
 
 -- the rings of anchors from a on, as many as the count k says
 abbrev pub rangeIn : List ℕ → Rings → List ℕ → ℕ → ℕ → ℕ → ℕ
-rangeIn b r hs a k n = ranged (words (linksOf r) b) hs (shiftOf r) a (many b k) n
+rangeIn b r l a k n = ranged (words (linksOf r) b) (tableOf r) l a (many b k) n
 
 -- the ranges of anchors (the first, and how many) surveyed one after the other: what they leave of a budget
-unfoldable pub ranges : List ℕ → List ℕ → ℕ → List (ℕ × ℕ) → ℕ → ℕ
-ranges l hs s [] k = k
-ranges l hs s (r ∷ rs) k = ranges l hs s rs (ranged l hs s (r .0) (r .1) k)
+unfoldable pub ranges : List ℕ → Table → List ℕ → List (ℕ × ℕ) → ℕ → ℕ
+ranges ls t l [] k = k
+ranges ls t l (r ∷ rs) k = ranges ls t l rs (ranged ls t l (r .0) (r .1) k)
 
 -- ready queues, and wait queues by kind; mailboxes; pools
 abbrev pub rangesOf : List ℕ → Rings → List (ℕ × ℕ)
@@ -100,11 +93,14 @@ rangesOf b Messages = (mailNode 1, many b Layout.mailboxes) ∷ []
 rangesOf b Blocks = (freeNode 1, many b Layout.pools) ∷ []
 
 abbrev pub rangesIn : List ℕ → Rings → List ℕ → ℕ → ℕ
-rangesIn b r hs k = ranges (words (linksOf r) b) hs (shiftOf r) (rangesOf b r) k
+rangesIn b r l k = ranges (words (linksOf r) b) (tableOf r) l (rangesOf b r) k
 
--- the survey meets every id that has a home, and as many are linked
+abbrev pub budgetIn : List ℕ → Rings → List ℕ → ℕ
+budgetIn b r l = budget (words (linksOf r) b) (tableOf r) l
+
+-- the survey meets every id that belongs to a queue, and as many are linked
 abbrev pub settled : List ℕ → Rings → List ℕ → Bool
-settled b r hs = eqb (rangesIn b r hs (budget (words (linksOf r) b) hs)) 1
+settled b r l = eqb (rangesIn b r l (budgetIn b r l)) 1
 
 unfoldable pub queuedIn : List ℕ → List ℕ → Rings → Bool
-queuedIn b msgs r = settled b r (homesIn b msgs r)
+queuedIn b msgs r = settled b r (tableIn b msgs r)

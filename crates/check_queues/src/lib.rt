@@ -1,6 +1,7 @@
 // The second part of the check of a memory: each task, message and free block stands where it belongs, once, and
-// nowhere else. Each ring is walked once. One set of functions serves the rings of every sort, told the home of each
-// id.
+// nowhere else. Each ring is walked once. One set of functions serves the rings of every sort, told to whose ring each
+// id belongs: by a table of homes, or by the masks of the pools.
+use check_links::Table;
 use check_links::budget;
 use memory_columns::FIRST_FLAG;
 use memory_columns::FIRST_FREE;
@@ -40,16 +41,17 @@ use memory_queues::ready_anchor;
 use memory_queues::wait_anchor;
 ghost use mathlib.Core.Path.{_≡_};
 ghost use mathlib.Core.List.{[]};
-ghost use Prim.Native.Nat.{_+_, _*_, _≤_, _<_};
+ghost use Prim.Native.Nat.{_≤_};
 ghost use lib.ListN.{length};
 ghost use Rattle.memory_columns.specs.declared.Rings.the-variants.{Tasks, Messages, Blocks};
-ghost use Rattle.memory_columns.specs.Layout.{maxPools, maxBlocks};
+ghost use Rattle.memory_columns.specs.Layout as Layout;
+ghost use Rattle.memory_columns.specs.Layout.{entry};
 ghost use Rattle.check_queues.specs.Queues as Queues;
 
-// The most tasks, and the most blocks of all pools.
+// The most tasks, and the most pools.
 const TASK_HOMES: usize = 32;
 
-const BLOCK_HOMES: usize = 256;
+const POOL_MASKS: usize = 8;
 
 // ---- homes: the anchor of the queue to which one belongs, 0 if to none
 
@@ -108,8 +110,9 @@ pub fn ids_in(words: &[u32; STATE_WORDS], rings: Rings) -> u32
     }
 }
 
-// ---- the home of each id, one after the other
+// ---- tables, one entry after the other
 
+// The home of each task.
 fn task_homes(words: &[u32; STATE_WORDS], n: u32, homes: &mut [u32])
     requires { ⌜ n ≤ length (now homes) ⌝ }
     ensures { λ _. ⌜ Queues.Laid (Queues.home (now (words .entry))) n (now (homes .exit)) ⌝ }
@@ -121,48 +124,28 @@ fn task_homes(words: &[u32; STATE_WORDS], n: u32, homes: &mut [u32])
     }
 }
 
-// Of the block of a bit.
-fn bit_home(mask: u32, bit: u32, anchor: u32) -> u32
-    requires { ⌜ bit < maxBlocks ⌝ }
-    ensures { λ r. ⌜ r ≡ Queues.bitHome mask anchor bit ⌝ }
+// The mask of each pool: the nodes of its free blocks.
+fn pool_masks(words: &[u32; STATE_WORDS], n: u32, masks: &mut [u32])
+    requires { ⌜ n ≤ length (now masks) ⌝ }
+    ensures { λ _. ⌜ Queues.Laid (entry Layout.free (now (words .entry))) n (now (masks .exit)) ⌝ }
 {
-    if (mask >> bit) % 2 == 1 { anchor } else { 0 }
-}
-
-// Of the blocks of one pool, by its mask, from `at` on.
-fn pool_homes(mask: u32, anchor: u32, at: usize, homes: &mut [u32])
-    requires { ⌜ at + maxBlocks ≤ length (now homes) ⌝ }
-    ensures { λ _. ⌜ Queues.PoolLaid mask anchor at (now (homes .entry)) (now (homes .exit)) ⌝ }
-{
-    let mut k: u32 = 0;
-    while k < MAX_BLOCKS {
-        homes[at + k as usize] = bit_home(mask, k, anchor);
-        k += 1;
-    }
-}
-
-fn block_homes(words: &[u32; STATE_WORDS], pools: u32, homes: &mut [u32])
-    requires { ⌜ (pools ≤ maxPools) × (maxBlocks * pools ≤ length (now homes)) ⌝ }
-    ensures { λ _. ⌜ Queues.Laid (Queues.blockHome (now (words .entry))) (maxBlocks * pools) (now (homes .exit)) ⌝ }
-{
-    let mut p: u32 = 0;
-    while p < pools {
-        let at = (MAX_BLOCKS * p) as usize;
-        p += 1;
-        pool_homes(free(words, p), free_anchor(p), at, homes);
+    let mut i: u32 = 0;
+    while i < n {
+        masks[i as usize] = free(words, i + 1);
+        i += 1;
     }
 }
 
 // ---- surveys; what is left of a budget
 
-// By how much the anchor is larger than the home.
-fn shift_of(rings: Rings) -> u32
-    ensures { λ r. ⌜ r ≡ Queues.shiftOf rings ⌝ }
+// What the table of a sort has. The home of a message is its mailbox, of which the anchor is so much larger.
+fn table_of(rings: Rings) -> Table
+    ensures { λ r. ⌜ r ≡ Queues.tableOf rings ⌝ }
 {
     match rings {
-        Rings::Tasks => 0,
-        Rings::Messages => FIRST_MAIL - 1,
-        Rings::Blocks => 0,
+        Rings::Tasks => Table::Homes(0),
+        Rings::Messages => Table::Homes(FIRST_MAIL - 1),
+        Rings::Blocks => Table::Masks,
     }
 }
 
@@ -170,17 +153,17 @@ fn shift_of(rings: Rings) -> u32
 fn survey_queues(
     words: &[u32; STATE_WORDS],
     rings: Rings,
-    homes: &[u32],
+    table: &[u32],
     anchor: u32,
     k: u32,
     budget: u32,
 ) -> u32
-    ensures { λ r. ⌜ r ≡ Queues.rangeIn (now (words .entry)) rings (now (homes .entry)) anchor k budget ⌝ }
+    ensures { λ r. ⌜ r ≡ Queues.rangeIn (now (words .entry)) rings (now (table .entry)) anchor k budget ⌝ }
 {
     check_links::survey(
         links(words, rings),
-        homes,
-        shift_of(rings),
+        table,
+        table_of(rings),
         anchor,
         system(words, k),
         budget,
@@ -207,26 +190,33 @@ fn survey_tasks(words: &[u32; STATE_WORDS], homes: &[u32], budget: u32) -> u32
 
 // ---- the sorts
 
-// Whether as many are linked as have one of these homes, and all of those stand at home.
+// The budget of all that belong to a queue.
+fn budget_of(words: &[u32; STATE_WORDS], rings: Rings, table: &[u32]) -> u32
+    ensures { λ r. ⌜ r ≡ Queues.budgetIn (now (words .entry)) rings (now (table .entry)) ⌝ }
+{
+    budget(links(words, rings), table, table_of(rings))
+}
+
+// Whether as many are linked as belong to a queue, and all of those stand there.
 fn tasks_settled(words: &[u32; STATE_WORDS], homes: &[u32]) -> bool
     ensures { λ r. ⌜ r ≡ Queues.settled (now (words .entry)) Tasks (now (homes .entry)) ⌝ }
 {
-    let all = budget(links(words, Rings::Tasks), homes);
+    let all = budget_of(words, Rings::Tasks, homes);
     survey_tasks(words, homes, all) == 1
 }
 
 fn mail_settled(words: &[u32; STATE_WORDS], homes: &[u32]) -> bool
     ensures { λ r. ⌜ r ≡ Queues.settled (now (words .entry)) Messages (now (homes .entry)) ⌝ }
 {
-    let all = budget(links(words, Rings::Messages), homes);
+    let all = budget_of(words, Rings::Messages, homes);
     survey_queues(words, Rings::Messages, homes, FIRST_MAIL, MAILBOXES, all) == 1
 }
 
-fn blocks_settled(words: &[u32; STATE_WORDS], homes: &[u32]) -> bool
-    ensures { λ r. ⌜ r ≡ Queues.settled (now (words .entry)) Blocks (now (homes .entry)) ⌝ }
+fn blocks_settled(words: &[u32; STATE_WORDS], masks: &[u32]) -> bool
+    ensures { λ r. ⌜ r ≡ Queues.settled (now (words .entry)) Blocks (now (masks .entry)) ⌝ }
 {
-    let all = budget(links(words, Rings::Blocks), homes);
-    survey_queues(words, Rings::Blocks, homes, FIRST_FREE, POOLS, all) == 1
+    let all = budget_of(words, Rings::Blocks, masks);
+    survey_queues(words, Rings::Blocks, masks, FIRST_FREE, POOLS, all) == 1
 }
 
 fn tasks_queued(words: &[u32; STATE_WORDS]) -> bool
@@ -250,11 +240,11 @@ fn mail_queued(words: &[u32; STATE_WORDS], messages: &[u32; MESSAGE_WORDS]) -> b
 fn blocks_queued(words: &[u32; STATE_WORDS]) -> bool
     ensures { λ r. ⌜ r ≡ Queues.queuedIn (now (words .entry)) [] Blocks ⌝ }
 {
-    let mut homes = [0u32; BLOCK_HOMES];
-    let pools = at_most(system(words, POOLS), MAX_POOLS);
-    block_homes(words, pools, &mut homes);
-    let e = (MAX_BLOCKS * pools) as usize;
-    blocks_settled(words, &homes[..e])
+    let mut masks = [0u32; POOL_MASKS];
+    let n = at_most(system(words, POOLS), MAX_POOLS);
+    pool_masks(words, n, &mut masks);
+    let e = n as usize;
+    blocks_settled(words, &masks[..e])
 }
 
 // Whether each of a sort stands where it belongs, once, and nowhere else.

@@ -25,7 +25,7 @@ use Rattle.memory_picture.specs.Picture.{taskShown, storeShown, handlersShown, 
 use Rattle.memory_picture.proofs.FormWords.{back-clock}
 use Rattle.check_ranges.specs.Ranges.{sizesOk, presentOk, vacantOk, taskOk, waitOk, stateOk, semaphoreOk, flagOk, poolOk, messageOk, openOk, interruptedOk, alarmOk, countOk, rangesOk}
 use Rattle.check_links.specs.Survey.{budget}
-use Rattle.check_queues.specs.Queues.{home, blockHome, countIn, homesIn, shiftOf, ranges, rangesOf, queuedIn}
+use Rattle.check_queues.specs.Queues.{home, countIn, tableIn, tableOf, ranges, rangesOf, queuedIn}
 use Rattle.check_state.specs.Unserved.{waitFree, unservedOk, accepts}
 use Rattle.check_state.proofs.Accepted.{accepts-law}
 use Rattle.kernel_demands.specs.Demands.{clockSet}
@@ -86,19 +86,18 @@ module _ {b m : List ℕ} (A : Accepted b m) (t : ℕ) where
     unfolding home
     home-kept i = simp col-store
 
-    block-kept : (x : ℕ) → blockHome (clockSet t b) x ≡ blockHome b x
-    unfolding blockHome
-    block-kept x = simp col-store
+    mask-kept : (p : ℕ) → entry Layout.free (clockSet t b) p ≡ entry Layout.free b p
+    mask-kept p = simp col-store
 
     count-kept : (r : Rings) → countIn (clockSet t b) r ≡ countIn b r
     count-kept Tasks = simp (col-store, counts)
     count-kept Messages = simp (col-store, counts)
     count-kept Blocks = simp (col-store, counts)
 
-    homes-kept : (r : Rings) → homesIn (clockSet t b) m r ≡ homesIn b m r
-    homes-kept Tasks = λ z. map (λ i. home-kept i z) (ids (count-kept Tasks z))
-    homes-kept Messages = λ z. map (λ j. of m j 0) (ids (count-kept Messages z))
-    homes-kept Blocks = λ z. map (λ x. block-kept x z) (ids (count-kept Blocks z))
+    tables-kept : (r : Rings) → tableIn (clockSet t b) m r ≡ tableIn b m r
+    tables-kept Tasks = λ z. map (λ i. home-kept i z) (ids (count-kept Tasks z))
+    tables-kept Messages = λ z. map (λ j. of m j 0) (ids (count-kept Messages z))
+    tables-kept Blocks = λ z. map (λ p. mask-kept p z) (ids (count-kept Blocks z))
 
     links-kept : (r : Rings) → words (linksOf r) (clockSet t b) ≡ words (linksOf r) b
     links-kept Tasks = simp col-store
@@ -112,7 +111,7 @@ module _ {b m : List ℕ} (A : Accepted b m) (t : ℕ) where
 
     queues-kept : (r : Rings) → queuedIn (clockSet t b) m r ≡ queuedIn b m r
     unfolding queuedIn
-    queues-kept r = λ z. eqb (ranges (links-kept r z) (homes-kept r z) (shiftOf r) (ranges-kept r z) (budget (links-kept r z) (homes-kept r z))) 1
+    queues-kept r = λ z. eqb (ranges (links-kept r z) (tableOf r) (tables-kept r z) (ranges-kept r z) (budget (links-kept r z) (tableOf r) (tables-kept r z))) 1
 
     -- no other test reads the clock
     tests : accepts (clockSet t b) m ≡ accepts b m

@@ -11,9 +11,8 @@ returns : tie.Need-returns
 unfolding ranges
 returns c =
     let g = c .before in
-    let a = g .before .before .before .args in
-    settled-by _ (λ k. rangesIn (now (a .words)) Blocks (now (a .homes)) k) (c .survey-queues .ensures) (g .budget .ensures) (g .before .links .ensures .0)
+    let a = g .before .before .args in
+    settled-by (λ k. rangesIn (now (a .words)) Blocks (now (a .masks)) k) (c .survey-queues .ensures) (g .budget-of .ensures)
 
 pub blocks-settled-spec : {M : Type 1} → statement M
-blocks-settled-spec =
-    tie.close (tie.spec (λ c κs. search needs) (λ c κs. search needs) (λ c κs. search needs) returns)
+blocks-settled-spec = tie.close (tie.spec (λ c κs. search needs) (λ c κs. search needs) returns)

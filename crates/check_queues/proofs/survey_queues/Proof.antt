@@ -8,7 +8,7 @@ returns : tie.Need-returns
 returns c =
     let s = c .before in
     let f = s .before in
-    ranged-at _ _ _ (f .before .links .ensures .0) (f .shift-of .ensures) (s .system .ensures) (c .survey .ensures)
+    ranged-at _ _ _ (f .before .links .ensures .0) (f .table-of .ensures) (s .system .ensures) (c .survey .ensures)
 
 pub survey-queues-spec : {M : Type 1} → statement M
 survey-queues-spec = tie.close (tie.spec (λ c κs. search needs) (λ c κs. search needs) (λ c κs. search needs) (λ c κs. search needs) returns)

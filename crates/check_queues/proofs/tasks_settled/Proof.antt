@@ -10,9 +10,8 @@ use Rattle.check_queues.proofs.tasks_settled.Tie as tie
 returns : tie.Need-returns
 returns c =
     let g = c .before in
-    let a = g .before .before .before .args in
-    settled-by _ (λ k. rangesIn (now (a .words)) Tasks (now (a .homes)) k) (c .survey-tasks .ensures) (g .budget .ensures) (g .before .links .ensures .0)
+    let a = g .before .before .args in
+    settled-by (λ k. rangesIn (now (a .words)) Tasks (now (a .homes)) k) (c .survey-tasks .ensures) (g .budget-of .ensures)
 
 pub tasks-settled-spec : {M : Type 1} → statement M
-tasks-settled-spec =
-    tie.close (tie.spec (λ c κs. search needs) (λ c κs. search needs) (λ c κs. search needs) returns)
+tasks-settled-spec = tie.close (tie.spec (λ c κs. search needs) (λ c κs. search needs) returns)
