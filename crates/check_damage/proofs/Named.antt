@@ -40,8 +40,9 @@ use Rattle.check_queues.proofs.Standing.{task-is, pool-is, belongsAt, InRings, 
 use Rattle.check_state.specs.Unserved.{waitFree, unservedOk}
 use Rattle.check_state.proofs.Unserved.{semaphore-law, flag-law, pool-law, waiter-law}
 use Rattle.check_state.proofs.Accepted.{line-is, body-sound, sound-shown}
-use Rattle.check_damage.specs.Lists.{known, standsRight, atMostOnce}
-use Rattle.check_damage.specs.Damage.{few, everyIn, taskLines, mailLines, lineKnown, tasksKnown, mailsKnown, poolKnown, poolsKnown, numbersOk, placed, messageOnce, blockListed, poolListed, Told, told, idsFrom, rulesFrom, firstBroken}
+use Rattle.check_lines.specs.Lists.{known, standsRight, atMostOnce}
+use Rattle.check_lines.specs.Lines.{few, everyIn, taskLines, mailLines, lineKnown, tasksKnown, mailsKnown, poolKnown, poolsKnown, numbersOk, placed, messageOnce, blockListed, poolListed}
+use Rattle.check_damage.specs.Damage.{Told, told, idsFrom, rulesFrom, firstBroken}
 
 -- ---- lists
 

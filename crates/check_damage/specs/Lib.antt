@@ -1,4 +1,3 @@
 -- What is broken in a memory that is no sound state.
-pub mod Lists
 pub mod Damage
 pub mod Judged

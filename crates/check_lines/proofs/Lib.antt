@@ -1,0 +1,3 @@
+-- Laws of lines that may be damaged.
+pub mod Walks
+pub mod Steps
