@@ -174,7 +174,8 @@ fn is_own(words: &[u32], table: Table, first: usize, a: usize, y: usize) -> bool
 fn tour(links: &[u32], words: &[u32], table: Table, first: usize, a: usize, budget: u32) -> u32
     requires { ⌜ (length (now words) ≤ mostEntries) × (idsOf table (now words) < half (now links)) × (a < half (now links)) ×
         Covered table (now words) first a ⌝ }
-    ensures { λ r. ⌜ r ≡ toured budget (owns table (now (words .entry)) first a) (nexts (now (links .entry))) (prevs (now (links .entry))) a a ⌝ }
+    ensures { λ r. ⌜ r ≡ toured budget (owns table (now (words .entry)) first a) (nexts (now (links .entry)))
+        (prevs (now (links .entry))) a a ⌝ }
 {
     let mut x = a;
     let mut k = budget;
