@@ -1,19 +1,18 @@
 -- The order of the refusals: the first that applies decides, and where none does the call's own rule is left. Assumes nothing.
-use mathlib.Core.Bool.{Bool, true, false, cond, _&&_, true≢false}
+use mathlib.Core.Bool.{Bool, true, false, cond, false≢true, true≢false}
 use mathlib.Core.List.{List, [], _∷_, _++_}
 use mathlib.Core.Logic.{_≢_}
-use mathlib.Core.Option.{none, some}
+use mathlib.Core.Option.{some}
 use mathlib.Core.Path.{_≡_, refl, sym, _∙_, subst}
-use Prim.Native.Nat.{ℕ, zero, suc}
-use native.Mathlib.Omega.{arith}
-use lib.IntN.{ℤ, pos}
+use Prim.Native.Nat.{ℕ}
+use lib.IntN.{ℤ, pos, negsuc}
 use lib.Signed.{ltZ}
-use Rattle.rules.specs.Codes.{Code, number}
+use Rattle.rules.specs.Codes.{Code, number, negative, refuses}
 use Rattle.rules.specs.View.{View}
 use Rattle.rules.specs.Verdicts.{Verdict, refuse, check}
-use Rattle.rules.specs.Rows.{Refusal, Row, staTsk, extTsk, terTsk, chgPri, rotRdq, relWai, susTsk, rsmTsk, slpTsk, waiTsk, wupTsk, canWup, sigSem, waiSem, preqSem, setFlg, clrFlg, waiFlg, polFlg, sndMsg, rcvMsg, prcvMsg, getBlk, pgetBlk, relBlk, getTid, tskSts, semSts, flgSts, mbxSts, mplSts, getTim, creTsk, delTsk, exdTsk, setAbs, setRel, canAlm, almSts}
+use Rattle.rules.specs.Rows.{Refusal, Row}
 use Rattle.rules.specs.Table.{refusals, judged, table, entry}
-use Rattle.rules.proofs.Judge.{Passed, Passes}
+use Rattle.rules.proofs.Judge.{bad, bad-refuses, all-bad, row-bad, Passed, Passes}
 use Rattle.rules.proofs.Waits.{both-true}
 use Rattle.call_judging.specs.Judging.{firstCode, refusalsOf, rowCode}
 
@@ -87,33 +86,22 @@ parted (x ∷ l) k p = let r = parted l k (p .1) in ((p .0, r .0), r .1)
 
 -- ---- a row
 
--- every reason of every row of the table refuses: computed
-abbrev all-negative : List Refusal → Bool
-all-negative [] = true
-all-negative (x ∷ l) = ltZ (number (x .code)) (pos 0) && all-negative l
+-- every reason of every row of the table refuses
 
-abbrev rows-negative : List Row → Bool
-rows-negative [] = true
-rows-negative (r ∷ l) = all-negative (r .words) && rows-negative l
-
-table-negative : (v : View) (me : ℕ) (a b c : ℤ) → rows-negative (table v me a b c) ≡ true
-unfolding number table staTsk extTsk terTsk chgPri rotRdq relWai susTsk rsmTsk slpTsk waiTsk wupTsk canWup sigSem waiSem preqSem setFlg clrFlg waiFlg polFlg sndMsg rcvMsg prcvMsg getBlk pgetBlk relBlk getTid tskSts semSts flgSts mbxSts mplSts getTim creTsk delTsk exdTsk setAbs setRel canAlm almSts
-table-negative v me a b c = refl
-
-all-refuse : (l : List Refusal) → all-negative l ≡ true → AllRefuse l
-all-refuse [] e = tt
-all-refuse (x ∷ l) e = let d = both-true (ltZ (number (x .code)) (pos 0)) (all-negative l) e in (d .0, all-refuse l (d .1))
-
-entry-refuses : (l : List Row) (n : ℕ) (r : Row) → rows-negative l ≡ true → entry l n ≡ some r → AllRefuse (r .words)
-entry-refuses [] n r e f = absurd (none-some f)
+bad-negative : (c : Code) → bad c ≡ true → Negative (number c)
+unfolding refuses
+bad-negative c e = go (number c) (bad-refuses c e)
   where
-    none-some : none ≡ some r → ⊥
-    none-some f = let z : _≡_ {A = ℕ} 0 1 = cc in omega arith
-entry-refuses (x ∷ l) zero r e f = let q : x ≡ r = cc in subst (λ (y : Row). AllRefuse (y .words)) q (all-refuse (x .words) (both-true (all-negative (x .words)) (rows-negative l) e .0))
-entry-refuses (x ∷ l) (suc n) r e f = entry-refuses l n r (both-true (all-negative (x .words)) (rows-negative l) e .1) f
+    go : (n : ℤ) → negative n ≡ true → Negative n
+    go (pos n) e = absurd (false≢true e)
+    go (negsuc n) e = refl
+
+all-refuse : (l : List Refusal) → all-bad l ≡ true → AllRefuse l
+all-refuse [] e = tt
+all-refuse (x ∷ l) e = let d = both-true (bad (x .code)) (all-bad l) e in (bad-negative (x .code) (d .0), all-refuse l (d .1))
 
 pub row-refuses : (v : View) (me k : ℕ) (a b c : ℤ) (r : Row) → entry (table v me a b c) k ≡ some r → AllRefuse (r .words)
-row-refuses v me k a b c r f = entry-refuses (table v me a b c) k r (table-negative v me a b c) f
+row-refuses v me k a b c r f = all-refuse (r .words) (row-bad v me k a b c r f)
 
 module _ (v : View) (h : Bool) (me : ℕ) (r : Row) where
   all : List Refusal

@@ -1,23 +1,18 @@
 -- Acts performed one after the other on an accepted memory: it stays accepted, and shows what the acts make of the view. `Pre` says what keeps
 -- a state sound, and is silent on whether what an act names is there: `Names` adds that.
-use mathlib.Core.Bool.{false}
 use mathlib.Core.List.{List, [], _∷_, _++_}
 use mathlib.Core.Logic.{inl, inr}
-use mathlib.Core.Option.{none}
 use mathlib.Core.Path.{_≡_, refl, sym, ap, _∙_, subst}
 use Prim.Native.Nat.{ℕ, _+_}
 use native.Mathlib.Omega.{arith}
-use lib.ListN.{length}
-use Rattle.rules.specs.Ids.{of, In}
 use Rattle.rules.specs.Codes.{Code}
 use Rattle.rules.specs.State.{alarmOf, Body, nobody, isReady}
 use Rattle.rules.specs.Acts.{Act, start, retire, create, delete, rotate, regrade, wait, release, suspend, resume, wakeups, count, pattern, post, receive, mark, elapse, nest, alarm, after, afters}
 use Rattle.rules.specs.Releases.{releases}
 use Rattle.rules.specs.View.{View, act, acts}
-use Rattle.rules.specs.Objects.{laid}
 use Rattle.rules.specs.Sound.{CellNumbers, Sound}
 use Rattle.rules.proofs.Ids.{tested}
-use Rattle.rules.proofs.Keeps.{Pre}
+use Rattle.rules.proofs.Keeps.{Pre, Names}
 use Rattle.rules.proofs.Queues.{sound-act, body-act}
 use Rattle.rules.proofs.Cells.{body-acts}
 use Rattle.rules.proofs.Firings.{Along}
@@ -28,28 +23,7 @@ use Rattle.memory_picture.proofs.FormWords.{back-kept}
 use Rattle.memory_picture.proofs.Perform.{perform-law}
 use Rattle.call_words.specs.Doing.{performs, performsMarks}
 
--- ---- what an act names is there, as far as `Pre` does not say it
-
-abbrev pub Names : Body → Act → Type 0
-Names b (start i) = In i (length (b .tasks))
-Names b (retire i) = In i (length (b .tasks))
-Names b (create i p) = In i (length (b .tasks))
-Names b (delete i) = In i (length (b .tasks))
-Names b (rotate i) = Unit {0}
-Names b (regrade i p) = In i (length (b .tasks))
-Names b (wait i w) = In i (length (b .tasks))
-Names b (release i c w) = In i (length (b .tasks))
-Names b (suspend i) = In i (length (b .tasks))
-Names b (resume i) = In i (length (b .tasks))
-Names b (wakeups i n) = In i (length (b .tasks))
-Names b (count s n) = In s (length (b .store .semaphores))
-Names b (pattern f n) = In f (length (b .store .flags))
-Names b (post j m) = In j (length (b .store .messages)) × (laid (of (b .store .messages) j none) ≡ false)
-Names b (receive j) = In j (length (b .store .messages))
-Names b (mark p k t) = In p (length (b .store .pools)) × In k (length (of (b .store .pools) p []))
-Names b elapse = Unit {0}
-Names b (nest h) = Unit {0}
-Names b (alarm k c s) = In k (length (b .counter .alarms))
+-- ---- what an act names is there
 
 -- of each act of a list, at its time
 abbrev pub AllNames : Body → List Act → Type 0

@@ -1,22 +1,23 @@
 -- The acts of a tick: what they name is there, and they touch no message. Assumes nothing.
-use mathlib.Core.Bool.{not}
 use mathlib.Core.List.{List, [], _∷_, _++_, map}
 use mathlib.Core.Logic.{_≢_}
 use mathlib.Core.Path.{_≡_, refl, sym, ap, _∙_, subst}
 use Prim.Native.Nat.{ℕ}
 use lib.ListN.{length}
 use Rattle.rules.specs.Ids.{ids, In, times}
-use Rattle.rules.specs.State.{noAlarm, Body, task, nobody, waitOf, isDormant, isAbsent, sleeps}
+use Rattle.rules.specs.State.{Body, task, nobody, waitOf}
 use Rattle.rules.specs.Acts.{Act, elapse, after}
 use Rattle.rules.specs.View.{View}
-use Rattle.rules.specs.Alarms.{fires, rings}
+use Rattle.rules.specs.Alarms.{rings}
 use Rattle.rules.specs.Time.{ending, endings, timeout, lapse, ticked}
 use Rattle.rules.specs.Sound.{Known}
 use Rattle.rules.proofs.Ids.{length-put, tested, kept-passes, times-head, times-tail}
+use Rattle.rules.proofs.Keeps.{Names}
+use Rattle.rules.proofs.Calls.{firing-names}
 use Rattle.rules.proofs.Firings.{Along, along-append, FiringAct, starts, wakes, stores, keeps, rings-along}
 use Rattle.memory_picture.specs.Perform.{performedMarks}
 use Rattle.call_words.specs.Doing.{performsMarks}
-use Rattle.call_words.proofs.Performing.{Names, AllNames}
+use Rattle.call_words.proofs.Performing.{AllNames}
 
 -- ---- timeouts
 
@@ -44,12 +45,6 @@ pub lapse-marks : (b : Body) (m : List ℕ) → performsMarks (lapse b) m ≡ m
 lapse-marks b m = timeout-marks (endings b) m
 
 -- ---- alarms
-
-firing-names : (b : Body) (a : Act) → FiringAct b a → Names b a
-firing-names b a (starts i d) = tested (λ t. isDormant (t .state)) (b .tasks) i nobody refl d
-firing-names b a (wakes i d) = tested (λ t. sleeps (waitOf (t .state))) (b .tasks) i nobody refl d
-firing-names b a (stores i n d s m) = tested (λ t. not (isAbsent (t .state))) (b .tasks) i nobody refl (ap not n)
-firing-names b a (keeps k c f e) = tested (λ y. fires (b .counter) (y .setting)) (b .counter .alarms) k noAlarm refl e
 
 pub rings-names : (n k : ℕ) (b : Body) → AllNames b (rings b n k)
 rings-names n k b = rings-along Names firing-names n k b

@@ -29,7 +29,7 @@ use Rattle.rules.proofs.Lines.{exists-before, line-act}
 use Rattle.rules.proofs.Keeps.{Pre}
 use Rattle.rules.proofs.Queues.{belongs-stands, queue-moved, body-act}
 use Rattle.rules.proofs.Calls.{Steps, released-waits, steps-of-judge}
-use Rattle.rules.proofs.Cells.{change-each, map-each, body-acts, Gentle, releases, begins, counts, sets, elapses, rung, AllGentle, Careful-list, nothing, one, several}
+use Rattle.rules.proofs.Cells.{change-each, map-each, body-acts, Gentle, releases, begins, counts, sets, elapses, rung, AllGentle, Careful-list, nothing, one, several, breaks, marks}
 use Rattle.rules.proofs.Clean.{refused, given, waited, CleanEvent, clean-verdict, nests, judge-clean}
 
 -- ---- lists
@@ -262,8 +262,10 @@ module _ (k : Kind) (o i : ℕ) where
     acts-ahead : (l : List Act) → Careful-list (v .body) l → Steps (v .body) l → awaits (task (afters l (v .body)) i .state) k o ≡ true → ahead (acts l v) k o i ≤ ahead v k o i
     unfolding acts
     acts-ahead l nothing p u = le-refl _
-    acts-ahead l (one a c) p u = one-ahead a p u
+    acts-ahead l (one {a} g) p u = one-ahead a p u
     acts-ahead l (several m g) p u = list-ahead m v g p q u
+    acts-ahead l (breaks j) p u = one-ahead _ p u
+    acts-ahead l (marks y n t) p u = one-ahead _ p u
 
     verdict-ahead : (r : Verdict) → CleanEvent (v .body) r → Steps (v .body) (r .acts) → awaits (task (afters (r .acts) (v .body)) i .state) k o ≡ true
         → ahead (acts (r .acts) v) k o i ≤ ahead v k o i

@@ -14,18 +14,19 @@ use lib.ListN.{length}
 use borrow.Author.Tests.{le-leb, leb-true, leb-false, eqb-true, eqb-false, eq-eqb, ne-eqb}
 use Rattle.rules.specs.Ids.{from, ids, In, once, times}
 use Rattle.rules.specs.Codes.{Code, OK, E-TMOUT, H-PAR, H-USED, H-IDLE, number}
-use Rattle.rules.specs.State.{Wait, asleep, timed, on, State, dormant, ready, suspended, absent, waiting, waiting-suspended, Task, Handlers, isOpen, Setting, unset, due, inUse, Alarm, noAlarm, Counter, alarmOf, alarmCount, Body, task, nobody, waitOf, wish, isDormant, isAbsent, isWaiting, isFreed, sleeps}
+use Rattle.rules.specs.State.{flag, Wait, asleep, timed, on, State, dormant, ready, suspended, absent, waiting, waiting-suspended, Task, Handlers, isOpen, Setting, unset, due, inUse, Alarm, noAlarm, Counter, alarmOf, alarmCount, Body, task, nobody, waitOf, wish, isDormant, isAbsent, isWaiting, isFreed, sleeps}
+use Rattle.rules.specs.Places.{waiters}
 use Rattle.rules.specs.Events.{Event, tick, enter, exit, call, Words, AllWords, nat, outside}
-use Rattle.rules.specs.Acts.{Act, start, retire, create, delete, rotate, regrade, wait, release, suspend, resume, wakeups, count, pattern, post, receive, mark, elapse, nest, alarm, with-state, with-cell, freed, releasedTask, with-setting, countAfter, stepped, changeAlarm, after, afters}
-use Rattle.rules.specs.View.{View}
+use Rattle.rules.specs.Acts.{Act, wait, release, wakeups, count, mark, elapse, nest, alarm, with-state, with-cell, freed, releasedTask, with-setting, countAfter, stepped, changeAlarm, after, afters}
+use Rattle.rules.specs.View.{View, line}
 use Rattle.rules.specs.Verdicts.{Verdict, refuse, gives, done, check, choose}
-use Rattle.rules.specs.Tasks.{starting, sta-tsk, ext-tsk, ter-tsk, chg-pri, rot-rdq, rel-wai, sus-tsk, rsm-tsk, take-wakeup, slp-tsk, wai-tsk, waking, wup-tsk, can-wup, get-tid, tsk-sts, cre-tsk, del-tsk, exd-tsk}
-use Rattle.rules.specs.Objects.{met, left, serve-flag, to-first, obj-sts, sig-sem, take-sem, set-flg, clr-flg, take-flg, snd-msg, take-msg, take-blk, rel-blk}
+use Rattle.rules.specs.Tasks.{starting, sta-tsk, waking, wup-tsk}
+use Rattle.rules.specs.Objects.{met, left, serve-flag}
 use Rattle.rules.specs.Alarms.{fires, countFrom, again, fired, firing, rings, alarmAt, set-alm, set-abs, set-rel, can-alm, alm-sts}
-use Rattle.rules.specs.Time.{get-tim, ending, endings, timeout, lapse, ticked}
+use Rattle.rules.specs.Time.{ending, endings, timeout, lapse, ticked}
 use Rattle.rules.specs.Handling.{entered, exited}
-use Rattle.rules.specs.Rows.{alarm-number, staTsk, extTsk, terTsk, chgPri, rotRdq, relWai, susTsk, rsmTsk, slpTsk, waiTsk, wupTsk, canWup, sigSem, waiSem, preqSem, setFlg, clrFlg, waiFlg, polFlg, sndMsg, rcvMsg, prcvMsg, getBlk, pgetBlk, relBlk, getTid, tskSts, semSts, flgSts, mbxSts, mplSts, getTim, creTsk, delTsk, exdTsk, setAbs, setRel, canAlm, almSts}
-use Rattle.rules.specs.Table.{refusals, judged, table, looked-up, caller, handles, numbered, called, judge}
+use Rattle.rules.specs.Rows.{alarm-number, staTsk, wupTsk, setAbs, setRel, canAlm, almSts}
+use Rattle.rules.specs.Table.{refusals, judged, table, looked-up, numbered, called, judge}
 use Rattle.rules.specs.Sound.{SettingFits, Sound}
 use Rattle.rules.specs.Blocks.{is}
 use Rattle.rules.specs.Kernel.{next, event}
@@ -33,12 +34,14 @@ use Rattle.rules.specs.Runs.{states}
 use Rattle.rules.proofs.Ids.{of-put-other, of-put-same, tested}
 use Rattle.rules.proofs.States.{waits-by, freed-tells}
 use Rattle.rules.proofs.Sizes.{sizes-after, sizes-afters}
-use Rattle.rules.proofs.Calls.{ends-come, fires-there, counted, sound-next}
+use Rattle.rules.proofs.Waiters.{counted}
+use Rattle.rules.proofs.Calls.{ends-come, fires-there, sound-next}
 use Rattle.rules.proofs.Events.{event-next}
-use Rattle.rules.proofs.Judge.{_⊗_, AllRows, OnActs, on-acts, acts-check, acts-choose, acts-first, acts-count, acts-wait, by-call}
+use Rattle.rules.proofs.Judge.{checked-acts, OnActs, on-acts, acts-check, acts-choose}
+use Rattle.rules.proofs.Ways.{Finds, simple, rouses, breaks, serves, sets, Way, refused, looked, acted, waited, walked, granted, freed as block-freed, handed, call-way}
 use Rattle.rules.proofs.Refusals.{word-decides}
 use Rattle.rules.proofs.Firings.{afters-append}
-use Rattle.rules.proofs.Cells.{change-each, map-each, body-acts, Mild, untouched, let-go, list-mild, lapse-list as gentle-lapse}
+use Rattle.rules.proofs.Cells.{change-each, map-each, body-acts, simple-leaves, Mild, untouched, let-go, list-mild, lapse-list as gentle-lapse}
 
 -- ---- A firing starts or wakes its task as a handler would: the verdict of the handler's call on that task.
 
@@ -491,50 +494,7 @@ not-reached m n g e l k h = go (leb m (suc n)) refl (h .1)
     go false p (inl q) = (λ z. omega (arith, z), ((omega arith, omega (arith, h .0 .1)), inl (omega arith)))
     go false p (inr q) = (λ z. omega (arith, z, h .0 .1), ((omega arith, omega (arith, h .0 .1)), inr (omega arith)))
 
--- no other act changes the counter
-abbrev quiet : Act → Bool
-quiet (start i) = true
-quiet (retire i) = true
-quiet (create i p) = true
-quiet (delete i) = true
-quiet (rotate i) = true
-quiet (regrade i p) = true
-quiet (wait i w) = true
-quiet (release i c w) = true
-quiet (suspend i) = true
-quiet (resume i) = true
-quiet (wakeups i n) = true
-quiet (count s n) = true
-quiet (pattern f n) = true
-quiet (post j m) = true
-quiet (receive j) = true
-quiet (mark p k t) = true
-quiet elapse = false
-quiet (nest h) = true
-quiet (alarm k c s) = false
-
-quiet-counter : (a : Act) (b : Body) → quiet a ≡ true → after a b .counter ≡ b .counter
-unfolding after
-quiet-counter (start i) b e = refl
-quiet-counter (retire i) b e = refl
-quiet-counter (create i p) b e = refl
-quiet-counter (delete i) b e = refl
-quiet-counter (rotate i) b e = refl
-quiet-counter (regrade i p) b e = refl
-quiet-counter (wait i w) b e = refl
-quiet-counter (release i c w) b e = refl
-quiet-counter (suspend i) b e = refl
-quiet-counter (resume i) b e = refl
-quiet-counter (wakeups i n) b e = refl
-quiet-counter (count s n) b e = refl
-quiet-counter (pattern f n) b e = refl
-quiet-counter (post j m) b e = refl
-quiet-counter (receive j) b e = refl
-quiet-counter (mark p k t) b e = refl
-quiet-counter elapse b e = absurd (false≢true e)
-quiet-counter (nest h) b e = refl
-quiet-counter (alarm k c s) b e = absurd (false≢true e)
-
+-- nor does the walk of set_flg change it
 flag-counter : (b : Body) (f have : ℕ) (l : List ℕ) (c : Body) → afters (serve-flag b f have l) c .counter ≡ c .counter
 unfolding afters after
 flag-counter b f have [] c = refl
@@ -584,10 +544,6 @@ module _ (v : View) (k : ℕ) (u : inUse (alarmOf (v .body .counter) k .setting)
   unfolding afters
   leaves-none = ((refl, refl), refl)
 
-  leaves-one : (a : Act) → quiet a ≡ true → Leaves (a ∷ [])
-  unfolding afters
-  leaves-one a e = leaves-by (a ∷ []) (quiet-counter a (v .body) e)
-
   leaves-flag : (f have : ℕ) (l : List ℕ) → Leaves (serve-flag (v .body) f have l)
   leaves-flag f have l = leaves-by _ (flag-counter (v .body) f have l (v .body))
 
@@ -596,80 +552,38 @@ module _ (v : View) (k : ℕ) (u : inUse (alarmOf (v .body .counter) k .setting)
   unfolding afters after
   leaves-alarm j c s n = ((refl, refl), alarm-other (v .body) j c s k n)
 
-  module _ (a y z : ℤ) where
-    -- it is not set, being in use
-    set-leaves : (e : ℕ) → OnActs Leaves (set-alm v a e z)
-    unfolding set-alm
-    set-leaves e = acts-check _ leaves-none (λ d. on-acts (leaves-alarm (nat a) _ _ (λ q. false≢true (sym d ∙ ap (λ (j : ℕ). inUse (alarmOf (v .body .counter) j .setting)) q ∙ u))))
+  -- none that is in use is set, and another one is cancelled
+  finds-leaves : {a p n : ℤ} {d : Act} → (is n 38 && eqb (nat a) k) ≡ false → Finds v a p n d → Leaves (d ∷ [])
+  unfolding afters after
+  finds-leaves {d} o (simple g f) = leaves-by (d ∷ []) (simple-leaves (v .body) g .1)
+  finds-leaves {d} o (rouses g e) = leaves-by (d ∷ []) e
+  finds-leaves {d} o (breaks e w) = leaves-by (d ∷ []) refl
+  finds-leaves {d} o (serves j t r z e) = leaves-by (d ∷ []) refl
+  finds-leaves {a} o (sets (inl c) f) = leaves-alarm (nat a) _ _ (eqb-false (nat a) k (rw c at o))
+  finds-leaves {a} o (sets (inr e) f) = leaves-alarm (nat a) _ _ (λ q. false≢true (sym e ∙ ap (λ (j : ℕ). inUse (alarmOf (v .body .counter) j .setting)) q ∙ u))
 
-    cancel-leaves : nat a ≢ k → OnActs Leaves (can-alm v a)
-    unfolding can-alm
-    cancel-leaves n = acts-check _ leaves-none (λ d. on-acts (leaves-alarm (nat a) _ _ n))
+  way-leaves : {a p n : ℤ} {r : Verdict} → (is n 38 && eqb (nat a) k) ≡ false → Way v a p n r → Leaves (r .acts)
+  unfolding afters after
+  way-leaves o (refused c e) = leaves-none
+  way-leaves o (looked q) = leaves-none
+  way-leaves o (acted q f) = finds-leaves o f
+  way-leaves o (waited {i} {w} f) = leaves-by (wait i w ∷ []) refl
+  way-leaves {a} o (walked have q i z) = leaves-flag (nat a) have (line v (waiters flag (nat a)))
+  way-leaves {a} o (granted {j} y z i e) = leaves-by (mark (nat a) j false ∷ []) refl
+  way-leaves {a} {p} o (block-freed e t l) = leaves-by (mark (nat a) (nat p) true ∷ []) refl
+  way-leaves {a} {p} o (handed {i} e t l) = leaves-by (release i OK (nat p) ∷ []) refl
 
-    abbrev P : ℤ → Verdict → Type 0
-    P n r = (is n 38 && eqb (nat a) k) ≡ false → OnActs Leaves r
-
-    ruleset leaving = (acts-check, acts-choose, acts-first, acts-count, acts-wait, on-acts, leaves-none, leaves-one, leaves-flag)
-
-    rows : (h : Bool) (me : ℕ) → AllRows P v h me 1 (table v me a y z)
-    unfolding table staTsk extTsk terTsk chgPri rotRdq relWai susTsk rsmTsk slpTsk waiTsk wupTsk canWup sigSem waiSem preqSem setFlg clrFlg waiFlg polFlg sndMsg rcvMsg prcvMsg getBlk pgetBlk relBlk getTid tskSts semSts flgSts mbxSts mplSts getTim creTsk delTsk exdTsk setAbs setRel canAlm almSts set-abs set-rel alm-sts starting sta-tsk ext-tsk ter-tsk chg-pri rot-rdq rel-wai sus-tsk rsm-tsk take-wakeup slp-tsk wai-tsk waking wup-tsk can-wup get-tid tsk-sts cre-tsk del-tsk exd-tsk to-first obj-sts sig-sem take-sem set-flg clr-flg take-flg snd-msg take-msg take-blk rel-blk get-tim
-    rows h me =
-        (λ t o. search leaving depth 9)
-        ⊗ (λ t o. search leaving depth 9)
-        ⊗ (λ t o. search leaving depth 9)
-        ⊗ (λ t o. search leaving depth 9)
-        ⊗ (λ t o. search leaving depth 9)
-        ⊗ (λ t o. search leaving depth 9)
-        ⊗ (λ t o. search leaving depth 9)
-        ⊗ (λ t o. search leaving depth 9)
-        ⊗ (λ t o. search leaving depth 9)
-        ⊗ (λ t o. search leaving depth 9)
-        ⊗ (λ t o. search leaving depth 9)
-        ⊗ (λ t o. search leaving depth 9)
-        ⊗ (λ t o. search leaving depth 9)
-        ⊗ (λ t o. search leaving depth 9)
-        ⊗ (λ t o. search leaving depth 9)
-        ⊗ (λ t o. search leaving depth 9)
-        ⊗ (λ t o. search leaving depth 9)
-        ⊗ (λ t o. search leaving depth 9)
-        ⊗ (λ t o. search leaving depth 9)
-        ⊗ (λ t o. search leaving depth 9)
-        ⊗ (λ t o. search leaving depth 9)
-        ⊗ (λ t o. search leaving depth 9)
-        ⊗ (λ t o. search leaving depth 9)
-        ⊗ (λ t o. search leaving depth 9)
-        ⊗ (λ t o. search leaving depth 9)
-        ⊗ (λ t o. search leaving depth 9)
-        ⊗ (λ t o. search leaving depth 9)
-        ⊗ (λ t o. search leaving depth 9)
-        ⊗ (λ t o. search leaving depth 9)
-        ⊗ (λ t o. search leaving depth 9)
-        ⊗ (λ t o. search leaving depth 9)
-        ⊗ (λ t o. search leaving depth 9)
-        ⊗ (λ t o. search leaving depth 9)
-        ⊗ (λ t o. search leaving depth 9)
-        ⊗ (λ t o. search leaving depth 9)
-        ⊗ (λ t o. set-leaves _)
-        ⊗ (λ t o. set-leaves _)
-        ⊗ (λ t o. cancel-leaves (eqb-false (nat a) k o))
-        ⊗ (λ t o. search leaving depth 9)
-        ⊗ tt
-
-    call-leaves : (x n : ℤ) → (is n 38 && eqb (nat a) k) ≡ false → Leaves (judge v (call x n a y z) .acts)
-    call-leaves x n o = elim (by-call P (λ n c e o. on-acts leaves-none) v a y z (λ h. rows (handles v h) (caller v h)) x n o) [ on-acts h ↦ h ]
-
-  nest-leaves : (t : Bool) (c : Code) (h : Handlers) → Leaves (check t c (done (nest h ∷ [])) .acts)
-  unfolding check
-  nest-leaves true c h = leaves-none
-  nest-leaves false c h = leaves-one (nest h) refl
+  leaves-nest : (h : Handlers) → Leaves (nest h ∷ [])
+  unfolding afters after
+  leaves-nest h = leaves-by (nest h ∷ []) refl
 
   -- an alarm in use is left alone by every event but a tick and its own cancelling
   event-leaves : (e : Event) → ticks e ≡ 0 → cancels k e ≡ false → Leaves (judge v e .acts)
   unfolding judge entered exited
   event-leaves tick t o = absurd (omega arith)
-  event-leaves enter t o = nest-leaves _ _ _
-  event-leaves exit t o = nest-leaves _ _ _
-  event-leaves (call w n a y z) t o = call-leaves a y z w n o
+  event-leaves enter t o = checked-acts Leaves _ _ _ leaves-none (λ e. leaves-nest _)
+  event-leaves exit t o = checked-acts Leaves _ _ _ leaves-none (λ e. leaves-nest _)
+  event-leaves (call x n a p c) t o = way-leaves o (call-way v x n a p c)
 
 -- in d ticks alarm k is due, at count e; it is x
 record Pending (k e : ℕ) (x : Alarm) (d : ℕ) (v : View) : Type 0 where

@@ -2,43 +2,42 @@
 -- rel_blk touch a mark or hand a block over; every other event is still. Assumes nothing.
 use mathlib.Core.Bool.{Bool, true, false, not, cond, _&&_, _||_, and-false, false≢true}
 use mathlib.Core.List.{List, [], _∷_, _++_, map, append-nil}
-use mathlib.Core.Logic.{_⊎_, inl, inr, _≢_}
+use mathlib.Core.Logic.{_≢_}
 use mathlib.Core.Option.{Option, none, some}
 use mathlib.Core.Path.{_≡_, refl, sym, ap, _∙_}
 use Prim.Native.Nat.{ℕ, zero, suc, _+_, _<_}
 use native.Mathlib.Nat.{add-zero, zero-add}
 use native.Mathlib.Omega.{arith}
 use lib.Dec.{eqb}
-use lib.IntN.{ℤ, pos}
+use lib.IntN.{ℤ}
 use lib.ListN.{length, getD, set}
-use borrow.Author.Tests.{eqb-true, not-false}
+use borrow.Author.Tests.{eqb-true}
 use Rattle.rules.specs.Ids.{of, put, ids, In, keep, once, times}
-use Rattle.rules.specs.Codes.{Code, OK, E-TMOUT, E-RLWAI, H-POLL, number}
-use Rattle.rules.specs.State.{Kind, semaphore, flag, mailbox, pool, Wait, asleep, timed, on, Setting, State, dormant, ready, suspended, absent, waiting, waiting-suspended, Task, Body, task, nobody, objects, waitOf, wish, isDormant, isWaiting, isFreed, sleeps}
+use Rattle.rules.specs.Codes.{Code, OK, E-TMOUT, E-RLWAI, number}
+use Rattle.rules.specs.State.{Kind, flag, pool, Wait, asleep, timed, on, Setting, State, dormant, ready, suspended, absent, waiting, waiting-suspended, Task, Handlers, Body, task, nobody, objects, waitOf, wish, isDormant, isWaiting, isFreed, sleeps}
 use Rattle.rules.specs.Places.{waiters, freeIn, blocks, sameSort, aTask, belongs, sameKind, waitsOn, awaits}
-use Rattle.rules.specs.Events.{Event, tick, enter, exit, call, nat, outside}
-use Rattle.rules.specs.Acts.{Act, start, retire, create, delete, rotate, regrade, wait, release, suspend, resume, wakeups, count, pattern, post, receive, mark, elapse, nest, alarm, change, started, retired, created, freed, releasedTask, halted, resumed, older, with-state, with-priority, with-wakeups, with-cell, after, afters, Move, stay, leave, last, move}
+use Rattle.rules.specs.Events.{Event, tick, enter, exit, call, nat}
+use Rattle.rules.specs.Acts.{Act, start, release, wakeups, pattern, mark, elapse, nest, alarm, started, freed, releasedTask, older, with-state, with-wakeups, with-cell, after, afters, Move, stay, leave, last, move}
 use Rattle.rules.specs.View.{View, line, moved, act, acts}
-use Rattle.rules.specs.Verdicts.{Verdict, refuse, gives, done}
-use Rattle.rules.specs.Tasks.{stateOf, starting, sta-tsk, ext-tsk, ter-tsk, chg-pri, rot-rdq, rel-wai, sus-tsk, rsm-tsk, take-wakeup, slp-tsk, wai-tsk, waking, wup-tsk, can-wup, get-tid, tsk-sts, cre-tsk, del-tsk, exd-tsk}
-use Rattle.rules.specs.Objects.{waits-on, to-first, obj-sts, met, left, serve-flag, sig-sem, take-sem, set-flg, clr-flg, take-flg, snd-msg, take-msg, blocksOf, take-blk, rel-blk}
-use Rattle.rules.specs.Alarms.{rings, set-alm, set-abs, set-rel, can-alm, alm-sts}
-use Rattle.rules.specs.Time.{get-tim, ending, endings, timeout, lapse, ticked}
+use Rattle.rules.specs.Verdicts.{Verdict, gives, done}
+use Rattle.rules.specs.Objects.{met, left, serve-flag}
+use Rattle.rules.specs.Alarms.{rings}
+use Rattle.rules.specs.Time.{ending, endings, timeout, lapse, ticked}
 use Rattle.rules.specs.Handling.{entered, exited}
-use Rattle.rules.specs.Rows.{staTsk, extTsk, terTsk, chgPri, rotRdq, relWai, susTsk, rsmTsk, slpTsk, waiTsk, wupTsk, canWup, sigSem, waiSem, preqSem, setFlg, clrFlg, waiFlg, polFlg, sndMsg, rcvMsg, prcvMsg, getBlk, pgetBlk, relBlk, getTid, tskSts, semSts, flgSts, mbxSts, mplSts, getTim, creTsk, delTsk, exdTsk, setAbs, setRel, canAlm, almSts}
-use Rattle.rules.specs.Table.{caller, handles, table, judge}
+use Rattle.rules.specs.Table.{judge}
 use Rattle.rules.specs.Sound.{Sound}
 use Rattle.rules.specs.Answers.{answer}
 use Rattle.rules.specs.Kernel.{next, served}
 use Rattle.rules.specs.Blocks.{isFree, is, ok, taken, handed, handedCount, returned}
 use Rattle.rules.proofs.Ids.{of-put-same, of-put-other, tested, kept-passes, times-head, times-tail, keep-all}
-use Rattle.rules.proofs.States.{waits-by, waiting-tells, dormant-tells, halted-same, resumed-same, older-same, released-move, halted-move, resumed-move, regraded-move}
+use Rattle.rules.proofs.States.{waits-by, waiting-tells, dormant-tells, older-same, released-move, halted-move, resumed-move, regraded-move}
 use Rattle.rules.proofs.Firings.{Along, along-append, FiringAct, starts, wakes, stores, keeps, rings-along}
-use Rattle.rules.proofs.Cells.{change-each, map-each, body-acts}
-use Rattle.rules.proofs.Judge.{_⊗_, bad, bad-not-ok, AllRows, by-check, by-first, by-call, OnActs, on-acts, acts-check, acts-choose, acts-first, acts-count, acts-wait}
+use Rattle.rules.proofs.Cells.{change-each, map-each, body-acts, Simple, of-retire, of-create, of-delete, of-rotate, of-regrade, of-wait, of-suspend, of-resume, of-wakeups, of-count, of-pattern, of-post, of-receive, Calm, simple-calm, simple-leaves}
+use Rattle.rules.proofs.Judge.{bad-not-ok, checked-acts}
+use Rattle.rules.proofs.Ways.{OutBlock, deals, Finds, simple, rouses, breaks, serves, sets as alarm-sets, Way, refused, looked, acted, waited, walked, granted, freed as block-freed, handed as way-handed, call-way}
 use Rattle.rules.proofs.Lines.{exists-before, line-act}
 use Rattle.rules.proofs.Queues.{body-act, stands-belongs, first-belongs}
-use Rattle.rules.proofs.Waits.{in-by, neither, waits-other}
+use Rattle.rules.proofs.Waits.{neither, waits-other}
 
 -- ---- no block is handed to a task
 
@@ -90,12 +89,6 @@ released-pools c w t h p = go (t .state) refl
 older-pools : (t : Task) → Same-pools t (with-state (older (t .state)) t)
 older-pools t p = older-same (t .state) .awaits pool p
 
-halted-pools : (t : Task) → Same-pools t (with-state (halted (t .state)) t)
-halted-pools t p = ap (λ (w : Option Wait). waitsOn w pool p) (halted-same (t .state) .0)
-
-resumed-pools : (t : Task) → Same-pools t (with-state (resumed (t .state)) t)
-resumed-pools t p = ap (λ (w : Option Wait). waitsOn w pool p) (resumed-same (t .state) .0)
-
 dormant-no-pool : (s : State) → isDormant s ≡ true → No-pool s
 dormant-no-pool s e p = rw (dormant-tells s e)
 
@@ -107,78 +100,13 @@ refused-empty c w t n = go (isWaiting (t .state)) refl
     go true e = rw e (by-code t (with-cell (record { code = c; word = w }) (with-state (freed (t .state)) t)) n)
     go false e = rw e (empty-same t)
 
--- ---- one act
-
--- what an act needs to hand nothing over and to leave the pools alone
-abbrev Still-act : Body → Act → Type 0
-Still-act b (start i) = isDormant (task b i .state) ≡ true
-Still-act b (retire i) = Unit {0}
-Still-act b (create i p) = Unit {0}
-Still-act b (delete i) = Unit {0}
-Still-act b (rotate i) = Unit {0}
-Still-act b (regrade i p) = Unit {0}
-Still-act b (wait i w) = Unit {0}
-Still-act b (release i c w) = (ok c ≡ false) ⊎ No-pool (task b i .state)
-Still-act b (suspend i) = Unit {0}
-Still-act b (resume i) = Unit {0}
-Still-act b (wakeups i n) = Unit {0}
-Still-act b (count s n) = Unit {0}
-Still-act b (pattern f n) = Unit {0}
-Still-act b (post j m) = Unit {0}
-Still-act b (receive j) = Unit {0}
-Still-act b (mark p k t) = ⊥
-Still-act b elapse = Unit {0}
-Still-act b (nest h) = Unit {0}
-Still-act b (alarm k c s) = Unit {0}
-
--- one task is changed
-changed : (f : Task → Task) (j : ℕ) (b : Body) → ((t : Task) → t ≡ task b j → Empty-handed t (f t)) → (i : ℕ) → Empty-handed (task b i) (task (change f j b) i)
-changed f j b = change-each Empty-handed empty-same f j b
-
-act-empty : (a : Act) (b : Body) → Still-act b a → (i : ℕ) → Empty-handed (task b i) (task (after a b) i)
-unfolding after
-act-empty (start j) b d = changed started j b (λ t e. by-state t (started t) (λ p w. absurd (false≢true (sym (dormant-no-pool (t .state) (rw e d) p) ∙ w))))
-act-empty (retire j) b d = changed retired j b (λ t e. by-state t (retired t) (λ p w. refl))
-act-empty (create j n) b d = changed (created n) j b (λ t e. by-state t (created n t) (λ p w. refl))
-act-empty (delete j) b d = changed (λ t. nobody) j b (λ t e. by-state t nobody (λ p w. refl))
-act-empty (rotate j) b d = λ i. empty-same (task b i)
-act-empty (regrade j n) b d = changed (with-priority n) j b (λ t e. pools-empty t (with-priority n t) (λ p. refl))
-act-empty (wait j x) b d = changed (with-state (waiting x)) j b (λ t e. by-state t (with-state (waiting x) t) (λ p w. refl))
-act-empty (release j c w) b (inl n) = changed (releasedTask c w) j b (λ t e. refused-empty c w t n)
-act-empty (release j c w) b (inr n) = changed (releasedTask c w) j b (λ t e. pools-empty t (releasedTask c w t) (released-pools c w t (rw e n)))
-act-empty (suspend j) b d = changed (λ t. with-state (halted (t .state)) t) j b (λ t e. pools-empty t (with-state (halted (t .state)) t) (halted-pools t))
-act-empty (resume j) b d = changed (λ t. with-state (resumed (t .state)) t) j b (λ t e. pools-empty t (with-state (resumed (t .state)) t) (resumed-pools t))
-act-empty (wakeups j n) b d = changed (with-wakeups n) j b (λ t e. pools-empty t (with-wakeups n t) (λ p. refl))
-act-empty (count s n) b d = λ i. empty-same (task b i)
-act-empty (pattern f n) b d = λ i. empty-same (task b i)
-act-empty (post j m) b d = λ i. empty-same (task b i)
-act-empty (receive j) b d = λ i. empty-same (task b i)
-act-empty (mark p k t) b d = absurd d
-act-empty elapse b d = λ i. map-each Empty-handed empty-same (λ t. with-state (older (t .state)) t) (λ t. pools-empty t (with-state (older (t .state)) t) (older-pools t)) (b .tasks) i nobody
-act-empty (nest h) b d = λ i. empty-same (task b i)
-act-empty (alarm k c s) b d = λ i. empty-same (task b i)
-
-act-pools : (a : Act) (b : Body) → Still-act b a → after a b .store .pools ≡ b .store .pools
-unfolding after
-act-pools (start j) b d = refl
-act-pools (retire j) b d = refl
-act-pools (create j n) b d = refl
-act-pools (delete j) b d = refl
-act-pools (rotate j) b d = refl
-act-pools (regrade j n) b d = refl
-act-pools (wait j x) b d = refl
-act-pools (release j c w) b d = refl
-act-pools (suspend j) b d = refl
-act-pools (resume j) b d = refl
-act-pools (wakeups j n) b d = refl
-act-pools (count s n) b d = refl
-act-pools (pattern f n) b d = refl
-act-pools (post j m) b d = refl
-act-pools (receive j) b d = refl
-act-pools (mark p k t) b d = absurd d
-act-pools elapse b d = refl
-act-pools (nest h) b d = refl
-act-pools (alarm k c s) b d = refl
+-- an act that lets nobody go
+calm-empty : {t u : Task} → Calm t u → Empty-handed t u
+calm-empty {t} {u} k = by-state t u (λ p e. go (isFreed (u .state)) (k .freed) (waits-not-freed (t .state) p e))
+  where
+    go : (f : Bool) → (f ≡ true → isFreed (t .state) ≡ true) → isFreed (t .state) ≡ false → f ≡ false
+    go true h n = absurd (false≢true (sym n ∙ h refl))
+    go false h n = refl
 
 -- ---- the lines of free blocks move by marks alone
 
@@ -194,27 +122,21 @@ elsewhere-moved c stay p l h = refl
 elsewhere-moved c (leave x) p l h = rw (h p) (keep-all l)
 elsewhere-moved c (last x) p l h = rw (h p) (append-nil _ ∙ keep-all l)
 
-act-elsewhere : (a : Act) (b : Body) → Still-act b a → (c : Body) → Elsewhere (move c a)
+simple-elsewhere : {a : Act} → Simple a → (c : Body) → Elsewhere (move c a)
 unfolding move
-act-elsewhere (start j) b d c = λ p. refl
-act-elsewhere (retire j) b d c = λ p. refl
-act-elsewhere (create j n) b d c = λ p. refl
-act-elsewhere (delete j) b d c = λ p. refl
-act-elsewhere (rotate j) b d c = λ p. refl
-act-elsewhere (regrade j n) b d c = regraded-move Elsewhere (aTask j) tt (λ p. refl) (task c j .state)
-act-elsewhere (wait j x) b d c = λ p. refl
-act-elsewhere (release j x w) b d c = released-move Elsewhere (aTask j) tt (λ p. refl) (λ p. refl) (task c j .state)
-act-elsewhere (suspend j) b d c = halted-move Elsewhere (aTask j) tt (λ p. refl) (task c j .state)
-act-elsewhere (resume j) b d c = resumed-move Elsewhere (aTask j) tt (λ p. refl) (task c j .state)
-act-elsewhere (wakeups j n) b d c = tt
-act-elsewhere (count s n) b d c = tt
-act-elsewhere (pattern f n) b d c = tt
-act-elsewhere (post j m) b d c = λ p. refl
-act-elsewhere (receive j) b d c = λ p. refl
-act-elsewhere (mark p k t) b d c = absurd d
-act-elsewhere elapse b d c = tt
-act-elsewhere (nest h) b d c = tt
-act-elsewhere (alarm k x s) b d c = tt
+simple-elsewhere of-retire c = λ p. refl
+simple-elsewhere of-create c = λ p. refl
+simple-elsewhere of-delete c = λ p. refl
+simple-elsewhere of-rotate c = λ p. refl
+simple-elsewhere (of-regrade {i = j}) c = regraded-move Elsewhere (aTask j) tt (λ p. refl) (task c j .state)
+simple-elsewhere of-wait c = λ p. refl
+simple-elsewhere (of-suspend {i = j}) c = halted-move Elsewhere (aTask j) tt (λ p. refl) (task c j .state)
+simple-elsewhere (of-resume {i = j}) c = resumed-move Elsewhere (aTask j) tt (λ p. refl) (task c j .state)
+simple-elsewhere of-wakeups c = tt
+simple-elsewhere of-count c = tt
+simple-elsewhere of-pattern c = tt
+simple-elsewhere of-post c = λ p. refl
+simple-elsewhere of-receive c = λ p. refl
 
 -- the acts leave these lines alone
 abbrev pub Unmoved : List Act → Type 0
@@ -256,27 +178,37 @@ aside-act b a (sets f n) = λ i p. refl
 aside-act b a elapses = λ i. map-each Same-pools same-task (λ t. with-state (older (t .state)) t) older-pools (b .tasks) i nobody
 aside-act b a (rung k c s) = λ i p. refl
 
-aside-still : (b : Body) (a : Act) → Aside b a → Still-act b a
-aside-still b a (frees j d w n) = inr n
-aside-still b a (begins j d) = d
-aside-still b a (counts j n) = tt
-aside-still b a (sets f n) = tt
-aside-still b a elapses = tt
-aside-still b a (rung k c s) = tt
+aside-pools : (b : Body) (a : Act) → Aside b a → after a b .store .pools ≡ b .store .pools
+unfolding after
+aside-pools b a (frees j d w n) = refl
+aside-pools b a (begins j d) = refl
+aside-pools b a (counts j n) = refl
+aside-pools b a (sets f n) = refl
+aside-pools b a elapses = refl
+aside-pools b a (rung k c s) = refl
+
+aside-elsewhere : (b : Body) (a : Act) → Aside b a → (c : Body) → Elsewhere (move c a)
+unfolding move
+aside-elsewhere b a (frees j d w n) c = released-move Elsewhere (aTask j) tt (λ p. refl) (λ p. refl) (task c j .state)
+aside-elsewhere b a (begins j d) c = λ p. refl
+aside-elsewhere b a (counts j n) c = tt
+aside-elsewhere b a (sets f n) c = tt
+aside-elsewhere b a elapses c = tt
+aside-elsewhere b a (rung k x s) c = tt
 
 asides-act : (l : List Act) (b : Body) → Asides b l → Pools-kept b (afters l b) × (afters l b .store .pools ≡ b .store .pools)
 unfolding afters
 asides-act [] b g = ((λ i p. refl), refl)
 asides-act (a ∷ l) b g =
     let r = asides-act l (after a b) (g .1) in
-    ((λ i p. r .0 i p ∙ aside-act b a (g .0) i p), r .1 ∙ act-pools a b (aside-still b a (g .0)))
+    ((λ i p. r .0 i p ∙ aside-act b a (g .0) i p), r .1 ∙ aside-pools b a (g .0))
 
 asides-unmoved : (l : List Act) (b : Body) → Asides b l → Unmoved l
 unfolding acts
 asides-unmoved [] b g v p r = refl
 asides-unmoved (a ∷ l) b g v p r =
     asides-unmoved l (after a b) (g .1) (act a v) p (rw (body-act a v) (exists-before a (v .body) (freeIn p) r))
-    ∙ act-unmoved a (act-elsewhere a b (aside-still b a (g .0))) v p r
+    ∙ act-unmoved a (aside-elsewhere b a (g .0)) v p r
 
 -- ---- a verdict that hands nothing over and leaves the pools alone
 
@@ -289,19 +221,28 @@ still-none : (b : Body) → Still b []
 unfolding afters acts
 still-none b = record { pools = refl; empty = λ i. empty-same (task b i); unmoved = λ v p r. refl }
 
-still-one : (b : Body) (a : Act) → Still-act b a → Still b (a ∷ [])
+still-simple : (b : Body) {a : Act} → Simple a → Still b (a ∷ [])
 unfolding afters acts
-still-one b a g = record { pools = act-pools a b g; empty = act-empty a b g; unmoved = λ v p r. act-unmoved a (act-elsewhere a b g) v p r }
+still-simple b {a} g = record { pools = simple-leaves b g .2; empty = λ i. calm-empty (simple-calm b g i); unmoved = λ v p r. act-unmoved a (simple-elsewhere g) v p r }
+
+still-broken : (b : Body) (i : ℕ) → Still b (release i E-RLWAI 0 ∷ [])
+unfolding afters after ok number
+still-broken b i = record {
+  pools = refl;
+  empty = change-each Empty-handed empty-same (releasedTask E-RLWAI 0) i b (λ t e. refused-empty E-RLWAI 0 t refl);
+  unmoved = release-unmoved i E-RLWAI 0;
+}
+
+still-nest : (b : Body) (h : Handlers) → Still b (nest h ∷ [])
+unfolding afters after acts move
+still-nest b h = record { pools = refl; empty = λ i. empty-same (task b i); unmoved = λ v p r. act-unmoved (nest h) (λ c. tt) v p r }
 
 still-list : (b : Body) (l : List Act) → Asides b l → Still b l
 still-list b l g = let r = asides-act l b g in
     record { pools = r .1; empty = λ i. pools-empty (task b i) (task (afters l b) i) (r .0 i); unmoved = asides-unmoved l b g }
 
--- the same as a property of verdicts
-abbrev StillVerdict : Body → Verdict → Type 0
-StillVerdict b r = OnActs (Still b) r
-
-ruleset calm = (acts-check, acts-choose, acts-first, acts-count, acts-wait, on-acts, still-none, still-one, not-false)
+still-aside : (b : Body) {a : Act} → Aside b a → Still b (a ∷ [])
+still-aside b {a} g = still-list b (a ∷ []) (g, tt)
 
 -- ---- who is released by other calls waits on no pool
 
@@ -336,11 +277,6 @@ module _ (v : View) (s : Sound v) where
   other-kind : (k : Kind) (o : ℕ) → sameKind k pool ≡ false → (x : ℕ) → awaits (task (v .body) x .state) k o ≡ true → No-pool (task (v .body) x .state)
   other-kind k o n x e p = waits-other (waitOf (task (v .body) x .state)) k pool o p e ∙ rw n
 
-  still-to-first : (k : Kind) (a : ℤ) (w : ℕ) (r : Verdict) → sameKind k pool ≡ false → outside a (objects (v .body .store) k) ≡ false
-      → StillVerdict (v .body) r → StillVerdict (v .body) (to-first v k a w r)
-  unfolding to-first
-  still-to-first k a w r n o h = acts-first (λ e. h) (λ x m e. on-acts (still-one _ (release x OK w) (inr (other-kind k (nat a) n x (waiter-waits k (nat a) (in-by a _ o) x m e)))))
-
   -- set_flg
   flag-asides : (c : Body) (f have : ℕ) (l : List ℕ) → Off-pools c l → Asides c (serve-flag (v .body) f have l)
   flag-asides c f have [] h = (sets f have, tt)
@@ -353,10 +289,9 @@ module _ (v : View) (s : Sound v) where
       go true g k = (frees x OK have (h x (times-head x l)), g)
       go false g k = k
 
-  still-set : (a b : ℤ) → outside a (objects (v .body .store) flag) ≡ false → StillVerdict (v .body) (set-flg v a b)
-  unfolding set-flg belongs
-  still-set a b o =
-      on-acts (still-list (v .body) _ (flag-asides (v .body) (nat a) _ (line v (waiters flag (nat a))) (λ x z. other-kind flag (nat a) refl x (stands-belongs v s (waiters flag (nat a)) (in-by a _ o) x z))))
+  still-walk : (f have : ℕ) → In f (length (v .body .store .flags)) → Still (v .body) (serve-flag (v .body) f have (line v (waiters flag f)))
+  unfolding belongs
+  still-walk f have r = still-list (v .body) _ (flag-asides (v .body) f have (line v (waiters flag f)) (λ x z. other-kind flag f refl x (stands-belongs v s (waiters flag f) r x z)))
 
 -- the tick
 lapse-asides : (b : Body) (l : List ℕ) → Off-pools b l → Asides b (map timeout l ++ elapse ∷ [])
@@ -471,12 +406,6 @@ hand-balance b i q j e p k =
 
 -- ---- what an event deals out: nothing; a block that is granted, returned to the free ones, or handed over to a waiter
 
--- block j of pool q is out
-pub record OutBlock (b : Body) (q j : ℕ) : Type 0 where
-  pub pool : In q (length (b .store .pools))
-  pub block : In j (length (of (b .store .pools) q []))
-  pub out : isFree b q j ≡ false
-
 module _ (v : View) (e : Event) where
   -- the answer says that no block is taken; that this one is; the same of a return
   abbrev pub NoneTaken : Verdict → Type 0
@@ -499,101 +428,44 @@ module _ (v : View) (e : Event) where
     hand : (q j i : ℕ) → NoneTaken (done (release i OK j ∷ [])) → Returned (done (release i OK j ∷ [])) q j → OutBlock (v .body) q j
         → awaits (task (v .body) i .state) pool q ≡ true → Deal (done (release i OK j ∷ []))
 
--- ---- every call
+-- ---- a call
 
-module _ (v : View) (s : Sound v) (x a y z : ℤ) where
-  -- at call n
-  abbrev Deals : ℤ → Verdict → Type 0
-  Deals n r = Deal v (call x n a y z) r
+finds-still : {v : View} {a p n : ℤ} {d : Act} → Sound v → Finds v a p n d → Still (v .body) (d ∷ [])
+finds-still {v} s (simple g f) = still-simple (v .body) g
+finds-still {v} s (rouses g e) = still-aside (v .body) (firing-aside (v .body) _ g)
+finds-still {v} {a} s (breaks e w) = still-broken (v .body) (nat a)
+finds-still {v} {a} s (serves k {w} {i} {m} o r z e) = still-aside (v .body) (frees i OK w (other-kind v s k (nat a) o i (waiter-waits v s k (nat a) r i m e)))
+finds-still {v} s (alarm-sets {c} {s = x} o f) = still-aside (v .body) (rung _ c x)
+
+module _ {v : View} {n : ℤ} (s : Sound v) (x a p c : ℤ) where
+  -- a call on no block
+  others : (r : Verdict) → deals n ≡ false → Still (v .body) (r .acts) → Deal v (call x n a p c) r
+  others r q g = let o = neither (is n 23 || is n 24) (is n 25) q in nothing r (λ i k. rw (o .0)) (λ i k. rw (o .1)) g
 
   -- a code that is not 0 takes nothing and returns nothing
-  no-way : (n : ℤ) (c : Code) → bad c ≡ true → Deals n (refuse c)
+  not-done : (r : Verdict) → ok (r .code) ≡ false → Still (v .body) (r .acts) → Deal v (call x n a p c) r
   unfolding ok
-  no-way n c e = nothing (refuse c) (λ p k. rw (bad-not-ok c e) (and-false (is n 23 || is n 24))) (λ p k. rw (bad-not-ok c e) (and-false (is n 25))) (still-none (v .body))
+  not-done r e g = nothing r (λ i k. rw e (and-false (is n 23 || is n 24))) (λ i k. rw e (and-false (is n 25))) g
 
-  quiet : {n : ℤ} {r : Verdict} → is n 23 ≡ false → is n 24 ≡ false → is n 25 ≡ false → StillVerdict (v .body) r → Deals n r
-  quiet {r} c d e (on-acts g) = nothing r (λ p k. rw (c, d)) (λ p k. rw e) g
-
-  -- a call that waits takes nothing and returns nothing
-  waits-deal : {n : ℤ} (me : ℕ) (q : Kind) (o : ℤ) → Deals n (waits-on me q o)
-  unfolding number
-  waits-deal {n} me q o = nothing (waits-on me q o) (λ p k. and-false (is n 23 || is n 24)) (λ p k. and-false (is n 25)) (still-one (v .body) (wait me (on q (nat o) 0 0)) tt)
-
-  -- get_blk and pget_blk: the first of the free ones
-  takes : {n : ℤ} {other : Verdict} → (is n 23 || is n 24) ≡ true → is n 25 ≡ false → outside a (objects (v .body .store) pool) ≡ false → Deals n other → Deals n (take-blk v a other)
-  unfolding take-blk number
-  takes c d o h = by-first Deals no-way (λ e. h) (λ j m e. grant (nat a) j m (λ p k. rw c) (λ p k. rw d) (in-by a _ o) e)
-
-  -- rel_blk: to the first waiter, else free
-  gives-back : outside a (objects (v .body .store) pool) ≡ false → Deals (pos 25) (rel-blk v a y)
-  unfolding rel-blk to-first number bad
-  gives-back o =
-      by-check Deals no-way _ refl (λ e. let n = neither (outside y (length (blocksOf v a))) (of (blocksOf v a) (nat y) true) e in
-      let b : OutBlock (v .body) (nat a) (nat y) = record { pool = in-by a _ o; block = in-by y _ (n .0); out = n .1 } in
-      by-first Deals no-way (λ w. free (nat a) (nat y) (λ p k. refl) (λ p k. refl) b)
-      (λ i m w. hand (nat a) (nat y) i (λ p k. refl) (λ p k. refl) b (waiter-waits v s pool (nat a) (in-by a _ o) i m w)))
-
-  module _ (h : Bool) (me : ℕ) where
-    rows : AllRows Deals v h me 1 (table v me a y z)
-    unfolding table staTsk extTsk terTsk chgPri rotRdq relWai susTsk rsmTsk slpTsk waiTsk wupTsk canWup sigSem waiSem preqSem setFlg clrFlg waiFlg polFlg sndMsg rcvMsg prcvMsg getBlk pgetBlk relBlk getTid tskSts semSts flgSts mbxSts mplSts getTim creTsk delTsk exdTsk setAbs setRel canAlm almSts starting sta-tsk ext-tsk ter-tsk chg-pri rot-rdq rel-wai sus-tsk rsm-tsk take-wakeup slp-tsk wai-tsk waking wup-tsk can-wup get-tid tsk-sts cre-tsk del-tsk exd-tsk obj-sts sig-sem take-sem clr-flg take-flg snd-msg take-msg get-tim set-alm set-abs set-rel can-alm alm-sts bad ok number
-    rows =
-        (λ t. quiet refl refl refl (search calm depth 9))
-        ⊗ (λ t. quiet refl refl refl (search calm depth 9))
-        ⊗ (λ t. quiet refl refl refl (search calm depth 9))
-        ⊗ (λ t. quiet refl refl refl (search calm depth 9))
-        ⊗ (λ t. quiet refl refl refl (search calm depth 9))
-        ⊗ (λ t. quiet refl refl refl (acts-check _ (still-none _) (λ e. on-acts (still-one _ (release (nat a) E-RLWAI 0) (inl refl)))))
-        ⊗ (λ t. quiet refl refl refl (search calm depth 9))
-        ⊗ (λ t. quiet refl refl refl (search calm depth 9))
-        ⊗ (λ t. quiet refl refl refl (search calm depth 9))
-        ⊗ (λ t. quiet refl refl refl (search calm depth 9))
-        ⊗ (λ t. quiet refl refl refl (acts-choose (λ e. on-acts (still-one _ (release (nat a) OK 0) (inr (sleeper-no-pool (waitOf (stateOf v a)) e)))) (λ e. search calm depth 9)))
-        ⊗ (λ t. quiet refl refl refl (search calm depth 9))
-        ⊗ (λ t. quiet refl refl refl (still-to-first v s semaphore a 0 _ refl (t .words .0) (search calm depth 9)))
-        ⊗ (λ t. quiet refl refl refl (search calm depth 9))
-        ⊗ (λ t. quiet refl refl refl (search calm depth 9))
-        ⊗ (λ t. quiet refl refl refl (still-set v s a y (t .words .0)))
-        ⊗ (λ t. quiet refl refl refl (search calm depth 9))
-        ⊗ (λ t. quiet refl refl refl (search calm depth 9))
-        ⊗ (λ t. quiet refl refl refl (search calm depth 9))
-        ⊗ (λ t. quiet refl refl refl (acts-check _ (still-none _) (λ e. still-to-first v s mailbox a (nat y) _ refl (t .words .0) (search calm depth 9))))
-        ⊗ (λ t. quiet refl refl refl (search calm depth 9))
-        ⊗ (λ t. quiet refl refl refl (search calm depth 9))
-        ⊗ (λ t. takes refl refl (t .words .0) (waits-deal me pool a))
-        ⊗ (λ t. takes refl refl (t .words .0) (no-way (pos 24) H-POLL refl))
-        ⊗ (λ t. gives-back (t .words .0))
-        ⊗ (λ t. quiet refl refl refl (search calm depth 9))
-        ⊗ (λ t. quiet refl refl refl (search calm depth 9))
-        ⊗ (λ t. quiet refl refl refl (search calm depth 9))
-        ⊗ (λ t. quiet refl refl refl (search calm depth 9))
-        ⊗ (λ t. quiet refl refl refl (search calm depth 9))
-        ⊗ (λ t. quiet refl refl refl (search calm depth 9))
-        ⊗ (λ t. quiet refl refl refl (search calm depth 9))
-        ⊗ (λ t. quiet refl refl refl (search calm depth 9))
-        ⊗ (λ t. quiet refl refl refl (search calm depth 9))
-        ⊗ (λ t. quiet refl refl refl (search calm depth 9))
-        ⊗ (λ t. quiet refl refl refl (search calm depth 9))
-        ⊗ (λ t. quiet refl refl refl (search calm depth 9))
-        ⊗ (λ t. quiet refl refl refl (search calm depth 9))
-        ⊗ (λ t. quiet refl refl refl (search calm depth 9))
-        ⊗ tt
+  way-deal : {r : Verdict} → Way v a p n r → Deal v (call x n a p c) r
+  unfolding ok number
+  way-deal (refused d e) = not-done _ (bad-not-ok d e) (still-none (v .body))
+  way-deal (looked q) = others _ q (still-none (v .body))
+  way-deal (acted q f) = others _ q (finds-still s f)
+  way-deal (waited f) = not-done _ refl (still-simple (v .body) of-wait)
+  way-deal (walked have q i z) = others _ q (still-walk v s (nat a) have i)
+  way-deal (granted {j} {m} y z i e) = grant (nat a) j m (λ i k. rw y) (λ i k. rw z) i e
+  way-deal (block-freed e o l) = free (nat a) (nat p) (λ i k. rw e) (λ i k. rw e) o
+  way-deal (way-handed {i} {m} e o l) = hand (nat a) (nat p) i (λ i k. rw e) (λ i k. rw e) o (waiter-waits v s pool (nat a) (o .pool) i m l)
 
 -- ---- an event
 
-enter-still : (v : View) → StillVerdict (v .body) (entered v)
-unfolding entered
-enter-still v = search calm depth 9
-
-exit-still : (v : View) → StillVerdict (v .body) (exited v)
-unfolding exited
-exit-still v = search calm depth 9
-
 pub event-deal : (v : View) → Sound v → (e : Event) → Deal v e (judge v e)
-unfolding judge ticked
+unfolding judge ticked entered exited
 event-deal v s tick = nothing _ (λ p k. refl) (λ p k. refl) (tick-still (v .body) _)
-event-deal v s enter = elim (enter-still v) [ on-acts g ↦ nothing _ (λ p k. refl) (λ p k. refl) g ]
-event-deal v s exit = elim (exit-still v) [ on-acts g ↦ nothing _ (λ p k. refl) (λ p k. refl) g ]
-event-deal v s (call x n a y z) = by-call (Deals v s x a y z) (no-way v s x a y z) v a y z (λ h. rows v s x a y z (handles v h) (caller v h)) x n
+event-deal v s enter = nothing _ (λ p k. refl) (λ p k. refl) (checked-acts (Still (v .body)) _ _ _ (still-none (v .body)) (λ e. still-nest (v .body) _))
+event-deal v s exit = nothing _ (λ p k. refl) (λ p k. refl) (checked-acts (Still (v .body)) _ _ _ (still-none (v .body)) (λ e. still-nest (v .body) _))
+event-deal v s (call x n a p c) = way-deal s x a p c (call-way v x n a p c)
 
 -- ---- the accounts
 

@@ -24,7 +24,7 @@ use Rattle.rules.specs.Check.{sound?}
 use Rattle.rules.specs.Breach.{Breach, breach-at, Ranged, ranged?, ofTasks, InPlace, some?, served-beside, Alone, held, HeldOnce, Listed, Rule, is-yes, rulesOf, firstBad, unless, firstOf, breachBy, breach, BrokenAt, Kept, AllKept, First, MarksFit, Named, by-number, by-rule, by-mark}
 use Rattle.rules.specs.Kernel.{served, damaged, guarded, event, guardedCell, cell}
 use Rattle.rules.proofs.Queues.{empty-line-belongs, first-belongs}
-use Rattle.rules.proofs.Calls.{nowhere-lies}
+use Rattle.rules.proofs.Waiters.{nowhere-lies}
 use Rattle.rules.proofs.Events.{event-damaged}
 use Rattle.rules.proofs.Clean.{judge-not-damage}
 

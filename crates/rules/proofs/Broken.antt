@@ -26,7 +26,7 @@ use Rattle.rules.proofs.Ids.{of-put-same, length-put}
 use Rattle.rules.proofs.Sizes.{sizes-afters}
 use Rattle.rules.proofs.Waits.{in-by, neither}
 use Rattle.rules.proofs.States.{freed-tells}
-use Rattle.rules.proofs.Cells.{body-acts, Kept, nothing, one, list-kept}
+use Rattle.rules.proofs.Cells.{body-acts, Kept, nothing, one, of-wait, list-kept}
 use Rattle.rules.proofs.Clean.{refused, given, waited, CleanEvent, clean-verdict, nests, judge-clean}
 use Rattle.rules.proofs.Events.{event-served, event-next, cell-reads, sound-event}
 
@@ -36,7 +36,7 @@ clean-kept : (b : Body) (r : Verdict) → CleanEvent b r → (i : ℕ) → Kept 
 unfolding after afters
 clean-kept b r (clean-verdict (refused c n)) = list-kept b [] nothing
 clean-kept b r (clean-verdict (given x y l g)) = list-kept b l g
-clean-kept b r (clean-verdict (waited i w)) = list-kept b _ (one (wait i w) tt)
+clean-kept b r (clean-verdict (waited i w)) = list-kept b (wait i w ∷ []) (one of-wait)
 clean-kept b r (nests h) = λ i. inl refl
 
 -- a task whose cell an event changed was released or started by it, or is not there after, as the states before and after tell

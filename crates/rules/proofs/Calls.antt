@@ -1,45 +1,42 @@
--- Every event keeps a sound state sound: it is a list of acts, each of which finds what it needs. Shown over the forms of verdicts,
--- then call by call.
+-- Every event keeps a sound state sound: it is a list of acts, each of which finds what it needs. Of a call by the ways in which it ends.
 use mathlib.Core.Bool.{Bool, true, false, cond, not, false≢true}
 use mathlib.Core.List.{List, [], _∷_, _++_, map}
 use mathlib.Core.Logic.{_⊎_, inl, inr, _≢_}
 use mathlib.Core.Option.{Option, none, some}
 use mathlib.Core.Path.{_≡_, refl, sym, ap, _∙_, subst}
-use Prim.Native.Nat.{ℕ, zero, suc, _+_, _*_, _/_, _%_, _^_, _≤_, _<_, min}
-use native.Mathlib.Nat.{le-refl, mod-lt}
+use Prim.Native.Nat.{ℕ, zero, suc, _+_, _^_, _<_}
+use native.Mathlib.Nat.{mod-lt}
 use native.Mathlib.Omega.{arith}
-use lib.Arith.{half-le}
-use lib.Bits.{bitAnd, and-step, and-shr, and-mod, and-le-l, and-le-r, or-lt}
-use lib.Dec.{eqb, leb, lit<}
-use lib.IntN.{ℤ, pos, negsuc}
+use lib.Dec.{eqb, lit<}
+use lib.IntN.{ℤ}
 use lib.ListN.{length}
-use borrow.Author.Tests.{eqb-true, eqb-false, eq-eqb, ne-eqb, leb-false, not-false}
-use Rattle.rules.specs.Ids.{of, from, ids, In, once, times}
+use borrow.Author.Tests.{eqb-true, leb-false}
+use Rattle.rules.specs.Ids.{from, ids, In, once, times}
 use Rattle.rules.specs.Codes.{Code, OK, E-TMOUT}
-use Rattle.rules.specs.State.{Kind, semaphore, flag, mailbox, pool, Wait, on, State, dormant, ready, suspended, absent, waiting, waiting-suspended, Task, no-handler, depth, Setting, unset, due, noAlarm, Counter, alarmOf, alarmCount, Body, task, nobody, objects, waitOf, isDormant, isAbsent, isReady, isWaiting, sleeps, wish}
-use Rattle.rules.specs.Places.{readyAt, waiters, mail, freeIn, belongs, awaits, lies}
+use Rattle.rules.specs.State.{Kind, flag, pool, Wait, State, dormant, ready, suspended, absent, waiting, waiting-suspended, Task, depth, Setting, unset, due, noAlarm, Counter, alarmOf, Body, task, nobody, objects, waitOf, isDormant, isAbsent, isWaiting, sleeps, wish}
+use Rattle.rules.specs.Places.{waiters, freeIn, many, population, belongs}
 use Rattle.rules.specs.Setup.{Entry, Setup}
-use Rattle.rules.specs.Events.{Event, tick, enter, exit, call, Word, Words, nat, bits, outside, above}
-use Rattle.rules.specs.Acts.{Act, start, wait, release, wakeups, mark, elapse, after, afters, started, freed, releasedTask, with-state, with-cell}
-use Rattle.rules.specs.View.{View, line, best, act, acts}
-use Rattle.rules.specs.Verdicts.{Verdict, waits}
-use Rattle.rules.specs.Tasks.{stateOf, starting, sta-tsk, ext-tsk, ter-tsk, chg-pri, rot-rdq, rel-wai, sus-tsk, rsm-tsk, take-wakeup, slp-tsk, wai-for, wai-tsk, waking, wup-tsk, can-wup, get-tid, tsk-sts, cre-tsk, del-tsk, exd-tsk}
-use Rattle.rules.specs.Objects.{to-first, obj-sts, countOf, sig-sem, take-sem, patternOf, met, left, serve-flag, set-flg, clr-flg, take-flg, snd-msg, take-msg, blocksOf, free, take-blk, rel-blk}
-use Rattle.rules.specs.Alarms.{fires, again, rings, set-alm, set-abs, set-rel, can-alm, alm-sts}
-use Rattle.rules.specs.Time.{get-tim, ending, endings, timeout, lapse, ticked}
+use Rattle.rules.specs.Events.{Event, tick, enter, exit, call, Word, Words, nat}
+use Rattle.rules.specs.Acts.{Act, start, release, wakeups, mark, elapse, after, afters, started, freed, releasedTask, with-state, with-cell}
+use Rattle.rules.specs.View.{View, line, act, acts}
+use Rattle.rules.specs.Verdicts.{Verdict}
+use Rattle.rules.specs.Objects.{met, left, serve-flag}
+use Rattle.rules.specs.Alarms.{fires, again, rings}
+use Rattle.rules.specs.Time.{ending, endings, timeout, lapse, ticked}
 use Rattle.rules.specs.Handling.{entered, exited}
-use Rattle.rules.specs.Rows.{staTsk, extTsk, terTsk, chgPri, rotRdq, relWai, susTsk, rsmTsk, slpTsk, waiTsk, wupTsk, canWup, sigSem, waiSem, preqSem, setFlg, clrFlg, waiFlg, polFlg, sndMsg, rcvMsg, prcvMsg, getBlk, pgetBlk, relBlk, getTid, tskSts, semSts, flgSts, mbxSts, mplSts, getTim, creTsk, delTsk, exdTsk, setAbs, setRel, canAlm, almSts}
-use Rattle.rules.specs.Table.{table, caller, handles, judge}
-use Rattle.rules.specs.Sound.{WishNumbers, WaitNumbers, anyLies, would-serve, Unserved, AllUnserved, SettingFits, SoundBody, Sound}
+use Rattle.rules.specs.Table.{judge}
+use Rattle.rules.specs.Sound.{Known, SettingFits, SoundBody, Sound}
 use Rattle.rules.specs.Kernel.{frees, starts, begins, next}
-use Rattle.rules.proofs.Ids.{of-put-other, put-all, put-either, inside, tested, times-keep, times-ids}
-use Rattle.rules.proofs.Keeps.{NoneAt, Asks, Pre, asks-waits, sound-after}
-use Rattle.rules.proofs.Queues.{sound-act, body-act, empty-belongs, none-waits, belongs-stands, first-ready, best-ready}
-use Rattle.rules.proofs.Handling.{calls-alone, caller-ready, inner-fits, outer-fits}
-use Rattle.rules.proofs.Firings.{Along, along-append, along-keeps, FiringAct, starts as begun, wakes, stores, keeps, rings-acts}
+use Rattle.rules.proofs.Ids.{length-put, of-put-other, put-all, put-either, tested, times-keep, times-ids}
+use Rattle.rules.proofs.Keeps.{NoneAt, Asks, Pre, Names, Ready, asks-waits, sound-after}
+use Rattle.rules.proofs.Queues.{sound-act, body-act, first-belongs, none-waits, belongs-stands}
+use Rattle.rules.proofs.Handling.{inner-fits, outer-fits}
+use Rattle.rules.proofs.Firings.{Along, along-append, along-map, along-both, along-keeps, FiringAct, starts as begun, wakes, stores, keeps, rings-acts}
 use Rattle.rules.proofs.States.{there-by}
-use Rattle.rules.proofs.Waits.{in-by, waits-asks}
-use Rattle.rules.proofs.Judge.{_⊗_, AllRows, OnActs, on-acts, acts-check, acts-choose, acts-first, acts-count, acts-call}
+use Rattle.rules.proofs.Judge.{checked-acts}
+use Rattle.rules.proofs.Fits.{in-range}
+use Rattle.rules.proofs.Waiters.{nat-small, asks-well, left-unmet, left-small}
+use Rattle.rules.proofs.Ways.{Finds, simple, rouses, breaks, serves, sets, Way, refused, looked, acted, waited, walked, granted, freed as block-freed, handed, call-way}
 
 -- ---- a list of acts, each of which finds what it needs
 
@@ -92,126 +89,6 @@ frees-steps b p (n ∷ l) m h g = marks-steps b p 1 n (frees (suc p) l) m h (λ 
 pub begins-steps : (b : Body) (u : Setup) → Unstarted b → Steps b (begins u)
 unfolding begins
 begins-steps b u h = frees-steps b 1 (u .pools) (starts 1 (u .tasks)) h (λ c k. starts-steps c 1 (u .tasks) (k .1))
-
--- ---- verdicts whose acts find what they need
-
-abbrev Fine : Body → Verdict → Type 0
-Fine b r = OnActs (Steps b) r
-
--- ---- words
-
-at-most : (m : ℤ) (n : ℕ) → above m n ≡ false → nat m ≤ n
-at-most (pos k) n e = omega (arith, leb-false (suc n) k e)
-at-most (negsuc k) n e = omega arith
-
-nat-small : (a : ℤ) → Word a → nat a < 2 ^ 32
-nat-small (pos n) h = omega arith
-nat-small (negsuc n) h = lit< tt
-
-bits-small : (a : ℤ) → Word a → bits a < 2 ^ 32
-bits-small (pos n) h = omega arith
-bits-small (negsuc n) h = omega arith
-
--- ---- what a sound state says
-
-module _ (b : Body) (h : SoundBody b) (z : AllUnserved b) where
-  -- whoever asks something of an object does so in order, and is not served
-  asks-well : (i : ℕ) (k : Kind) (o p m : ℕ) → Asks b i k o p m → WishNumbers k p m × (would-serve (b .store) k o p m ≡ false)
-  asks-well i k o p m e = (subst (WaitNumbers (b .store)) e (h .tasks i there .wait) .1, subst (Unserved (b .store)) e (z i there))
-    where
-      there : In i (length (b .tasks))
-      there = tested (λ t. awaits (t .state) k o) (b .tasks) i nobody refl (asks-waits (waitOf (task b i .state)) k o p m e)
-
-  -- where a waiter would be served, there is none
-  none-by : (k : Kind) (o : ℕ) → ((p m : ℕ) → would-serve (b .store) k o p m ≡ false → ⊥) → NoneAt b k o
-  none-by k o f i = go (awaits (task b i .state) k o) refl
-    where
-      go : (t : Bool) → awaits (task b i .state) k o ≡ t → t ≡ false
-      go true e =
-          let w = waits-asks (waitOf (task b i .state)) k o e in
-          absurd (f (w .0) (w .1) (asks-well i k o (w .0) (w .1) (w .2) .1))
-      go false e = refl
-
-module _ (b : Body) (h : SoundBody b) where
-  wakeups-few : (i : ℕ) → task b i .wakeups ≤ 15
-  wakeups-few i = elim (inside (b .tasks) i nobody) [ inl r ↦ h .tasks i r .wakeups | inr e ↦ rw e (omega arith) ]
-
-  -- with a wake-up stored, a task neither sleeps nor is dormant
-  stored-awake : (i k : ℕ) → task b i .wakeups ≡ suc k → (isDormant (task b i .state) ≡ true → ⊥) × (sleeps (waitOf (task b i .state)) ≡ true → ⊥) × (isAbsent (task b i .state) ≡ true → ⊥)
-  stored-awake i k e = go (inside (b .tasks) i nobody)
-    where
-      go : In i (length (b .tasks)) ⊎ (task b i ≡ nobody) → (isDormant (task b i .state) ≡ true → ⊥) × (sleeps (waitOf (task b i .state)) ≡ true → ⊥) × (isAbsent (task b i .state) ≡ true → ⊥)
-      go (inl r) = (λ d. omega (arith, h .tasks i r .dormant d), λ s. omega (arith, h .tasks i r .sleeper s), λ x. omega (arith, h .tasks i r .absent x .2))
-      go (inr z) = let d : 0 ≡ suc k = ap (λ (t : Task). t .wakeups) (sym z) ∙ e in absurd (omega arith)
-
--- ---- pools and mailboxes
-
-none-free : (l : List Bool) → ((k : ℕ) → of l k false ≡ false) → free l ≡ 0
-none-free [] f = refl
-none-free (true ∷ l) f = absurd (false≢true (sym (f 1)))
-none-free (false ∷ l) f = none-free l later
-  where
-    later : (k : ℕ) → of l k false ≡ false
-    later zero = refl
-    later (suc k) = f (suc (suc k))
-
-pub nowhere-lies : (l : List (Option ℕ)) (m : ℕ) → ((j : ℕ) → lies (of l j none) m ≡ false) → anyLies l m ≡ false
-nowhere-lies [] m f = refl
-nowhere-lies (x ∷ l) m f = rw (f 1) (nowhere-lies l m (later f))
-  where
-    later : ((j : ℕ) → lies (of (x ∷ l) j none) m ≡ false) → (j : ℕ) → lies (of l j none) m ≡ false
-    later f zero = refl
-    later f (suc j) = f (suc (suc j))
-
--- ---- patterns
-
-digit-less : (A B a d x y z : ℕ) → A ≡ a * 2 + min x z → B ≡ d * 2 + min y z → a ≤ d → x ≤ y → A ≤ B
-digit-less A B a d x y z p q h k = omega arith
-
-and-less : (n h c p : ℕ) → h ≤ n → bitAnd (bitAnd h c) p ≤ bitAnd h p
-and-less zero h c p l = let e : h ≡ 0 = omega arith in rw e (omega arith)
-and-less (suc n) h c p l =
-    digit-less _ _ (bitAnd (bitAnd h c / 2) (p / 2)) (bitAnd (h / 2) (p / 2)) (bitAnd h c % 2) (h % 2) (p % 2) (and-step (bitAnd h c) p) (and-step h p)
-    (rw (and-shr h c 1) (and-less n (h / 2) (c / 2) (p / 2) (half-le l))) (rw (and-mod h c 1) (and-le-l (h % 2) (c % 2)))
-
--- a pattern with fewer bits meets less
-met-less : (h c p m : ℕ) → met h p m ≡ false → met (bitAnd h c) p m ≡ false
-met-less h c p m e = go (eqb (m % 2) 1) e
-  where
-    le : bitAnd (bitAnd h c) p ≤ bitAnd h p
-    le = and-less h h c p (le-refl h)
-
-    zero-below : {x y : ℕ} → y ≡ 0 → x ≤ y → x ≡ 0
-    zero-below d l = omega arith
-
-    squeeze : {x y z : ℕ} → x ≡ z → x ≤ y → y ≤ z → y ≡ z
-    squeeze d l r = omega arith
-
-    go : (t : Bool) → cond t (not (eqb (bitAnd h p) 0)) (eqb (bitAnd h p) p) ≡ false → cond t (not (eqb (bitAnd (bitAnd h c) p) 0)) (eqb (bitAnd (bitAnd h c) p) p) ≡ false
-    go true e = ap not (eq-eqb (bitAnd (bitAnd h c) p) 0 (zero-below (eqb-true (bitAnd h p) 0 (not-false (eqb (bitAnd h p) 0) e)) le))
-    go false e = ne-eqb (bitAnd (bitAnd h c) p) p (λ d. eqb-false (bitAnd h p) p e (squeeze d le (and-le-r h p)))
-
--- nobody who asks for something is met by an empty pattern
-pub met-zero : (p m : ℕ) → p ≢ 0 → met 0 p m ≡ false
-met-zero p m z = go (eqb (m % 2) 1)
-  where
-    go : (t : Bool) → cond t (not (eqb 0 0)) (eqb 0 p) ≡ false
-    go true = refl
-    go false = ne-eqb 0 p (λ e. z (sym e))
-
-left-unmet : (h p m k : ℕ) → p ≢ 0 → met h p m ≡ false → met (left h k) p m ≡ false
-left-unmet h p m k z e = go (leb 2 k)
-  where
-    go : (t : Bool) → met (cond t 0 h) p m ≡ false
-    go true = met-zero p m z
-    go false = e
-
-pub left-small : (h k : ℕ) → h < 2 ^ 32 → left h k < 2 ^ 32
-left-small h k r = go (leb 2 k)
-  where
-    go : (t : Bool) → cond t 0 h < 2 ^ 32
-    go true = lit< tt
-    go false = r
 
 -- ---- a release, seen from the task released and from another
 
@@ -300,6 +177,18 @@ module _ (b : Body) (f : ℕ) where
       go true e p q = (inl (refl, r), p)
       go false e p q = q e
 
+  -- and what it names is there
+  serve-names : (c : Body) (n have : ℕ) (l : List ℕ) → length (c .tasks) ≡ n → Known n l → In f (length (c .store .flags)) → Along Names c (serve-flag b f have l)
+  unfolding after
+  serve-names c n have [] e k r = (r, tt)
+  serve-names c n have (x ∷ l) e k r =
+      go (met have (wished x .0) (wished x .1)) (serve-names (after (release x OK have) c) n (left have (wished x .1)) l (length-put (c .tasks) x _ ∙ e) (k .1) r) (serve-names c n have l e (k .1) r)
+    where
+      go : (t : Bool) → Along Names (after (release x OK have) c) (serve-flag b f (left have (wished x .1)) l) → Along Names c (serve-flag b f have l)
+          → Along Names c (cond t (release x OK have ∷ serve-flag b f (left have (wished x .1)) l) (serve-flag b f have l))
+      go true g h = (subst (In x) (sym e) (k .0), g)
+      go false g h = h
+
 -- ---- the tick
 
 -- every wait that ends is still to come
@@ -353,275 +242,61 @@ rings-steps n k b h = along-keeps FiringAct Pre SoundBody (λ b a s f. (firing-p
 pub lapse-steps : (b : Body) → Steps b (lapse b)
 lapse-steps b = tick-steps b (endings b) (ends-come b)
 
--- where an alarm is there is a counter
-pub counted : (m n k : ℕ) → n ≡ alarmCount m → In k n → 0 < m
-counted zero n k e i = absurd (omega (arith, e, i .0, i .1))
-counted (suc m) n k e i = omega arith
+pub firing-names : (b : Body) (a : Act) → FiringAct b a → Names b a
+firing-names b a (begun i d) = tested (λ t. isDormant (t .state)) (b .tasks) i nobody refl d
+firing-names b a (wakes i d) = tested (λ t. sleeps (waitOf (t .state))) (b .tasks) i nobody refl d
+firing-names b a (stores i n d s m) = tested (λ t. not (isAbsent (t .state))) (b .tasks) i nobody refl (ap not n)
+firing-names b a (keeps k c f e) = fires-there (b .counter) k e
 
--- the calls on alarms
-module _ (v : View) (h : Sound v) (a : ℤ) (r : In (nat a) (length (v .body .counter .alarms))) where
-  some-size : 0 < v .body .counter .size
-  some-size = counted (v .body .counter .size) (length (v .body .counter .alarms)) (nat a) (h .body .counter .count) r
+-- ---- a call
 
-  alm-fine : (e : ℕ) (c : ℤ) → e < v .body .counter .size → above c (v .body .counter .size) ≡ false → Fine (v .body) (set-alm v a e c)
-  unfolding set-alm
-  alm-fine e c l p = acts-check _ tt (λ u. on-acts ((h .body .counter .alarms (nat a) r .kept, (l, at-most c _ p)), tt))
+module _ (v : View) (s : Sound v) where
+  -- who stands first in a queue is there
+  first-there : (k : Kind) (o x : ℕ) (m : List ℕ) → In o (objects (v .body .store) k) → line v (waiters k o) ≡ x ∷ m → In x (length (v .body .tasks))
+  unfolding population
+  first-there k o x m i e = in-range (v .body) (waiters k o) x (first-belongs v s (waiters k o) i x m e)
 
-  abs-fine : (x c : ℤ) → above c (v .body .counter .size) ≡ false → Fine (v .body) (set-abs v a x c)
-  unfolding set-abs
-  abs-fine x c p = alm-fine _ c (mod-lt (nat x) some-size) p
-
-  set-rel-fine : (x c : ℤ) → above c (v .body .counter .size) ≡ false → Fine (v .body) (set-rel v a x c)
-  unfolding set-rel
-  set-rel-fine x c p = alm-fine _ c (mod-lt (v .body .counter .now + nat x) some-size) p
-
-  can-alm-fine : Fine (v .body) (can-alm v a)
-  unfolding can-alm
-  can-alm-fine = acts-check _ tt (λ u. on-acts ((h .body .counter .alarms (nat a) r .kept, tt), tt))
-
--- ---- the calls on tasks
-
-module _ (v : View) (h : Sound v) where
-  abbrev b : Body
-  b = v .body
-
-  abbrev s : SoundBody (v .body)
-  s = h .body
-
-  starting-fine : (i : ℕ) → Fine b (starting b i)
-  unfolding starting
-  starting-fine i = acts-check _ tt (λ e. on-acts (λ r. there-by isDormant refl (task b i .state) (not-false _ e), tt))
-
-  sta-fine : (a : ℤ) → Fine b (sta-tsk v a)
-  unfolding sta-tsk
-  sta-fine a = starting-fine (nat a)
-
-  ext-fine : (me : ℕ) → b .handlers ≡ no-handler → isAbsent (task b me .state) ≡ false → Fine b (ext-tsk me)
-  unfolding ext-tsk
-  ext-fine me z x = on-acts ((z, x), tt)
-
-  ter-fine : (a : ℤ) → b .handlers ≡ no-handler → isAbsent (stateOf v a) ≡ false → Fine b (ter-tsk a)
-  unfolding ter-tsk
-  ter-fine a z x = on-acts ((z, x), tt)
-
-  chg-fine : (a p : ℤ) → In (nat p) (b .store .priorities) → isDormant (stateOf v a) ≡ false → isAbsent (stateOf v a) ≡ false → Fine b (chg-pri a p)
-  unfolding chg-pri
-  chg-fine a p r d x = on-acts ((r, d, x), tt)
-
-  rot-fine : (a : ℤ) → Fine b (rot-rdq v a)
-  unfolding rot-rdq
-  rot-fine a = acts-first (λ e. on-acts tt) (λ x m e. on-acts (turned (eqb (nat a) 0) (nat a) x m e, tt))
+  -- the walk of set_flg
+  walk-ready : (f have : ℕ) → In f (length (v .body .store .flags)) → have < 2 ^ 32 → Along Ready (v .body) (serve-flag (v .body) f have (line v (waiters flag f)))
+  unfolding belongs population
+  walk-ready f have i z =
+      along-both Pre Names (serve-flag (v .body) f have (line v (waiters flag f))) (v .body)
+      (serve-steps (v .body) f (v .body) have (line v (waiters flag f)) z
+      (λ j y m w. (w, asks-well (v .body) (s .body) (s .unserved) j flag f y m w .0 .0, inl (λ e. absurd (omega (arith, sym e ∙ stands j y m w))))))
+      (serve-names (v .body) f (v .body) _ have (line v (waiters flag f)) refl (s .queues (waiters flag f) i .known) i)
     where
-      turned : (t : Bool) (p x : ℕ) (m : List ℕ) → cond t (best v) (line v (readyAt p)) ≡ x ∷ m → isReady (task (v .body) x .state) ≡ true
-      turned true p x m e = best-ready v h x m e
-      turned false p x m e = first-ready v h p x m e
+      stands : (j y m : ℕ) → Asks (v .body) j flag f y m → times j (line v (waiters flag f)) ≡ 1
+      stands j y m w = belongs-stands (v .body) (waiters flag f) _ (s .queues (waiters flag f) i) j (asks-waits (waitOf (task (v .body) j .state)) flag f y m w)
 
-  rel-fine : (a : ℤ) → Fine b (rel-wai v a)
-  unfolding rel-wai
-  rel-fine a = acts-check _ tt (λ e. on-acts (inr (inr refl, refl), tt))
+module _ {v : View} {a p n : ℤ} (s : Sound v) (wa : Word a) (wp : Word p) where
+  finds-ready : {d : Act} → Finds v a p n d → Ready (v .body) d
+  finds-ready (simple g f) = f s wa wp
+  finds-ready (rouses g e) = (firing-pre (v .body) (s .body) g, firing-names (v .body) _ g)
+  finds-ready (breaks e w) = (inr (inr refl, refl), tested (λ t. isWaiting (t .state)) (v .body .tasks) (nat a) nobody refl w)
+  finds-ready (serves k {i = x} {m} o i z e) = (inl (refl, z wp), first-there v s k (nat a) x m i e)
+  finds-ready (sets o f) = f s wa wp
 
-  sus-fine : (a : ℤ) → Fine b (sus-tsk v a)
-  unfolding sus-tsk
-  sus-fine a = acts-check _ tt (λ e. on-acts (tt, tt))
-
-  rsm-fine : (a : ℤ) → Fine b (rsm-tsk v a)
-  unfolding rsm-tsk
-  rsm-fine a = acts-check _ tt (λ e. on-acts (tt, tt))
-
-  -- a sleeper has no wake-up stored
-  wakeup-fine : (me : ℕ) (r : Verdict) → (task b me .wakeups ≡ 0 → Fine b r) → Fine b (take-wakeup v me r)
-  unfolding take-wakeup
-  wakeup-fine me r f = acts-count f (λ k e. on-acts ((omega (arith, wakeups-few b s me), λ t. absurd (stored-awake b s me k e .0 t), λ t. absurd (stored-awake b s me k e .1 t), λ t. absurd (stored-awake b s me k e .2 t)), tt))
-
-  slp-fine : (me : ℕ) → b .handlers ≡ no-handler → isReady (task b me .state) ≡ true → Fine b (slp-tsk v me)
-  unfolding slp-tsk
-  slp-fine me z x = wakeup-fine me _ (λ e. on-acts ((z, λ r. (tt, tt, λ t. e), x), tt))
-
-  for-fine : (me : ℕ) (a : ℤ) → b .handlers ≡ no-handler → isReady (task b me .state) ≡ true → Word a → task b me .wakeups ≡ 0 → Fine b (wai-for me a)
-  unfolding wai-for
-  for-fine me (pos zero) z x w e = on-acts tt
-  for-fine me (pos (suc t)) z x w e = on-acts ((z, λ r. ((omega arith, omega arith), tt, λ t. e), x), tt)
-  for-fine me (negsuc t) z x w e = on-acts ((z, λ r. (tt, tt, λ t. e), x), tt)
-
-  wai-fine : (me : ℕ) (a : ℤ) → b .handlers ≡ no-handler → isReady (task b me .state) ≡ true → Word a → Fine b (wai-tsk v me a)
-  unfolding wai-tsk
-  wai-fine me a z x w = wakeup-fine me _ (for-fine me a z x w)
-
-  waking-fine : (i : ℕ) → isDormant (task b i .state) ≡ false → isAbsent (task b i .state) ≡ false → Fine b (waking b i)
-  unfolding waking
-  waking-fine i d n =
-      acts-choose (λ t. on-acts (inl (refl, lit< tt), tt))
-      (λ t. acts-check _ tt (λ k. on-acts ((omega (arith, leb-false 15 (task b i .wakeups) k), λ x. absurd (false≢true (sym d ∙ x)), λ x. absurd (false≢true (sym t ∙ x)), λ x. absurd (false≢true (sym n ∙ x))), tt)))
-
-  wup-fine : (a : ℤ) → isDormant (stateOf v a) ≡ false → isAbsent (stateOf v a) ≡ false → Fine b (wup-tsk v a)
-  unfolding wup-tsk
-  wup-fine a d n = waking-fine (nat a) d n
-
-  can-fine : (a : ℤ) → Fine b (can-wup v a)
-  unfolding can-wup
-  can-fine a = on-acts ((omega arith, λ x. refl, λ x. refl, λ x. refl), tt)
-
-  cre-fine : (a p : ℤ) → b .handlers ≡ no-handler → In (nat p) (b .store .priorities) → Fine b (cre-tsk v a p)
-  unfolding cre-tsk
-  cre-fine a p z r = acts-check _ tt (λ e. on-acts ((z, r), tt))
-
-  del-fine : (a : ℤ) → b .handlers ≡ no-handler → Fine b (del-tsk v a)
-  unfolding del-tsk
-  del-fine a z = acts-check _ tt (λ e. on-acts (z, tt))
-
-  exd-fine : (me : ℕ) → b .handlers ≡ no-handler → Fine b (exd-tsk me)
-  unfolding exd-tsk
-  exd-fine me z = on-acts (z, tt)
-
--- ---- the calls on objects
-
-module _ (v : View) (h : Sound v) (a : ℤ) where
-  -- the word names an object of that kind
-  abbrev There : Kind → Type 0
-  There k = In (nat a) (objects (v .body .store) k)
-
-  -- the first waiter is served; if there is none, nobody waits
-  first-fine : (k : Kind) (w : ℕ) (r : Verdict) → There k → w < 2 ^ 32 → (NoneAt (v .body) k (nat a) → Fine (v .body) r) → Fine (v .body) (to-first v k a w r)
-  unfolding to-first
-  first-fine k w r i z f = acts-first (λ e. f (none-waits v h k (nat a) i e)) (λ x m e. on-acts (inl (refl, z), tt))
-
-  -- a caller whom the object would not serve may wait on it
-  waits-fine : (me : ℕ) (k : Kind) (p m : ℕ) → v .body .handlers ≡ no-handler → isReady (task (v .body) me .state) ≡ true → There k → WishNumbers k p m → would-serve (v .body .store) k (nat a) p m ≡ false
-      → Fine (v .body) (waits me (on k (nat a) p m))
-  waits-fine me k p m z x i w n = on-acts ((z, λ r. ((i, w), n, λ t. absurd (false≢true t)), x), tt)
-
-  sig-fine : There semaphore → Fine (v .body) (sig-sem v a)
-  unfolding sig-sem
-  sig-fine i = first-fine semaphore 0 _ i (lit< tt) (λ n. acts-check _ tt (λ k. on-acts ((omega (arith, leb-false 65535 (countOf v a) k), inr n), tt)))
-
-  sem-fine : (r : Verdict) → There semaphore → (countOf v a ≡ 0 → Fine (v .body) r) → Fine (v .body) (take-sem v a r)
-  unfolding take-sem
-  sem-fine r i f =
-      acts-count f (λ k e. on-acts (
-        (
-          omega (arith, h .body .store .semaphores (nat a) i),
-          inr (none-by (v .body) (h .body) (h .unserved) semaphore (nat a) (λ p m g. omega (arith, eqb-true (countOf v a) 0 (not-false _ g)))),
-        ),
-        tt,
-      ))
-
-  -- who waits on the flag
-  flag-asks : (i p m : ℕ) → Asks (v .body) i flag (nat a) p m → (p ≢ 0) × (met (patternOf v a) p m ≡ false)
-  flag-asks i p m w = let g = asks-well (v .body) (h .body) (h .unserved) i flag (nat a) p m w in (g .0 .0, g .1)
-
-  clr-fine : (p : ℤ) → There flag → Fine (v .body) (clr-flg v a p)
-  unfolding clr-flg
-  clr-fine p i = on-acts ((omega (arith, and-le-l (patternOf v a) (bits p), h .body .store .flags (nat a) i), λ j y m w. met-less (patternOf v a) (bits p) y m (flag-asks j y m w .1)), tt)
-
-  flg-fine : (p m : ℤ) (r : Verdict) → There flag → (met (patternOf v a) (bits p) (nat m) ≡ false → Fine (v .body) r) → Fine (v .body) (take-flg v a p m r)
-  unfolding take-flg
-  flg-fine p m r i f =
-      acts-choose (λ t. on-acts (
-        (
-          left-small (patternOf v a) (nat m) (h .body .store .flags (nat a) i),
-          λ j y k w. left-unmet (patternOf v a) y k (nat m) (flag-asks j y k w .0) (flag-asks j y k w .1),
-        ),
-        tt,
-      )) f
-
-  set-fine : (p : ℤ) → Word p → There flag → Fine (v .body) (set-flg v a p)
-  unfolding set-flg belongs
-  set-fine p w i =
-      on-acts (serve-steps (v .body) (nat a) (v .body) _ (line v (waiters flag (nat a)))
-      (or-lt 32 (patternOf v a) (bits p) (h .body .store .flags (nat a) i) (bits-small p w))
-      (λ j y m w. (w, flag-asks j y m w .0, inl (λ e. absurd (omega (arith, sym e ∙ stands j y m w))))))
-    where
-      stands : (j y m : ℕ) → Asks (v .body) j flag (nat a) y m → times j (line v (waiters flag (nat a))) ≡ 1
-      stands j y m w = belongs-stands (v .body) (waiters flag (nat a)) _ (h .queues (waiters flag (nat a)) i) j (asks-waits (waitOf (task (v .body) j .state)) flag (nat a) y m w)
-
-  snd-fine : (j : ℤ) → Word j → There mailbox → Fine (v .body) (snd-msg v a j)
-  unfolding snd-msg
-  snd-fine j w i = acts-check _ tt (λ e. first-fine mailbox (nat j) _ i (nat-small j w) (λ n. on-acts ((i, n), tt)))
-
-  msg-fine : (r : Verdict) → There mailbox → (anyLies (v .body .store .messages) (nat a) ≡ false → Fine (v .body) r) → Fine (v .body) (take-msg v a r)
-  unfolding take-msg belongs
-  msg-fine r i f = acts-first (λ e. f (nowhere-lies (v .body .store .messages) (nat a) (empty-belongs v h (mail (nat a)) i e))) (λ x m e. on-acts (tt, tt))
-
-  blk-fine : (r : Verdict) → There pool → (free (blocksOf v a) ≡ 0 → Fine (v .body) r) → Fine (v .body) (take-blk v a r)
-  unfolding take-blk belongs
-  blk-fine r i f = acts-first (λ e. f (none-free (blocksOf v a) (empty-belongs v h (freeIn (nat a)) i e))) (λ x m e. on-acts (inl refl, tt))
-
-  ret-fine : (k : ℤ) → Word k → There pool → Fine (v .body) (rel-blk v a k)
-  unfolding rel-blk
-  ret-fine k w i = acts-check _ tt (λ e. first-fine pool (nat k) _ i (nat-small k w) (λ n. on-acts (inr n, tt)))
-
--- ---- the table
-
-module _ (v : View) (h : Sound v) (x : Bool) (a p c : ℤ) (wa : Word a) (wp : Word p) where
-  abbrev me : ℕ
-  me = caller v x
-
-  alone : eqb me 0 ≡ false → v .body .handlers ≡ no-handler
-  alone = calls-alone v x
-
-  calling : eqb me 0 ≡ false → isReady (task (v .body) me .state) ≡ true
-  calling e = caller-ready v x e h
-
-  here : (k : Kind) → outside a (objects (v .body .store) k) ≡ false → In (nat a) (objects (v .body .store) k)
-  here k e = in-by a (objects (v .body .store) k) e
-
-  wish-well : eqb (bits p) 0 ≡ false → above c 3 ≡ false → WishNumbers flag (bits p) (nat c)
-  wish-well z m = (eqb-false (bits p) 0 z, bits-small p wp, at-most c 3 m)
-
-  all-rows : AllRows (λ n r. Fine (v .body) r) v (handles v x) me 1 (table v me a p c)
-  unfolding table staTsk extTsk terTsk chgPri rotRdq relWai susTsk rsmTsk slpTsk waiTsk wupTsk canWup sigSem waiSem preqSem setFlg clrFlg waiFlg polFlg sndMsg rcvMsg prcvMsg getBlk pgetBlk relBlk getTid tskSts semSts flgSts mbxSts mplSts getTim creTsk delTsk exdTsk setAbs setRel canAlm almSts alm-sts get-tid tsk-sts cre-tsk del-tsk exd-tsk obj-sts get-tim
-  all-rows =
-      (λ t. sta-fine v h a)
-      ⊗ (λ t. ext-fine v h me (alone (t .context)) (there-by isReady refl (task (v .body) me .state) (calling (t .context))))
-      ⊗ (λ t. ter-fine v h a (alone (t .context)) (t .there))
-      ⊗ (λ t. chg-fine v h a p (in-by p _ (t .words .1 .0)) (t .dormant) (t .there))
-      ⊗ (λ t. rot-fine v h a)
-      ⊗ (λ t. rel-fine v h a)
-      ⊗ (λ t. sus-fine v h a)
-      ⊗ (λ t. rsm-fine v h a)
-      ⊗ (λ t. slp-fine v h me (alone (t .context)) (calling (t .context)))
-      ⊗ (λ t. wai-fine v h me a (alone (t .context)) (calling (t .context)) wa)
-      ⊗ (λ t. wup-fine v h a (t .dormant) (t .there))
-      ⊗ (λ t. can-fine v h a)
-      ⊗ (λ t. sig-fine v h a (here semaphore (t .words .0)))
-      ⊗ (λ t. sem-fine v h a _ (here semaphore (t .words .0)) (λ z. waits-fine v h a me semaphore 0 0 (alone (t .context)) (calling (t .context)) (here semaphore (t .words .0)) (refl, refl) (ap not (eq-eqb _ 0 z))))
-      ⊗ (λ t. sem-fine v h a _ (here semaphore (t .words .0)) (λ z. on-acts tt))
-      ⊗ (λ t. set-fine v h a p wp (here flag (t .words .0)))
-      ⊗ (λ t. clr-fine v h a p (here flag (t .words .0)))
-      ⊗ (λ t. flg-fine v h a p c _ (here flag (t .words .0)) (λ u. waits-fine v h a me flag (bits p) (nat c) (alone (t .context)) (calling (t .context)) (here flag (t .words .0)) (wish-well (t .words .1 .0) (t .words .1 .1 .0)) u))
-      ⊗ (λ t. flg-fine v h a p c _ (here flag (t .words .0)) (λ u. on-acts tt))
-      ⊗ (λ t. snd-fine v h a p wp (here mailbox (t .words .0)))
-      ⊗ (λ t. msg-fine v h a _ (here mailbox (t .words .0)) (λ n. waits-fine v h a me mailbox 0 0 (alone (t .context)) (calling (t .context)) (here mailbox (t .words .0)) (refl, refl) n))
-      ⊗ (λ t. msg-fine v h a _ (here mailbox (t .words .0)) (λ n. on-acts tt))
-      ⊗ (λ t. blk-fine v h a _ (here pool (t .words .0)) (λ z. waits-fine v h a me pool 0 0 (alone (t .context)) (calling (t .context)) (here pool (t .words .0)) (refl, refl) (ap not (eq-eqb _ 0 z))))
-      ⊗ (λ t. blk-fine v h a _ (here pool (t .words .0)) (λ z. on-acts tt))
-      ⊗ (λ t. ret-fine v h a p wp (here pool (t .words .0)))
-      ⊗ (λ t. on-acts tt)
-      ⊗ (λ t. on-acts tt)
-      ⊗ (λ t. on-acts tt)
-      ⊗ (λ t. on-acts tt)
-      ⊗ (λ t. on-acts tt)
-      ⊗ (λ t. on-acts tt)
-      ⊗ (λ t. on-acts tt)
-      ⊗ (λ t. cre-fine v h a p (alone (t .context)) (in-by p _ (t .words .1 .0)))
-      ⊗ (λ t. del-fine v h a (alone (t .context)))
-      ⊗ (λ t. exd-fine v h me (alone (t .context)))
-      ⊗ (λ t. abs-fine v h a (in-by a _ (t .words .0)) p c (t .words .1 .1 .0))
-      ⊗ (λ t. set-rel-fine v h a (in-by a _ (t .words .0)) p c (t .words .1 .1 .0))
-      ⊗ (λ t. can-alm-fine v h a (in-by a _ (t .words .0)))
-      ⊗ (λ t. on-acts tt)
-      ⊗ tt
+  way-ready : {r : Verdict} → Way v a p n r → Along Ready (v .body) (r .acts)
+  unfolding population
+  way-ready (refused c e) = tt
+  way-ready (looked q) = tt
+  way-ready (acted q f) = (finds-ready f, tt)
+  way-ready (waited f) = (f s wa wp, tt)
+  way-ready (walked have q i z) = walk-ready v s (nat a) have i (z s wp)
+  way-ready (granted y z i e) = ((inl refl, (i, subst (Known (many (v .body) (freeIn (nat a)))) e (s .queues (freeIn (nat a)) i .known) .0)), tt)
+  way-ready (block-freed e o l) = ((inr (none-waits v s pool (nat a) (o .pool) l), (o .pool, o .block)), tt)
+  way-ready (handed {i = x} {m} e o l) = ((inl (refl, nat-small p wp), first-there v s pool (nat a) x m (o .pool) l), tt)
 
 -- ---- handlers
 
 module _ (v : View) (h : Sound v) where
-  enter-fine : Fine (v .body) (entered v)
+  enter-steps : Steps (v .body) (entered v .acts)
   unfolding entered
-  enter-fine = acts-check _ tt (λ e. on-acts (inner-fits v h (v .body .handlers) (omega (arith, leb-false _ (depth (v .body .handlers)) e)) (h .body .handlers), tt))
+  enter-steps = checked-acts (Steps (v .body)) _ _ _ tt (λ e. (inner-fits v h (v .body .handlers) (omega (arith, leb-false _ (depth (v .body .handlers)) e)) (h .body .handlers), tt))
 
-  exit-fine : Fine (v .body) (exited v)
+  exit-steps : Steps (v .body) (exited v .acts)
   unfolding exited
-  exit-fine = acts-check _ tt (λ e. on-acts (outer-fits (v .body .tasks) (v .body .handlers) (h .body .handlers), tt))
+  exit-steps = checked-acts (Steps (v .body)) _ _ _ tt (λ e. (outer-fits (v .body .tasks) (v .body .handlers) (h .body .handlers), tt))
 
 -- ---- an event
 
@@ -631,9 +306,13 @@ unfolding judge ticked
 steps-of-judge v tick h w =
     let b = v .body in
     along-append Pre (lapse b) _ b (lapse-steps b) (rings-steps (length (b .counter .alarms)) 1 (afters (lapse b) b) (sound-afters (lapse b) b (h .body) (lapse-steps b)))
-steps-of-judge v enter h w = elim (enter-fine v h) [ on-acts k ↦ k ]
-steps-of-judge v exit h w = elim (exit-fine v h) [ on-acts k ↦ k ]
-steps-of-judge v (call x n a p c) h w = acts-call (Steps (v .body)) tt v a p c (λ y. all-rows v h y a p c (w .2) (w .3)) x n
+steps-of-judge v enter h w = enter-steps v h
+steps-of-judge v exit h w = exit-steps v h
+steps-of-judge v (call x n a p c) h w = along-map Ready Pre (λ b d k. k .0) (judge v (call x n a p c) .acts) (v .body) (way-ready h (w .2) (w .3) (call-way v x n a p c))
+
+-- what the acts of a call name is there
+pub names-of-call : (v : View) (x n a p c : ℤ) → Sound v → Words (call x n a p c) → Along Names (v .body) (judge v (call x n a p c) .acts)
+names-of-call v x n a p c h w = along-map Ready Names (λ b d k. k .1) (judge v (call x n a p c) .acts) (v .body) (way-ready h (w .2) (w .3) (call-way v x n a p c))
 
 -- every event keeps a sound state sound
 pub sound-next : (v : View) (e : Event) → Sound v → Words e → Sound (next v e)

@@ -1,22 +1,24 @@
 -- Only release and start change a cell: a task whose cell an event changed was released or started, as the states before and after
 -- tell. And only entry and return change the handlers. Assumes nothing.
-use mathlib.Core.Bool.{Bool, true, false, cond, _||_, false≢true}
+use mathlib.Core.Bool.{Bool, true, false, not, cond, _&&_, _||_, and-false, false≢true}
 use mathlib.Core.List.{List, [], _∷_, _++_, map}
 use mathlib.Core.Logic.{_⊎_, inl, inr, _≢_}
-use mathlib.Core.Path.{_≡_, refl, sym, _∙_}
+use mathlib.Core.Path.{_≡_, refl, sym, ap, _∙_}
 use Prim.Native.Nat.{ℕ, zero, suc}
 use native.Mathlib.Omega.{arith}
 use lib.ListN.{getD, set}
 use Rattle.rules.specs.Ids.{of, put}
 use Rattle.rules.specs.Codes.{Code, OK, E-TMOUT, E-RLWAI}
-use Rattle.rules.specs.State.{Setting, State, dormant, ready, suspended, absent, waiting, waiting-suspended, Task, Body, task, nobody, waitOf, wish, isDormant, isAbsent, isWaiting, isFreed}
-use Rattle.rules.specs.Acts.{Act, start, retire, create, delete, rotate, regrade, wait, release, suspend, resume, wakeups, count, pattern, post, receive, mark, elapse, nest, alarm, change, started, retired, created, freed, releasedTask, halted, resumed, older, with-state, with-priority, with-wakeups, after, afters}
+use Rattle.rules.specs.State.{Wait, Setting, State, dormant, ready, suspended, absent, waiting, waiting-suspended, Task, Body, task, nobody, waitOf, wish, isDormant, isAbsent, isWaiting, isFreed}
+use Rattle.rules.specs.Acts.{Act, start, retire, create, delete, rotate, regrade, wait, release, suspend, resume, wakeups, count, pattern, post, receive, mark, elapse, alarm, change, started, retired, created, freed, releasedTask, halted, resumed, older, with-state, with-priority, with-wakeups, after, afters}
 use Rattle.rules.specs.View.{View, act, acts}
 use Rattle.rules.specs.Objects.{met, left, serve-flag}
 use Rattle.rules.specs.Alarms.{rings}
 use Rattle.rules.specs.Time.{endings, timeout, lapse}
-use Rattle.rules.specs.Broken.{isFresh}
-use Rattle.rules.proofs.States.{older-same}
+use Rattle.rules.specs.Answers.{isReleased}
+use Rattle.rules.specs.Releases.{isRelease}
+use Rattle.rules.specs.Broken.{isDeleted, isFresh}
+use Rattle.rules.proofs.States.{halted-same, resumed-same, older-same}
 use Rattle.rules.proofs.Firings.{Along, along-append, FiringAct, starts, wakes, stores, keeps, rings-along}
 
 -- ---- what an act makes of each task, task by task
@@ -119,6 +121,14 @@ released-mild c w t = go (t .state) refl
 older-mild : (t : Task) → Mild t (with-state (older (t .state)) t)
 older-mild t = untouched refl (older-same (t .state) .waiting) (older-same (t .state) .freed) (older-same (t .state) .dormant)
 
+freed-moves : (s : State) → isFreed s ≡ true → ((isWaiting s && true) ≡ false) × ((isDormant s && true) ≡ false)
+freed-moves dormant e = absurd (false≢true e)
+freed-moves absent e = absurd (false≢true e)
+freed-moves ready e = (refl, refl)
+freed-moves suspended e = (refl, refl)
+freed-moves (waiting w) e = absurd (false≢true e)
+freed-moves (waiting-suspended w) e = absurd (false≢true e)
+
 pub dormant-rests : (s : State) → isDormant s ≡ true → atRest s ≡ true
 dormant-rests dormant e = refl
 dormant-rests absent e = absurd (false≢true e)
@@ -187,109 +197,134 @@ firing-gentle b a (keeps k c g f) = rung k c _
 pub tick-gentle : (b : Body) (n : ℕ) → AllGentle b (lapse b ++ rings (afters (lapse b) b) n 1)
 tick-gentle b n = along-append Gentle (lapse b) _ b (lapse-gentle b) (rings-along Gentle firing-gentle n 1 (afters (lapse b) b))
 
--- ---- one act
+-- ---- the acts that let nobody go, and leave the handlers, the counter and the blocks' marks alone
 
--- only a dormant task is started, and the handlers are left
-abbrev pub Careful : Body → Act → Type 0
-Careful b (start i) = isDormant (task b i .state) ≡ true
-Careful b (retire i) = Unit {0}
-Careful b (create i p) = Unit {0}
-Careful b (delete i) = Unit {0}
-Careful b (rotate i) = Unit {0}
-Careful b (regrade i p) = Unit {0}
-Careful b (wait i w) = Unit {0}
-Careful b (release i c w) = Unit {0}
-Careful b (suspend i) = Unit {0}
-Careful b (resume i) = Unit {0}
-Careful b (wakeups i n) = Unit {0}
-Careful b (count s n) = Unit {0}
-Careful b (pattern f n) = Unit {0}
-Careful b (post j m) = Unit {0}
-Careful b (receive j) = Unit {0}
-Careful b (mark p k t) = Unit {0}
-Careful b elapse = Unit {0}
-Careful b (nest h) = ⊥
-Careful b (alarm k c s) = Unit {0}
+pub data Simple : Act → Type 0 where
+  of-retire : {i : ℕ} → Simple (retire i)
+  of-create : {i p : ℕ} → Simple (create i p)
+  of-delete : {i : ℕ} → Simple (delete i)
+  of-rotate : {i : ℕ} → Simple (rotate i)
+  of-regrade : {i p : ℕ} → Simple (regrade i p)
+  of-wait : {i : ℕ} {w : Wait} → Simple (wait i w)
+  of-suspend : {i : ℕ} → Simple (suspend i)
+  of-resume : {i : ℕ} → Simple (resume i)
+  of-wakeups : {i n : ℕ} → Simple (wakeups i n)
+  of-count : {s n : ℕ} → Simple (count s n)
+  of-pattern : {f n : ℕ} → Simple (pattern f n)
+  of-post : {j m : ℕ} → Simple (post j m)
+  of-receive : {j : ℕ} → Simple (receive j)
 
--- an act that changes a task but not its cell
+-- of a task: it keeps its cell and is not deleted, or it is; and it is not let go
+pub record Calm (t u : Task) : Type 0 where
+  pub cell : ((u .cell ≡ t .cell) × (isDeleted (t .state) (u .state) ≡ false)) ⊎ (u ≡ nobody)
+  pub freed : isFreed (u .state) ≡ true → isFreed (t .state) ≡ true
+
+-- another state, dormant or waiting; or one that is as near to being let go or deleted as before
+calm-rest : (t u : Task) → u .cell ≡ t .cell → isAbsent (u .state) ≡ false → isFreed (u .state) ≡ false → Calm t u
+calm-rest t u c n f = record { cell = inl (c, rw n (and-false (not (isAbsent (t .state))))); freed = λ e. absurd (false≢true (sym f ∙ e)) }
+
+calm-near : (t u : Task) → u .cell ≡ t .cell → isAbsent (u .state) ≡ isAbsent (t .state) → isFreed (u .state) ≡ isFreed (t .state) → Calm t u
+calm-near t u c n f = record { cell = inl (c, rw n (never (isAbsent (t .state)))); freed = λ e. sym f ∙ e }
+  where
+    never : (x : Bool) → (not x && x) ≡ false
+    never true = refl
+    never false = refl
+
+calm-same : (t : Task) → Calm t t
+calm-same t = calm-near t t refl refl refl
+
 module _ (b : Body) (f : Task → Task) (j : ℕ) where
-  changed : ((t : Task) → f t .cell ≡ t .cell) → (i : ℕ) → Kept (task b i) (task (change f j b) i)
-  changed h i = change-each Kept kept-same f j b (λ t e. inl (h t)) i
+  changed : ((t : Task) → Calm t (f t)) → (i : ℕ) → Calm (task b i) (task (change f j b) i)
+  changed h i = change-each Calm calm-same f j b (λ t e. h t) i
 
-act-kept : (a : Act) (b : Body) → Careful b a → (i : ℕ) → Kept (task b i) (task (after a b) i)
+pub simple-calm : {a : Act} (b : Body) → Simple a → (i : ℕ) → Calm (task b i) (task (after a b) i)
 unfolding after
-act-kept (start j) b d i = change-each Kept kept-same started j b (λ t e. inr (inl (fresh-by (t .state) ready (dormant-rests (t .state) (rw e d)) refl))) i
-act-kept (retire j) b d i = changed b retired j (λ t. refl) i
-act-kept (create j p) b d i = changed b (created p) j (λ t. refl) i
-act-kept (delete j) b d i = change-each Kept kept-same (λ t. nobody) j b (λ t e. inr (inr refl)) i
-act-kept (rotate j) b d i = inl refl
-act-kept (regrade j p) b d i = changed b (with-priority p) j (λ t. refl) i
-act-kept (wait j w) b d i = changed b (with-state (waiting w)) j (λ t. refl) i
-act-kept (release j c w) b d i = change-each Kept kept-same (releasedTask c w) j b (λ t e. mild-kept (released-mild c w t)) i
-act-kept (suspend j) b d i = changed b (λ t. with-state (halted (t .state)) t) j (λ t. refl) i
-act-kept (resume j) b d i = changed b (λ t. with-state (resumed (t .state)) t) j (λ t. refl) i
-act-kept (wakeups j n) b d i = changed b (with-wakeups n) j (λ t. refl) i
-act-kept (count s n) b d i = inl refl
-act-kept (pattern f n) b d i = inl refl
-act-kept (post j m) b d i = inl refl
-act-kept (receive j) b d i = inl refl
-act-kept (mark p k t) b d i = inl refl
-act-kept elapse b d i = map-each Kept kept-same _ (λ t. mild-kept (older-mild t)) (b .tasks) i nobody
-act-kept (nest h) b d i = absurd d
-act-kept (alarm k c s) b d i = inl refl
+simple-calm b (of-retire {i = j}) = changed b retired j (λ t. calm-rest t (retired t) refl refl refl)
+simple-calm b (of-create {i = j} {p}) = changed b (created p) j (λ t. calm-rest t (created p t) refl refl refl)
+simple-calm b (of-delete {i = j}) = changed b (λ t. nobody) j (λ t. record { cell = inr refl; freed = λ e. absurd (false≢true e) })
+simple-calm b of-rotate = λ i. calm-same (task b i)
+simple-calm b (of-regrade {i = j} {p}) = changed b (with-priority p) j (λ t. calm-near t (with-priority p t) refl refl refl)
+simple-calm b (of-wait {i = j} {w}) = changed b (with-state (waiting w)) j (λ t. calm-rest t (with-state (waiting w) t) refl refl refl)
+simple-calm b (of-suspend {i = j}) = changed b (λ t. with-state (halted (t .state)) t) j (λ t. let h = halted-same (t .state) in calm-near t (with-state (halted (t .state)) t) refl (h .3) (h .2))
+simple-calm b (of-resume {i = j}) = changed b (λ t. with-state (resumed (t .state)) t) j (λ t. let h = resumed-same (t .state) in calm-near t (with-state (resumed (t .state)) t) refl (h .3) (h .2))
+simple-calm b (of-wakeups {i = j} {n}) = changed b (with-wakeups n) j (λ t. calm-near t (with-wakeups n t) refl refl refl)
+simple-calm b of-count = λ i. calm-same (task b i)
+simple-calm b of-pattern = λ i. calm-same (task b i)
+simple-calm b of-post = λ i. calm-same (task b i)
+simple-calm b of-receive = λ i. calm-same (task b i)
+
+pub simple-leaves : {a : Act} (b : Body) → Simple a
+    → (after a b .handlers ≡ b .handlers) × (after a b .counter ≡ b .counter) × (after a b .store .pools ≡ b .store .pools) × (isRelease a ≡ false)
+unfolding after
+simple-leaves b of-retire = (refl, refl, refl, refl)
+simple-leaves b of-create = (refl, refl, refl, refl)
+simple-leaves b of-delete = (refl, refl, refl, refl)
+simple-leaves b of-rotate = (refl, refl, refl, refl)
+simple-leaves b of-regrade = (refl, refl, refl, refl)
+simple-leaves b of-wait = (refl, refl, refl, refl)
+simple-leaves b of-suspend = (refl, refl, refl, refl)
+simple-leaves b of-resume = (refl, refl, refl, refl)
+simple-leaves b of-wakeups = (refl, refl, refl, refl)
+simple-leaves b of-count = (refl, refl, refl, refl)
+simple-leaves b of-pattern = (refl, refl, refl, refl)
+simple-leaves b of-post = (refl, refl, refl, refl)
+simple-leaves b of-receive = (refl, refl, refl, refl)
+
+calm-kept : {t u : Task} → Calm t u → Kept t u
+calm-kept k = elim (k .cell) [ inl c ↦ inl (c .0) | inr e ↦ inr (inr (ap (λ (x : Task). isAbsent (x .state)) e)) ]
+
+-- who waits or is dormant is not let go
+calm-rests : {t u : Task} → Calm t u → ((isWaiting (t .state) && isFreed (u .state)) ≡ false) × ((isDormant (t .state) && isFreed (u .state)) ≡ false)
+calm-rests {t} {u} k = go (isFreed (u .state)) (k .freed)
+  where
+    go : (f : Bool) → (f ≡ true → isFreed (t .state) ≡ true) → ((isWaiting (t .state) && f) ≡ false) × ((isDormant (t .state) && f) ≡ false)
+    go false h = (and-false (isWaiting (t .state)), and-false (isDormant (t .state)))
+    go true h = freed-moves (t .state) (h refl)
+
+pub calm-unreleased : {t u : Task} → Calm t u → isReleased (t .state) (u .state) ≡ false
+calm-unreleased k = calm-rests k .0
+
+-- it has its old cell and is not fresh, or it is deleted
+pub calm-stays : {t u : Task} → Calm t u → ((u .cell ≡ t .cell) × (isFresh (t .state) (u .state) ≡ false)) ⊎ (u ≡ nobody)
+calm-stays k = let r = calm-rests k in elim (k .cell) [ inl c ↦ inl (c .0, rw (r .0, r .1, c .1)) | inr e ↦ inr e ]
 
 -- ---- every verdict
 
--- no act, one careful act, or a list of gentle ones
+-- no act; a simple one; a list of gentle ones; a wait that is broken off; a block's mark
 pub data Careful-list (b : Body) : List Act → Type 0 where
   nothing : Careful-list b []
-  one : (a : Act) → Careful b a → Careful-list b (a ∷ [])
+  one : {a : Act} → Simple a → Careful-list b (a ∷ [])
   several : (l : List Act) → AllGentle b l → Careful-list b l
+  breaks : (i : ℕ) → Careful-list b (release i E-RLWAI 0 ∷ [])
+  marks : (p k : ℕ) (t : Bool) → Careful-list b (mark p k t ∷ [])
 
 -- the handlers stay
-handlers-after : (a : Act) (b : Body) → Careful b a → after a b .handlers ≡ b .handlers
+handlers-after : {a : Act} (b : Body) → Gentle b a → after a b .handlers ≡ b .handlers
 unfolding after
-handlers-after (start j) b d = refl
-handlers-after (retire j) b d = refl
-handlers-after (create j p) b d = refl
-handlers-after (delete j) b d = refl
-handlers-after (rotate j) b d = refl
-handlers-after (regrade j p) b d = refl
-handlers-after (wait j w) b d = refl
-handlers-after (release j c w) b d = refl
-handlers-after (suspend j) b d = refl
-handlers-after (resume j) b d = refl
-handlers-after (wakeups j n) b d = refl
-handlers-after (count s n) b d = refl
-handlers-after (pattern f n) b d = refl
-handlers-after (post j m) b d = refl
-handlers-after (receive j) b d = refl
-handlers-after (mark p k t) b d = refl
-handlers-after elapse b d = refl
-handlers-after (nest h) b d = absurd d
-handlers-after (alarm k c s) b d = refl
-
-gentle-careful : {a : Act} (b : Body) → Gentle b a → Careful b a
-gentle-careful b (releases i c w n) = tt
-gentle-careful b (begins i d) = d
-gentle-careful b (counts i n) = tt
-gentle-careful b (sets f n) = tt
-gentle-careful b elapses = tt
-gentle-careful b (rung k c s) = tt
+handlers-after b (releases i c w n) = refl
+handlers-after b (begins i d) = refl
+handlers-after b (counts i n) = refl
+handlers-after b (sets f n) = refl
+handlers-after b elapses = refl
+handlers-after b (rung k c s) = refl
 
 handlers-gentle : (l : List Act) (b : Body) → AllGentle b l → afters l b .handlers ≡ b .handlers
 unfolding afters
 handlers-gentle [] b g = refl
-handlers-gentle (a ∷ l) b g = handlers-gentle l (after a b) (g .1) ∙ handlers-after a b (gentle-careful b (g .0))
+handlers-gentle (a ∷ l) b g = handlers-gentle l (after a b) (g .1) ∙ handlers-after b (g .0)
 
 pub handlers-kept : (b : Body) (l : List Act) → Careful-list b l → afters l b .handlers ≡ b .handlers
-unfolding afters
+unfolding afters after
 handlers-kept b l nothing = refl
-handlers-kept b l (one a g) = handlers-after a b g
+handlers-kept b l (one g) = simple-leaves b g .0
 handlers-kept b l (several m g) = handlers-gentle m b g
+handlers-kept b l (breaks i) = refl
+handlers-kept b l (marks p k t) = refl
 
 pub list-kept : (b : Body) (l : List Act) → Careful-list b l → (i : ℕ) → Kept (task b i) (task (afters l b) i)
-unfolding afters
+unfolding afters after
 list-kept b l nothing i = inl refl
-list-kept b l (one a g) i = act-kept a b g i
+list-kept b l (one g) i = calm-kept (simple-calm b g i)
 list-kept b l (several m g) i = mild-kept (list-mild m b g i)
+list-kept b l (breaks j) i = change-each Kept kept-same (releasedTask E-RLWAI 0) j b (λ t e. mild-kept (released-mild E-RLWAI 0 t)) i
+list-kept b l (marks p k t) i = inl refl

@@ -27,6 +27,14 @@ module _ (Q : Body → Act → Type 0) where
   along-append [] m b h g = g
   along-append (a ∷ l) m b h g = (h .0, along-append l m (after a b) (h .1) g)
 
+pub along-map : (Q R : Body → Act → Type 0) → ((b : Body) (a : Act) → Q b a → R b a) → (l : List Act) (b : Body) → Along Q b l → Along R b l
+along-map Q R f [] b h = tt
+along-map Q R f (a ∷ l) b h = (f b a (h .0), along-map Q R f l (after a b) (h .1))
+
+pub along-both : (Q R : Body → Act → Type 0) (l : List Act) (b : Body) → Along Q b l → Along R b l → Along (λ b a. Q b a × R b a) b l
+along-both Q R [] b h g = tt
+along-both Q R (a ∷ l) b h g = ((h .0, g .0), along-both Q R l (after a b) (h .1) (g .1))
+
 -- what each act keeps, the list keeps; and each act finds it kept
 pub along-keeps : (Q R : Body → Act → Type 0) (I : Body → Type 0) → ((b : Body) (a : Act) → I b → Q b a → R b a × I (after a b))
     → (l : List Act) (b : Body) → I b → Along Q b l → Along R b l × I (afters l b)
@@ -108,4 +116,4 @@ rings-acts (suc n) k b = go (fires (b .counter) (alarmOf (b .counter) k .setting
 
 -- what holds of each act of a firing
 pub rings-along : (Q : Body → Act → Type 0) → ((b : Body) (a : Act) → FiringAct b a → Q b a) → (n k : ℕ) (b : Body) → Along Q b (rings b n k)
-rings-along Q f n k b = along-keeps FiringAct Q (λ c. Unit {0}) (λ c a h g. (f c a g, tt)) (rings b n k) b tt (rings-acts n k b) .0
+rings-along Q f n k b = along-map FiringAct Q f (rings b n k) b (rings-acts n k b)

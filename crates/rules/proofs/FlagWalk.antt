@@ -25,7 +25,7 @@ use Rattle.rules.proofs.Ids.{times-head, times-tail}
 use Rattle.rules.proofs.Waits.{in-by, waits-asks}
 use Rattle.rules.proofs.Judge.{bad, Passes, by-row}
 use Rattle.rules.proofs.Queues.{stands-known, stands-belongs}
-use Rattle.rules.proofs.Calls.{met-zero}
+use Rattle.rules.proofs.Waiters.{met-zero}
 
 -- ---- the two walks, over a list of waiters each of whom asks for something
 

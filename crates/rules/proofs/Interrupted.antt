@@ -30,7 +30,7 @@ use Rattle.rules.specs.Interrupted.{handled, StaysOpen, Reports}
 use Rattle.rules.proofs.Lines.{tabulate-lines}
 use Rattle.rules.proofs.Queues.{body-act}
 use Rattle.rules.proofs.Firings.{FiringAct, along-keeps, firing-acts}
-use Rattle.rules.proofs.Cells.{body-acts, Gentle, releases, begins, counts, sets, elapses, rung, AllGentle, firing-gentle, lapse-gentle, tick-gentle, nothing, one, handlers-kept}
+use Rattle.rules.proofs.Cells.{body-acts, Gentle, releases, begins, counts, sets, elapses, rung, AllGentle, firing-gentle, lapse-gentle, tick-gentle, nothing, one, of-wait, handlers-kept}
 use Rattle.rules.proofs.Clean.{Clean, refused, given, waited, tick-clean, call-clean}
 use Rattle.rules.proofs.Refused.{none-released}
 use Rattle.rules.proofs.Events.{event-served, event-damaged, event-next, sound-event}
@@ -40,7 +40,7 @@ use Rattle.rules.proofs.Events.{event-served, event-damaged, event-next
 clean-handlers : (b : Body) (r : Verdict) → Clean b r → afters (r .acts) b .handlers ≡ b .handlers
 clean-handlers b r (refused c n) = handlers-kept b [] nothing
 clean-handlers b r (given x y l g) = handlers-kept b l g
-clean-handlers b r (waited i w) = handlers-kept b _ (one (wait i w) tt)
+clean-handlers b r (waited i w) = handlers-kept b (wait i w ∷ []) (one of-wait)
 
 module _ (v : View) where
   tick-handlers : next v tick .body .handlers ≡ v .body .handlers

@@ -2,7 +2,7 @@
 use mathlib.Core.Bool.{Bool, true, false, not, _&&_, false≢true}
 use mathlib.Core.List.{List, [], _∷_}
 use mathlib.Core.Option.{Option, none, some}
-use mathlib.Core.Path.{_≡_, refl}
+use mathlib.Core.Path.{_≡_, refl, subst}
 use Prim.Native.Nat.{ℕ, zero, suc, _+_}
 use native.Mathlib.Omega.{arith}
 use native.Mathlib.Nat.{add-zero}
@@ -10,14 +10,12 @@ use lib.Dec.{eqb}
 use lib.IntN.{ℤ, pos, negsuc}
 use borrow.Author.Tests.{not-true}
 use Rattle.rules.specs.Codes.{Code, H-CALL, number, negative, refuses, inDamage, tellsDamage}
-use Rattle.rules.specs.State.{Wait}
 use Rattle.rules.specs.Events.{call}
-use Rattle.rules.specs.Acts.{Act, wait}
+use Rattle.rules.specs.Acts.{Act}
 use Rattle.rules.specs.View.{View}
 use Rattle.rules.specs.Verdicts.{Verdict, refuse, check, choose, onFirst, onCount}
-use Rattle.rules.specs.Tasks.{wai-for}
-use Rattle.rules.specs.Rows.{Refusal, Row, staTsk, extTsk, terTsk, chgPri, rotRdq, relWai, susTsk, rsmTsk, slpTsk, waiTsk, wupTsk, canWup, sigSem, waiSem, preqSem, setFlg, clrFlg, waiFlg, polFlg, sndMsg, rcvMsg, prcvMsg, getBlk, pgetBlk, relBlk, getTid, tskSts, semSts, flgSts, mbxSts, mplSts, getTim, creTsk, delTsk, exdTsk, setAbs, setRel, canAlm, almSts}
-use Rattle.rules.specs.Table.{refusals, misplaced, names-absent, names-self, names-dormant, judged, table, handler, caller, handles, looked-up, entry, numbered, called, judge}
+use Rattle.rules.specs.Rows.{Refusal, Row}
+use Rattle.rules.specs.Table.{refusals, misplaced, names-absent, names-self, names-dormant, judged, table, calls-shown, handler, caller, handles, looked-up, entry, numbered, called, judge}
 use Rattle.rules.specs.Blocks.{is, ok}
 use Rattle.rules.proofs.Waits.{both-true}
 
@@ -63,7 +61,7 @@ bad-not-damage c = go (number c)
     go (pos n) e = refl
     go (negsuc n) e = not-true _ (both-true _ _ e .0)
 
-abbrev all-bad : List Refusal → Bool
+abbrev pub all-bad : List Refusal → Bool
 all-bad [] = true
 all-bad (x ∷ l) = bad (x .code) && all-bad l
 
@@ -72,8 +70,19 @@ rows-bad [] = true
 rows-bad (r ∷ l) = all-bad (r .words) && rows-bad l
 
 table-bad : (v : View) (me : ℕ) (a b c : ℤ) → rows-bad (table v me a b c) ≡ true
-unfolding table staTsk extTsk terTsk chgPri rotRdq relWai susTsk rsmTsk slpTsk waiTsk wupTsk canWup sigSem waiSem preqSem setFlg clrFlg waiFlg polFlg sndMsg rcvMsg prcvMsg getBlk pgetBlk relBlk getTid tskSts semSts flgSts mbxSts mplSts getTim creTsk delTsk exdTsk setAbs setRel canAlm almSts bad
+unfolding calls-shown bad
 table-bad v me a b c = refl
+
+entry-bad : (l : List Row) (n : ℕ) (r : Row) → rows-bad l ≡ true → entry l n ≡ some r → all-bad (r .words) ≡ true
+entry-bad [] n r e f = absurd (none-some f)
+  where
+    none-some : none ≡ some r → ⊥
+    none-some f = let z : _≡_ {A = ℕ} 0 1 = cc in omega arith
+entry-bad (x ∷ l) zero r e f = let q : x ≡ r = cc in subst (λ (y : Row). all-bad (y .words) ≡ true) q (both-true (all-bad (x .words)) (rows-bad l) e .0)
+entry-bad (x ∷ l) (suc n) r e f = entry-bad l n r (both-true (all-bad (x .words)) (rows-bad l) e .1) f
+
+pub row-bad : (v : View) (me k : ℕ) (a b c : ℤ) (r : Row) → entry (table v me a b c) k ≡ some r → all-bad (r .words) ≡ true
+row-bad v me k a b c r f = entry-bad (table v me a b c) k r (table-bad v me a b c) f
 
 -- ---- the tests that a row has passed
 
@@ -111,6 +120,11 @@ module _ (P : ℤ → Verdict → Type 0) (no-way : (n : ℤ) (c : Code) → bad
   unfolding onCount
   by-count {k = zero} h g = h refl
   by-count {k = suc j} h g = g j refl
+
+  pub by-choose : {n : ℤ} {t : Bool} {r s : Verdict} → (t ≡ true → P n r) → (t ≡ false → P n s) → P n (choose t r s)
+  unfolding choose
+  by-choose {t = true} h k = h refl
+  by-choose {t = false} h k = k refl
 
   by-refusals : (n : ℤ) (l : List Refusal) (r : Verdict) → all-bad l ≡ true → (Passed l → P n r) → P n (refusals l r)
   unfolding refusals
@@ -155,6 +169,11 @@ module _ (P : ℤ → Verdict → Type 0) (no-way : (n : ℤ) (c : Code) → bad
 
 -- ---- a property of a verdict's acts, which the empty list has too
 
+pub checked-acts : (L : List Act → Type 0) (t : Bool) (c : Code) (r : Verdict) → L [] → (t ≡ false → L (r .acts)) → L (check t c r .acts)
+unfolding check
+checked-acts L true c r z h = z
+checked-acts L false c r z h = h refl
+
 pub data OnActs (L : List Act → Type 0) (r : Verdict) : Type 0 where
   on-acts : L (r .acts) → OnActs L r
 
@@ -168,23 +187,3 @@ module _ {L : List Act → Type 0} where
   unfolding choose
   acts-choose {t = true} h k = h refl
   acts-choose {t = false} h k = k refl
-
-  pub acts-first : {l : List ℕ} {r : Verdict} {f : ℕ → Verdict} → (l ≡ [] → OnActs L r) → ((x : ℕ) (m : List ℕ) → l ≡ x ∷ m → OnActs L (f x)) → OnActs L (onFirst l r f)
-  unfolding onFirst
-  acts-first {l = []} h k = h refl
-  acts-first {l = x ∷ m} h k = k x m refl
-
-  pub acts-count : {n : ℕ} {r : Verdict} {f : ℕ → Verdict} → (n ≡ 0 → OnActs L r) → ((k : ℕ) → n ≡ suc k → OnActs L (f k)) → OnActs L (onCount n r f)
-  unfolding onCount
-  acts-count {n = zero} h k = h refl
-  acts-count {n = suc j} h k = k j refl
-
-  pub acts-wait : (me : ℕ) (a : ℤ) → L [] → ((w : Wait) → L (wait me w ∷ [])) → OnActs L (wai-for me a)
-  unfolding wai-for
-  acts-wait me (pos zero) z h = on-acts z
-  acts-wait me (pos (suc t)) z h = on-acts (h _)
-  acts-wait me (negsuc t) z h = on-acts (h _)
-
-module _ (L : List Act → Type 0) (z : L []) (v : View) (a b c : ℤ) (rows : (h : Bool) → AllRows (λ n r. OnActs L r) v (handles v h) (caller v h) 1 (table v (caller v h) a b c)) where
-  pub acts-call : (x n : ℤ) → L (judge v (call x n a b c) .acts)
-  acts-call x n = elim (by-call (λ n r. OnActs L r) (λ n c e. on-acts z) v a b c rows x n) [ on-acts h ↦ h ]

@@ -16,7 +16,7 @@ use Rattle.rules.specs.Codes.{Code}
 use Rattle.rules.specs.State.{Kind, semaphore, flag, mailbox, pool, Wait, asleep, timed, on, State, dormant, ready, suspended, absent, waiting, waiting-suspended, Cell, Task, Store, Handlers, no-handler, in-handler, Setting, Alarm, Counter, alarmOf, noAlarm, Body, task, nobody, objects, waitOf, isDormant, isAbsent, isReady, isWaiting, isFreed, sleeps}
 use Rattle.rules.specs.Places.{sameKind, waitsOn, awaits, lies}
 use Rattle.rules.specs.Acts.{Act, start, retire, create, delete, rotate, regrade, wait, release, suspend, resume, wakeups, count, pattern, post, receive, mark, elapse, nest, alarm, with-state, with-priority, with-wakeups, with-cell, with-semaphores, with-flags, with-messages, with-pools, with-clock, with-tasks, with-store, with-counter, with-setting, stepped, changeAlarm, change, started, retired, created, freed, releasedTask, halted, resumed, older, after}
-use Rattle.rules.specs.Objects.{met, free}
+use Rattle.rules.specs.Objects.{met, laid, free}
 use Rattle.rules.specs.Time.{ending}
 use Rattle.rules.specs.Sound.{Sizes, LiesWell, StoreNumbers, CellNumbers, WaitNumbers, anyLies, would-serve, Unserved, AllUnserved, SoundTask, HandlersFit, KeptFits, SettingFits, AlarmFits, CounterFits, SoundBody}
 use Rattle.rules.proofs.Sizes.{SameSizes, sizes-tasks, sizes-clock, sizes-after}
@@ -58,6 +58,32 @@ Pre b (mark p k t) = (t ≡ false) ⊎ NoneAt b pool p
 Pre b elapse = (i : ℕ) → ending (waitOf (task b i .state)) ≡ false
 Pre b (nest h) = HandlersFit (b .tasks) h
 Pre b (alarm k c s) = KeptFits (alarmOf (b .counter) k .wakes) c × SettingFits (b .counter .size) s
+
+-- what an act names is there, as far as `Pre` does not say it
+abbrev pub Names : Body → Act → Type 0
+Names b (start i) = In i (length (b .tasks))
+Names b (retire i) = In i (length (b .tasks))
+Names b (create i p) = In i (length (b .tasks))
+Names b (delete i) = In i (length (b .tasks))
+Names b (rotate i) = Unit {0}
+Names b (regrade i p) = In i (length (b .tasks))
+Names b (wait i w) = In i (length (b .tasks))
+Names b (release i c w) = In i (length (b .tasks))
+Names b (suspend i) = In i (length (b .tasks))
+Names b (resume i) = In i (length (b .tasks))
+Names b (wakeups i n) = In i (length (b .tasks))
+Names b (count s n) = In s (length (b .store .semaphores))
+Names b (pattern f n) = In f (length (b .store .flags))
+Names b (post j m) = In j (length (b .store .messages)) × (laid (of (b .store .messages) j none) ≡ false)
+Names b (receive j) = In j (length (b .store .messages))
+Names b (mark p k t) = In p (length (b .store .pools)) × In k (length (of (b .store .pools) p []))
+Names b elapse = Unit {0}
+Names b (nest h) = Unit {0}
+Names b (alarm k c s) = In k (length (b .counter .alarms))
+
+-- both
+abbrev pub Ready : Body → Act → Type 0
+Ready b a = Pre b a × Names b a
 
 -- ---- one task is changed
 

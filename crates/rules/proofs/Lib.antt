@@ -12,6 +12,9 @@ pub mod Keeps
 pub mod Queues
 pub mod Handling
 pub mod Firings
+pub mod Cells
+pub mod Waiters
+pub mod Ways
 pub mod Calls
 pub mod FlagWalk
 pub mod Accepted
@@ -19,7 +22,6 @@ pub mod Spelled
 pub mod Setups
 pub mod Events
 pub mod Looks
-pub mod Cells
 pub mod Clean
 pub mod Breach
 pub mod Refused

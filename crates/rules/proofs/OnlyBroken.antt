@@ -7,26 +7,21 @@ use mathlib.Core.Path.{_≡_, refl, sym, ap, _∙_, subst}
 use Prim.Native.Nat.{ℕ, zero, suc}
 use native.Mathlib.Decide.{ℕ-discrete}
 use native.Mathlib.Omega.{arith}
-use lib.Dec.{eqb}
 use lib.IntN.{ℤ, pos, negsuc}
 use lib.ListN.{length}
 use borrow.Author.Tests.{ne-eqb}
 use Rattle.rules.specs.Ids.{of, from, ids, In}
-use Rattle.rules.specs.Codes.{Code, OK, E-NOEXS, E-NOWAI, E-RLWAI, number, tellsDamage}
-use Rattle.rules.specs.State.{Wait, State, dormant, ready, suspended, absent, waiting, waiting-suspended, Cell, Task, Body, task, nobody, isDormant, isAbsent, isReady, isWaiting}
-use Rattle.rules.specs.Places.{tabulate}
+use Rattle.rules.specs.Codes.{Code, OK, E-NOEXS, E-RLWAI, number, tellsDamage}
+use Rattle.rules.specs.State.{flag, State, dormant, ready, suspended, absent, waiting, waiting-suspended, Cell, Task, Body, task, nobody, isAbsent, isWaiting}
+use Rattle.rules.specs.Places.{waiters, tabulate}
 use Rattle.rules.specs.Setup.{got, Entry, Setup, setup}
 use Rattle.rules.specs.Events.{Event, tick, enter, exit, call, Words, AllWords, nat, outside}
-use Rattle.rules.specs.Acts.{Act, start, retire, create, delete, rotate, regrade, wait, release, suspend, resume, wakeups, count, pattern, post, receive, mark, elapse, nest, alarm, change, started, retired, created, releasedTask, halted, resumed, older, with-state, with-priority, with-wakeups, after, afters}
-use Rattle.rules.specs.View.{View}
-use Rattle.rules.specs.Verdicts.{Verdict, done}
-use Rattle.rules.specs.Tasks.{starting, sta-tsk, ext-tsk, ter-tsk, chg-pri, rot-rdq, rel-wai, sus-tsk, rsm-tsk, take-wakeup, slp-tsk, wai-tsk, waking, wup-tsk, can-wup, get-tid, tsk-sts, cre-tsk, del-tsk, exd-tsk}
-use Rattle.rules.specs.Objects.{to-first, obj-sts, sig-sem, take-sem, set-flg, clr-flg, take-flg, snd-msg, take-msg, take-blk, rel-blk}
-use Rattle.rules.specs.Alarms.{set-alm, set-abs, set-rel, can-alm, alm-sts}
-use Rattle.rules.specs.Time.{get-tim, ticked}
+use Rattle.rules.specs.Acts.{Act, start, release, mark, nest, alarm, started, releasedTask, older, with-state, with-wakeups, after, afters}
+use Rattle.rules.specs.View.{View, line}
+use Rattle.rules.specs.Verdicts.{Verdict, gives}
+use Rattle.rules.specs.Time.{ticked}
 use Rattle.rules.specs.Handling.{entered, exited}
-use Rattle.rules.specs.Rows.{staTsk, extTsk, terTsk, chgPri, rotRdq, relWai, susTsk, rsmTsk, slpTsk, waiTsk, wupTsk, canWup, sigSem, waiSem, preqSem, setFlg, clrFlg, waiFlg, polFlg, sndMsg, rcvMsg, prcvMsg, getBlk, pgetBlk, relBlk, getTid, tskSts, semSts, flgSts, mbxSts, mplSts, getTim, creTsk, delTsk, exdTsk, setAbs, setRel, canAlm, almSts}
-use Rattle.rules.specs.Table.{caller, handles, table, judge}
+use Rattle.rules.specs.Table.{judge}
 use Rattle.rules.specs.Sound.{CellNumbers, Sound}
 use Rattle.rules.specs.Check.{sound?}
 use Rattle.rules.specs.Breach.{breach}
@@ -36,11 +31,11 @@ use Rattle.rules.specs.Plain.{Plain, viewOf, plainAnswer}
 use Rattle.rules.specs.Runs.{states}
 use Rattle.rules.specs.Broken.{broken, isFresh, StaysBroken, BreaksOff, OnlyRelWai, NeverFresh, BrokenOff}
 use Rattle.rules.proofs.Ids.{of-put-other}
-use Rattle.rules.proofs.Handling.{caller-ready}
 use Rattle.rules.proofs.Waits.{in-by}
 use Rattle.rules.proofs.States.{older-same}
-use Rattle.rules.proofs.Judge.{_⊗_, bad, AllRows, by-check, by-call, OnActs, on-acts, acts-check, acts-choose, acts-first, acts-count, acts-wait}
-use Rattle.rules.proofs.Cells.{change-each, map-each, body-acts, Gentle, releases, begins as begun, counts, sets, elapses, rung, AllGentle, flag-gentle, tick-gentle, served-whole}
+use Rattle.rules.proofs.Judge.{checked-acts}
+use Rattle.rules.proofs.Ways.{Finds, simple, rouses, breaks, serves, sets as alarm-sets, Way, refused, looked, acted, waited, walked, granted, freed as block-freed, handed, call-way}
+use Rattle.rules.proofs.Cells.{change-each, map-each, body-acts, Gentle, releases, begins as begun, counts, sets, elapses, rung, AllGentle, Simple, of-wait, Calm, simple-calm, calm-stays, firing-gentle, flag-gentle, tick-gentle, served-whole}
 use Rattle.rules.proofs.Clean.{judge-not-broken}
 use Rattle.rules.proofs.Breach.{breach-tells}
 use Rattle.rules.proofs.Events.{event-next, cell-reads, sound-event, fresh-sound}
@@ -52,24 +47,16 @@ use Rattle.rules.proofs.Broken.{tasks-next, stays, stays-broken}
 abbrev Whole : Task → Task → Type 0
 Whole t u = (u .cell .code ≢ E-RLWAI) ⊎ ((u .cell ≡ t .cell) × (isFresh (t .state) (u .state) ≡ false))
 
--- these changes of the state are no release, no start and no deletion
-record Unfresh (s : State) : Type 0 where
-  same : isFresh s s ≡ false
-  retired : isFresh s dormant ≡ false
-  halted : isFresh s (halted s) ≡ false
-  resumed : isFresh s (resumed s) ≡ false
-  waits : (w : Wait) → isDormant s ≡ false → isFresh s (waiting w) ≡ false
-
-unfresh : (s : State) → Unfresh s
-unfresh dormant = record { same = refl; retired = refl; halted = refl; resumed = refl; waits = λ w e. refl }
-unfresh absent = record { same = refl; retired = refl; halted = refl; resumed = refl; waits = λ w e. refl }
-unfresh ready = record { same = refl; retired = refl; halted = refl; resumed = refl; waits = λ w e. refl }
-unfresh suspended = record { same = refl; retired = refl; halted = refl; resumed = refl; waits = λ w e. refl }
-unfresh (waiting x) = record { same = refl; retired = refl; halted = refl; resumed = refl; waits = λ w e. refl }
-unfresh (waiting-suspended x) = record { same = refl; retired = refl; halted = refl; resumed = refl; waits = λ w e. refl }
+unfresh : (s : State) → isFresh s s ≡ false
+unfresh dormant = refl
+unfresh absent = refl
+unfresh ready = refl
+unfresh suspended = refl
+unfresh (waiting x) = refl
+unfresh (waiting-suspended x) = refl
 
 whole-same : (t : Task) → Whole t t
-whole-same t = inr (refl, unfresh (t .state) .same)
+whole-same t = inr (refl, unfresh (t .state))
 
 -- For lists of acts: the cell is not E_RLWAI, or it is as it was and the task is as near to a release or a start as before.
 data Spared (t u : Task) : Type 0 where
@@ -86,7 +73,7 @@ spared-then (left-alone c f) (left-alone c′ f′) = left-alone (c′ ∙ c) (�
 
 spared-whole : {t u : Task} → Spared t u → Whole t u
 spared-whole (rewritten n) = inl n
-spared-whole {u} (left-alone c f) = inr (c, f (u .state) ∙ unfresh (u .state) .same)
+spared-whole {u} (left-alone c f) = inr (c, f (u .state) ∙ unfresh (u .state))
 
 released-spared : (c : Code) (w : ℕ) → c ≢ E-RLWAI → (t : Task) → Spared t (releasedTask c w t)
 released-spared c w n t = go (isWaiting (t .state)) refl
@@ -112,70 +99,10 @@ unfolding afters
 list-spared [] b g i = spared-same _
 list-spared (a ∷ l) b g i = spared-then (gentle-spared b (g .0) i) (list-spared l (after a b) (g .1) i)
 
--- ---- one act
-
--- no release with E_RLWAI, and only a task that is not dormant is put into a wait
-abbrev Sparing : Body → Act → Type 0
-Sparing b (start i) = Unit {0}
-Sparing b (retire i) = Unit {0}
-Sparing b (create i p) = Unit {0}
-Sparing b (delete i) = Unit {0}
-Sparing b (rotate i) = Unit {0}
-Sparing b (regrade i p) = Unit {0}
-Sparing b (wait i w) = isDormant (task b i .state) ≡ false
-Sparing b (release i c w) = c ≢ E-RLWAI
-Sparing b (suspend i) = Unit {0}
-Sparing b (resume i) = Unit {0}
-Sparing b (wakeups i n) = Unit {0}
-Sparing b (count s n) = Unit {0}
-Sparing b (pattern f n) = Unit {0}
-Sparing b (post j m) = Unit {0}
-Sparing b (receive j) = Unit {0}
-Sparing b (mark p k t) = Unit {0}
-Sparing b elapse = Unit {0}
-Sparing b (nest h) = Unit {0}
-Sparing b (alarm k c s) = Unit {0}
-
-module _ (b : Body) (f : Task → Task) (j : ℕ) where
-  -- an act that changes a task but not its cell, and neither releases nor starts it
-  changed : ((t : Task) → f t .cell ≡ t .cell) → ((t : Task) → t ≡ task b j → isFresh (t .state) (f t .state) ≡ false) → (i : ℕ) → Whole (task b i) (task (change f j b) i)
-  changed h k i = change-each Whole whole-same f j b (λ t e. inr (h t, k t e)) i
-
-act-whole : (a : Act) (b : Body) → Sparing b a → (i : ℕ) → Whole (task b i) (task (after a b) i)
-unfolding after
-act-whole (start j) b d i = change-each Whole whole-same started j b (λ t e. inl served-whole) i
-act-whole (retire j) b d i = changed b retired j (λ t. refl) (λ t e. unfresh (t .state) .retired) i
-act-whole (create j p) b d i = changed b (created p) j (λ t. refl) (λ t e. unfresh (t .state) .retired) i
-act-whole (delete j) b d i = change-each Whole whole-same (λ t. nobody) j b (λ t e. inl served-whole) i
-act-whole (rotate j) b d i = whole-same (task b i)
-act-whole (regrade j p) b d i = changed b (with-priority p) j (λ t. refl) (λ t e. unfresh (t .state) .same) i
-act-whole (wait j w) b d i = changed b (with-state (waiting w)) j (λ t. refl) (λ t e. unfresh (t .state) .waits w (rw e d)) i
-act-whole (release j c w) b d i = spared-whole (gentle-spared b (releases j c w d) i)
-act-whole (suspend j) b d i = changed b (λ t. with-state (halted (t .state)) t) j (λ t. refl) (λ t e. unfresh (t .state) .halted) i
-act-whole (resume j) b d i = changed b (λ t. with-state (resumed (t .state)) t) j (λ t. refl) (λ t e. unfresh (t .state) .resumed) i
-act-whole (wakeups j n) b d i = changed b (with-wakeups n) j (λ t. refl) (λ t e. unfresh (t .state) .same) i
-act-whole (count s n) b d i = whole-same (task b i)
-act-whole (pattern f n) b d i = whole-same (task b i)
-act-whole (post j m) b d i = whole-same (task b i)
-act-whole (receive j) b d i = whole-same (task b i)
-act-whole (mark p k t) b d i = whole-same (task b i)
-act-whole elapse b d i = spared-whole (gentle-spared b elapses i)
-act-whole (nest h) b d i = whole-same (task b i)
-act-whole (alarm k c s) b d i = whole-same (task b i)
-
 -- ---- every call: the calls but rel_wai break nobody off
 
-ready-awake : (s : State) → isReady s ≡ true → isDormant s ≡ false
-ready-awake dormant e = absurd (false≢true e)
-ready-awake absent e = absurd (false≢true e)
-ready-awake ready e = refl
-ready-awake suspended e = refl
-ready-awake (waiting w) e = refl
-ready-awake (waiting-suspended w) e = refl
-
--- the caller of a call that only a task may make
-caller-awake : (v : View) → Sound v → (h : Bool) → eqb (caller v h) 0 ≡ false → isDormant (task (v .body) (caller v h) .state) ≡ false
-caller-awake v s h z = ready-awake (task (v .body) (caller v h) .state) (caller-ready v h z s)
+calm-whole : {t u : Task} → Calm t u → Whole t u
+calm-whole k = elim (calm-stays k) [ inl c ↦ inr c | inr e ↦ inl (rw e served-whole) ]
 
 module _ (b : Body) where
   abbrev AllWhole : List Act → Type 0
@@ -185,70 +112,46 @@ module _ (b : Body) where
   unfolding afters
   whole-none i = whole-same (task b i)
 
-  whole-one : (a : Act) → Sparing b a → AllWhole (a ∷ [])
+  whole-simple : {a : Act} → Simple a → AllWhole (a ∷ [])
   unfolding afters
-  whole-one a d i = act-whole a b d i
+  whole-simple g i = calm-whole (simple-calm b g i)
+
+  -- a mark, an alarm, or handlers that change: the tasks stay
+  whole-still : (a : Act) → after a b .tasks ≡ b .tasks → AllWhole (a ∷ [])
+  unfolding afters
+  whole-still a e i = rw e (whole-same (task b i))
 
   whole-list : (l : List Act) → AllGentle b l → AllWhole l
   whole-list l g i = spared-whole (list-spared l b g i)
 
-ruleset sparing = (acts-check, acts-choose, acts-first, acts-count, acts-wait, on-acts, whole-none, whole-one, whole-list, flag-gentle, served-whole)
+  whole-gentle : {a : Act} → Gentle b a → AllWhole (a ∷ [])
+  whole-gentle {a} g = whole-list (a ∷ []) (g, tt)
 
 -- what is left: call 6, done by a release of the task that a names
 abbrev Breaks : ℤ → ℤ → Verdict → Type 0
-Breaks n a r = (n ≡ pos 6) × (r ≡ done (release (nat a) E-RLWAI 0 ∷ []))
+Breaks n a r = (n ≡ pos 6) × (r .code ≡ OK) × (r .acts ≡ release (nat a) E-RLWAI 0 ∷ [])
 
 abbrev Spares : Body → ℤ → ℤ → Verdict → Type 0
-Spares b a n r = OnActs (AllWhole b) r ⊎ Breaks n a r
+Spares b a n r = AllWhole b (r .acts) ⊎ Breaks n a r
 
-module _ (v : View) (s : Sound v) (a y z : ℤ) where
-  rel-wai-spares : Spares (v .body) a (pos 6) (rel-wai v a)
-  unfolding rel-wai
-  rel-wai-spares = by-check (Spares (v .body) a) (λ n c e. inl (on-acts (whole-none (v .body)))) E-NOWAI (unfold bad in refl) (λ e. inr (refl, refl))
+finds-spares : (x y : ℕ) {v : View} {a p n : ℤ} {d : Act} → Finds v a p n d → Spares (v .body) a n (gives x y (d ∷ []))
+unfolding after
+finds-spares x y {v} (simple g f) = inl (whole-simple (v .body) g)
+finds-spares x y {v} (rouses g e) = inl (whole-gentle (v .body) (firing-gentle (v .body) _ g))
+finds-spares x y (breaks e w) = inr (e, refl, refl)
+finds-spares x y {v} (serves k {w} {i} o r z e) = inl (whole-gentle (v .body) (releases i OK w served-whole))
+finds-spares x y {v} {a} (alarm-sets {c} {s} o f) = inl (whole-still (v .body) (alarm (nat a) c s) refl)
 
-  rows : (h : Bool) → AllRows (Spares (v .body) a) v (handles v h) (caller v h) 1 (table v (caller v h) a y z)
-  unfolding table staTsk extTsk terTsk chgPri rotRdq relWai susTsk rsmTsk slpTsk waiTsk wupTsk canWup sigSem waiSem preqSem setFlg clrFlg waiFlg polFlg sndMsg rcvMsg prcvMsg getBlk pgetBlk relBlk getTid tskSts semSts flgSts mbxSts mplSts getTim creTsk delTsk exdTsk setAbs setRel canAlm almSts starting sta-tsk ext-tsk ter-tsk chg-pri rot-rdq sus-tsk rsm-tsk take-wakeup slp-tsk wai-tsk waking wup-tsk can-wup get-tid tsk-sts cre-tsk del-tsk exd-tsk to-first obj-sts sig-sem take-sem set-flg clr-flg take-flg snd-msg take-msg take-blk rel-blk get-tim set-alm set-abs set-rel can-alm alm-sts
-  rows h =
-      (λ t. inl (search sparing depth 9))
-      ⊗ (λ t. inl (search sparing depth 9))
-      ⊗ (λ t. inl (search sparing depth 9))
-      ⊗ (λ t. inl (search sparing depth 9))
-      ⊗ (λ t. inl (search sparing depth 9))
-      ⊗ (λ t. rel-wai-spares)
-      ⊗ (λ t. inl (search sparing depth 9))
-      ⊗ (λ t. inl (search sparing depth 9))
-      ⊗ (λ t. inl (search (sparing, caller-awake v s h (t .context)) depth 9))
-      ⊗ (λ t. inl (search (sparing, caller-awake v s h (t .context)) depth 9))
-      ⊗ (λ t. inl (search sparing depth 9))
-      ⊗ (λ t. inl (search sparing depth 9))
-      ⊗ (λ t. inl (search sparing depth 9))
-      ⊗ (λ t. inl (search (sparing, caller-awake v s h (t .context)) depth 9))
-      ⊗ (λ t. inl (search sparing depth 9))
-      ⊗ (λ t. inl (search sparing depth 9))
-      ⊗ (λ t. inl (search sparing depth 9))
-      ⊗ (λ t. inl (search (sparing, caller-awake v s h (t .context)) depth 9))
-      ⊗ (λ t. inl (search sparing depth 9))
-      ⊗ (λ t. inl (search sparing depth 9))
-      ⊗ (λ t. inl (search (sparing, caller-awake v s h (t .context)) depth 9))
-      ⊗ (λ t. inl (search sparing depth 9))
-      ⊗ (λ t. inl (search (sparing, caller-awake v s h (t .context)) depth 9))
-      ⊗ (λ t. inl (search sparing depth 9))
-      ⊗ (λ t. inl (search sparing depth 9))
-      ⊗ (λ t. inl (search sparing depth 9))
-      ⊗ (λ t. inl (search sparing depth 9))
-      ⊗ (λ t. inl (search sparing depth 9))
-      ⊗ (λ t. inl (search sparing depth 9))
-      ⊗ (λ t. inl (search sparing depth 9))
-      ⊗ (λ t. inl (search sparing depth 9))
-      ⊗ (λ t. inl (search sparing depth 9))
-      ⊗ (λ t. inl (search sparing depth 9))
-      ⊗ (λ t. inl (search sparing depth 9))
-      ⊗ (λ t. inl (search sparing depth 9))
-      ⊗ (λ t. inl (search sparing depth 9))
-      ⊗ (λ t. inl (search sparing depth 9))
-      ⊗ (λ t. inl (search sparing depth 9))
-      ⊗ (λ t. inl (search sparing depth 9))
-      ⊗ tt
+way-spares : {v : View} {a p n : ℤ} {r : Verdict} → Way v a p n r → Spares (v .body) a n r
+unfolding after
+way-spares {v} (refused c e) = inl (whole-none (v .body))
+way-spares {v} (looked q) = inl (whole-none (v .body))
+way-spares (acted {x} {y} q f) = finds-spares x y f
+way-spares {v} (waited f) = inl (whole-simple (v .body) of-wait)
+way-spares {v} {a} (walked have q i z) = inl (whole-list (v .body) _ (flag-gentle (v .body) (v .body) (nat a) have (line v (waiters flag (nat a)))))
+way-spares {v} {a} (granted {j} y z i e) = inl (whole-still (v .body) (mark (nat a) j false) refl)
+way-spares {v} {a} {p} (block-freed e o l) = inl (whole-still (v .body) (mark (nat a) (nat p) true) refl)
+way-spares {v} (handed {i} e o l) = inl (whole-gentle (v .body) (releases i OK _ served-whole))
 
 -- ---- an event
 
@@ -264,27 +167,22 @@ whole-only i e code t u (inr k) h = inr k
 
 -- of any verdict of a call
 call-only : (b : Body) (i : ℕ) (x n a y z : ℤ) (r : Verdict) → Spares b a n r → OnlyRelWai i (call x n a y z) (number (r .code)) (task b i) (task (afters (r .acts) b) i)
-call-only b i x n a y z r (inl (on-acts w)) = whole-only i (call x n a y z) (number (r .code)) (task b i) (task (afters (r .acts) b) i) (w i)
-call-only b i x n a y z r (inr k) = rw (k .1) (λ h. go (release-names b a E-RLWAI 0 i))
+call-only b i x n a y z r (inl w) = whole-only i (call x n a y z) (number (r .code)) (task b i) (task (afters (r .acts) b) i) (w i)
+call-only b i x n a y z r (inr k) = rw (k .1, k .2) (λ h. go (release-names b a E-RLWAI 0 i))
   where
     go : (a ≡ pos i) ⊎ (task (after (release (nat a) E-RLWAI 0) b) i ≡ task b i)
         → BreaksOff (pos i) (call x n a y z) (number OK)
         ⊎ ((task (afters (release (nat a) E-RLWAI 0 ∷ []) b) i .cell ≡ task b i .cell) × (isFresh (task b i .state) (task (afters (release (nat a) E-RLWAI 0 ∷ []) b) i .state) ≡ false))
     go (inl e) = inl (k .0, e, unfold number in refl)
-    go (inr e) = inr (unfold afters in rw e (refl, unfresh (task b i .state) .same))
+    go (inr e) = inr (unfold afters in rw e (refl, unfresh (task b i .state)))
 
-module _ (v : View) (s : Sound v) (i : ℕ) where
-  -- entry and return
-  handled : (e : Event) (r : Verdict) → OnActs (AllWhole (v .body)) r → OnlyRelWai i e (number (r .code)) (task (v .body) i) (task (afters (r .acts) (v .body)) i)
-  handled e r (on-acts w) = whole-only i e (number (r .code)) (task (v .body) i) (task (afters (r .acts) (v .body)) i) (w i)
-
+module _ (v : View) (i : ℕ) where
   acts-only : (e : Event) → OnlyRelWai i e (number (judge v e .code)) (task (v .body) i) (task (afters (judge v e .acts) (v .body)) i)
-  unfolding judge ticked entered exited
-  acts-only enter = handled enter (entered v) (search sparing depth 9)
-  acts-only exit = handled exit (exited v) (search sparing depth 9)
+  unfolding judge ticked entered exited after
+  acts-only enter = whole-only i enter (number (entered v .code)) (task (v .body) i) (task (afters (entered v .acts) (v .body)) i) (checked-acts (AllWhole (v .body)) _ _ _ (whole-none (v .body)) (λ k. whole-still (v .body) (nest _) refl) i)
+  acts-only exit = whole-only i exit (number (exited v .code)) (task (v .body) i) (task (afters (exited v .acts) (v .body)) i) (checked-acts (AllWhole (v .body)) _ _ _ (whole-none (v .body)) (λ k. whole-still (v .body) (nest _) refl) i)
   acts-only tick = whole-only i tick (number OK) (task (v .body) i) (task (afters (ticked v .acts) (v .body)) i) (whole-list (v .body) _ (tick-gentle (v .body) _) i)
-  acts-only (call x n a y z) =
-      call-only (v .body) i x n a y z (judge v (call x n a y z)) (by-call (Spares (v .body) a) (λ n c e. inl (on-acts (whole-none (v .body)))) v a y z (rows v s a y z) x n)
+  acts-only (call x n a p c) = call-only (v .body) i x n a p c (judge v (call x n a p c)) (way-spares (call-way v x n a p c))
 
 -- Only an accepted rel_wai that names the task makes its cell E_RLWAI. Of any state: a damaged one is left as it was.
 pub only-rel-wai : (v : View) (e : Event) (i : ℕ) → OnlyRelWai i e (number (event v e .answer .code)) (task (v .body) i) (task (event v e .next .body) i)
@@ -292,7 +190,7 @@ unfolding event guarded served next damaged answer
 only-rel-wai v e i = go (sound? v)
   where
     go : (d : Dec (Sound v)) → OnlyRelWai i e (number (guarded v e d .answer .code)) (task (v .body) i) (task (guarded v e d .next .body) i)
-    go (yes s) = rw (body-acts (judge v e .acts) v) (acts-only v s i e)
+    go (yes s) = rw (body-acts (judge v e .acts) v) (acts-only v i e)
     go (no n) = whole-only i e (number (breach v .code)) (task (v .body) i) (task (v .body) i) (whole-same (task (v .body) i))
 
 -- No event is answered with E_RLWAI, in either kernel.
@@ -429,10 +327,14 @@ idle-whole (x ∷ l) (suc (suc i)) = idle-whole l (suc i)
 abbrev NoneBroken : Body → Type 0
 NoneBroken b = (i : ℕ) → task b i .cell .code ≢ E-RLWAI
 
+started-whole : (b : Body) (k i : ℕ) → Whole (task b i) (task (after (start k) b) i)
+unfolding after
+started-whole b k i = change-each Whole whole-same started k b (λ t e. inl served-whole) i
+
 starts-whole : (k : ℕ) (l : List Entry) (b : Body) → NoneBroken b → NoneBroken (afters (starts k l) b)
 unfolding starts afters
 starts-whole k [] b h = h
-starts-whole k (e ∷ l) b h = go (e .started) (starts-whole (suc k) l (after (start k) b) (λ i. one i (act-whole (start k) b tt i))) (starts-whole (suc k) l b h)
+starts-whole k (e ∷ l) b h = go (e .started) (starts-whole (suc k) l (after (start k) b) (λ i. one i (started-whole b k i))) (starts-whole (suc k) l b h)
   where
     one : (i : ℕ) → Whole (task b i) (task (after (start k) b) i) → task (after (start k) b) i .cell .code ≢ E-RLWAI
     one i (inl n) = n

@@ -12,8 +12,8 @@ use Rattle.rules.specs.Events.{nat}
 use Rattle.rules.specs.View.{View}
 use Rattle.rules.specs.Verdicts.{Verdict, refuse, check}
 use Rattle.rules.specs.Objects.{snd-msg}
-use Rattle.rules.specs.Rows.{Refusal, T, both, Row, staTsk, extTsk, terTsk, chgPri, rotRdq, relWai, susTsk, rsmTsk, slpTsk, waiTsk, wupTsk, canWup, sigSem, waiSem, preqSem, setFlg, clrFlg, waiFlg, polFlg, sndMsg, rcvMsg, prcvMsg, getBlk, pgetBlk, relBlk, getTid, tskSts, semSts, flgSts, mbxSts, mplSts, getTim, creTsk, delTsk, exdTsk, setAbs, setRel, canAlm, almSts}
-use Rattle.rules.specs.Table.{refusals, misplaced, names-absent, names-self, names-dormant, judged, table}
+use Rattle.rules.specs.Rows.{Refusal, T, both, Row}
+use Rattle.rules.specs.Table.{refusals, misplaced, names-absent, names-self, names-dormant, judged, table, calls-shown}
 use Rattle.rules.proofs.Judge.{Passed, Passes}
 
 passed : (l : List Refusal) (r : Verdict) → Passed l → refusals l r ≡ r
@@ -54,7 +54,7 @@ pub contexts : (v : View) (me : ℕ) (a b c : ℤ)
     ≡ both ∷ T ∷ T ∷ both ∷ both ∷ both ∷ both ∷ both ∷ T ∷ T ∷ both ∷ both
     ∷ both ∷ T ∷ both ∷ both ∷ both ∷ T ∷ both ∷ both ∷ T ∷ both ∷ T ∷ both ∷ both
     ∷ both ∷ both ∷ both ∷ both ∷ both ∷ both ∷ both ∷ T ∷ T ∷ T ∷ both ∷ both ∷ both ∷ both ∷ []
-unfolding table staTsk extTsk terTsk chgPri rotRdq relWai susTsk rsmTsk slpTsk waiTsk wupTsk canWup sigSem waiSem preqSem setFlg clrFlg waiFlg polFlg sndMsg rcvMsg prcvMsg getBlk pgetBlk relBlk getTid tskSts semSts flgSts mbxSts mplSts getTim creTsk delTsk exdTsk setAbs setRel canAlm almSts
+unfolding calls-shown
 contexts v me a b c = refl
 
 pub lying-not-sent : (v : View) (a b : ℤ) (m : ℕ) → of (v .body .store .messages) (nat b) none ≡ some m → snd-msg v a b ≡ refuse H-MSG

@@ -1,6 +1,6 @@
 -- The number released, which compares the states before and after, is the number of release acts: each release of a verdict finds its task waiting, and no other act
 -- lets a waiting task go.
-use mathlib.Core.Bool.{Bool, true, false, cond, and-false, false≢true}
+use mathlib.Core.Bool.{Bool, true, false, cond, false≢true}
 use mathlib.Core.List.{List, [], _∷_, _++_, map}
 use mathlib.Core.Logic.{inl, inr, _≢_}
 use mathlib.Core.Path.{_≡_, refl, sym, _∙_}
@@ -10,55 +10,47 @@ use native.Mathlib.Omega.{arith}
 use lib.Dec.{eqb}
 use lib.IntN.{ℤ}
 use lib.ListN.{length, getD, set}
-use borrow.Author.Tests.{not-false}
 use Rattle.rules.specs.Ids.{of, put, ids, In, once, times}
-use Rattle.rules.specs.Codes.{Code, OK}
-use Rattle.rules.specs.State.{Kind, semaphore, flag, mailbox, pool, State, dormant, ready, suspended, absent, waiting, waiting-suspended, Task, Handlers, Body, task, nobody, objects, waitOf, wish, isDormant, isWaiting, isFreed, sleeps}
+use Rattle.rules.specs.Codes.{Code, OK, E-RLWAI}
+use Rattle.rules.specs.State.{Kind, flag, pool, State, dormant, ready, suspended, absent, waiting, waiting-suspended, Task, Body, task, nobody, objects, waitOf, wish, isDormant, isWaiting, isFreed, sleeps}
 use Rattle.rules.specs.Places.{waiters, belongs, waitsOn, at, lineAt}
-use Rattle.rules.specs.Events.{Event, tick, enter, exit, call, nat, outside}
-use Rattle.rules.specs.Acts.{Act, start, retire, create, delete, rotate, regrade, wait, release, suspend, resume, wakeups, count, pattern, post, receive, mark, elapse, nest, alarm, with-state, freed, halted, resumed, older, after, afters}
+use Rattle.rules.specs.Events.{Event, tick, enter, exit, call, nat}
+use Rattle.rules.specs.Acts.{Act, release, pattern, mark, elapse, nest, alarm, with-state, freed, older, after, afters}
 use Rattle.rules.specs.View.{View, line}
-use Rattle.rules.specs.Verdicts.{Verdict, waits}
-use Rattle.rules.specs.Tasks.{stateOf, starting, sta-tsk, ext-tsk, ter-tsk, chg-pri, rot-rdq, rel-wai, sus-tsk, rsm-tsk, take-wakeup, slp-tsk, wai-tsk, waking, wup-tsk, can-wup, get-tid, tsk-sts, cre-tsk, del-tsk, exd-tsk}
-use Rattle.rules.specs.Objects.{to-first, obj-sts, met, left, serve-flag, sig-sem, take-sem, set-flg, clr-flg, take-flg, snd-msg, take-msg, take-blk, rel-blk}
-use Rattle.rules.specs.Alarms.{rings, set-alm, set-abs, set-rel, can-alm, alm-sts}
-use Rattle.rules.specs.Time.{get-tim, ending, endings, timeout, lapse, ticked}
+use Rattle.rules.specs.Verdicts.{Verdict}
+use Rattle.rules.specs.Objects.{met, left, serve-flag}
+use Rattle.rules.specs.Alarms.{rings}
+use Rattle.rules.specs.Time.{ending, endings, timeout, lapse, ticked}
 use Rattle.rules.specs.Handling.{entered, exited}
-use Rattle.rules.specs.Rows.{staTsk, extTsk, terTsk, chgPri, rotRdq, relWai, susTsk, rsmTsk, slpTsk, waiTsk, wupTsk, canWup, sigSem, waiSem, preqSem, setFlg, clrFlg, waiFlg, polFlg, sndMsg, rcvMsg, prcvMsg, getBlk, pgetBlk, relBlk, getTid, tskSts, semSts, flgSts, mbxSts, mplSts, getTim, creTsk, delTsk, exdTsk, setAbs, setRel, canAlm, almSts}
-use Rattle.rules.specs.Table.{caller, handles, table, judge}
+use Rattle.rules.specs.Table.{judge}
 use Rattle.rules.specs.Answers.{isReleased, releasedCount}
 use Rattle.rules.specs.Sound.{Sound}
 use Rattle.rules.specs.Kernel.{next}
 use Rattle.rules.specs.Releases.{isRelease, releases}
 use Rattle.rules.proofs.Ids.{of-put-other, inside, tested, times-keep, kept-passes, times-head, times-tail, times-ids}
-use Rattle.rules.proofs.Waits.{in-by}
 use Rattle.rules.proofs.Queues.{stands-belongs, first-belongs, belongs-stands}
 use Rattle.rules.proofs.Firings.{Along, FiringAct, starts, wakes, stores, keeps, rings-acts}
-use Rattle.rules.proofs.Cells.{body-acts, rest-tells, dormant-rests, Mild, untouched, let-go, mild-then, gentle-mild, list-mild, lapse-gentle, firing-gentle, Careful}
+use Rattle.rules.proofs.Cells.{body-acts, rest-tells, dormant-rests, Mild, untouched, let-go, mild-same, mild-then, gentle-mild, list-mild, lapse-gentle, firing-gentle, Simple, of-wait, simple-calm, simple-leaves, calm-unreleased}
 use Rattle.rules.proofs.States.{waits-by, waiting-tells, freed-tells, older-same}
 use Rattle.rules.proofs.Refused.{released-none, none-released}
-use Rattle.rules.proofs.Judge.{_⊗_, AllRows, OnActs, on-acts, acts-check, acts-choose, acts-first, acts-count, acts-wait, acts-call}
+use Rattle.rules.proofs.Judge.{checked-acts}
+use Rattle.rules.proofs.Ways.{Finds, simple, rouses, breaks, serves, sets, Way, refused, looked, acted, waited as way-waited, walked, granted, freed as block-freed, handed, call-way}
 
 -- ---- an act that is no release
 
-unreleased : (s : State) → (isReleased s (halted s) ≡ false) × (isReleased s (resumed s) ≡ false) × (isDormant s ≡ true → isReleased s ready ≡ false)
-unreleased dormant = (refl, refl, λ e. refl)
-unreleased absent = (refl, refl, λ e. refl)
-unreleased ready = (refl, refl, λ e. refl)
-unreleased suspended = (refl, refl, λ e. refl)
-unreleased (waiting w) = (refl, refl, λ e. absurd (false≢true e))
-unreleased (waiting-suspended w) = (refl, refl, λ e. absurd (false≢true e))
+started-unreleased : (s : State) → isDormant s ≡ true → isReleased s ready ≡ false
+started-unreleased dormant e = refl
+started-unreleased absent e = refl
+started-unreleased ready e = refl
+started-unreleased suspended e = refl
+started-unreleased (waiting w) e = absurd (false≢true e)
+started-unreleased (waiting-suspended w) e = absurd (false≢true e)
 
--- one task is changed, and not released
-unreleased-set : (l : List Task) (i : ℕ) (u : Task) → isReleased (getD l i nobody .state) (u .state) ≡ false → releasedCount l (set l i u) ≡ 0
+none-let-go : (l m : List Task) → ((i : ℕ) → isReleased (getD l i nobody .state) (getD m i nobody .state) ≡ false) → releasedCount l m ≡ 0
 unfolding releasedCount
-unreleased-set [] i u h = refl
-unreleased-set (t ∷ l) zero u h = rw (h, none-released l)
-unreleased-set (t ∷ l) (suc i) u h = rw (released-none (t .state), unreleased-set l i u h)
-
-unreleased-put : (l : List Task) (i : ℕ) (u : Task) → isReleased (of l i nobody .state) (u .state) ≡ false → releasedCount l (put l i u) ≡ 0
-unreleased-put l zero u h = none-released l
-unreleased-put l (suc i) u h = unreleased-set l i u h
+none-let-go [] m h = refl
+none-let-go (t ∷ l) [] h = refl
+none-let-go (t ∷ l) (u ∷ m) h = rw (h 0, none-let-go l m (λ i. h (suc i)))
 
 -- a tick that goes by releases nobody more
 released-older : (l m : List Task) → releasedCount l (map (λ t. with-state (older (t .state)) t) m) ≡ releasedCount l m
@@ -66,28 +58,6 @@ unfolding releasedCount
 released-older [] m = refl
 released-older (t ∷ l) [] = refl
 released-older (t ∷ l) (u ∷ m) = rw (older-same (u .state) .freed, released-older l m)
-
-act-unreleased : (a : Act) (b : Body) → isRelease a ≡ false → Careful b a → releasedCount (b .tasks) (after a b .tasks) ≡ 0
-unfolding after
-act-unreleased (start j) b n d = unreleased-put (b .tasks) j _ (unreleased (task b j .state) .2 d)
-act-unreleased (retire j) b n d = unreleased-put (b .tasks) j _ (and-false (isWaiting (task b j .state)))
-act-unreleased (create j p) b n d = unreleased-put (b .tasks) j _ (and-false (isWaiting (task b j .state)))
-act-unreleased (delete j) b n d = unreleased-put (b .tasks) j _ (and-false (isWaiting (task b j .state)))
-act-unreleased (rotate j) b n d = none-released (b .tasks)
-act-unreleased (regrade j p) b n d = unreleased-put (b .tasks) j _ (released-none (task b j .state))
-act-unreleased (wait j w) b n d = unreleased-put (b .tasks) j _ (and-false (isWaiting (task b j .state)))
-act-unreleased (release j c w) b n d = absurd (false≢true (sym n))
-act-unreleased (suspend j) b n d = unreleased-put (b .tasks) j _ (unreleased (task b j .state) .0)
-act-unreleased (resume j) b n d = unreleased-put (b .tasks) j _ (unreleased (task b j .state) .1)
-act-unreleased (wakeups j k) b n d = unreleased-put (b .tasks) j _ (released-none (task b j .state))
-act-unreleased (count s k) b n d = none-released (b .tasks)
-act-unreleased (pattern f k) b n d = none-released (b .tasks)
-act-unreleased (post j m) b n d = none-released (b .tasks)
-act-unreleased (receive j) b n d = none-released (b .tasks)
-act-unreleased (mark p k t) b n d = none-released (b .tasks)
-act-unreleased elapse b n d = released-older (b .tasks) (b .tasks) ∙ none-released (b .tasks)
-act-unreleased (nest h) b n d = absurd d
-act-unreleased (alarm k c s) b n d = none-released (b .tasks)
 
 -- ---- a list of releases, each of a task that waits at the start, in b, and still when its turn comes, in c
 
@@ -215,7 +185,7 @@ module _ (b : Body) where
       still : isReleased (task b i .state) ready ≡ isReleased (task b i .state) (task c i .state)
       still =
           rw (waited (h i) (rest-tells (task c i .state) (dormant-rests (task c i .state) d)))
-          (unreleased (task c i .state) .2 d ∙ sym (released-none (task c i .state)))
+          (started-unreleased (task c i .state) d ∙ sym (released-none (task c i .state)))
   firing-frees c a l h (wakes i s) g =
       let w = waits-by sleeps refl (task c i .state) s in
       frees c i OK 0 l (waited (h i) (waiting-tells (task c i .state) w .1) ∙ w) w g
@@ -253,107 +223,59 @@ module _ (v : View) (s : Sound v) (k : Kind) (o : ℕ) where
       let w = belongs-waits y b in
       (belongs-stands (v .body) (waiters k o) _ (s .queues (waiters k o) r) y b, w, w)
 
--- ---- verdicts that release as many as they have release acts
+-- ---- acts that release as many as there are release acts
 
 module _ (b : Body) where
   abbrev Counted : List Act → Type 0
   Counted l = releasedCount (b .tasks) (afters l b .tasks) ≡ releases l
 
-  abbrev Counts : Verdict → Type 0
-  Counts r = OnActs Counted r
-
   count-none : Counted []
   unfolding afters
   count-none = none-released (b .tasks)
 
-  count-one : (a : Act) → isRelease a ≡ false → Careful b a → Counted (a ∷ [])
+  count-simple : {a : Act} → Simple a → Counted (a ∷ [])
   unfolding afters
-  count-one a n d = rw n (act-unreleased a b n d)
+  count-simple {a} g = rw (simple-leaves b g .3) (none-let-go (b .tasks) (after a b .tasks) (λ i. calm-unreleased (simple-calm b g (suc i))))
 
-  count-nest : (h : Handlers) → Counted (nest h ∷ [])
-  unfolding afters after
-  count-nest h = none-released (b .tasks)
+  -- a mark, an alarm, or handlers that change: the tasks stay
+  count-still : (a : Act) → isRelease a ≡ false → after a b .tasks ≡ b .tasks → Counted (a ∷ [])
+  unfolding afters
+  count-still a n e = rw (n, e) (none-released (b .tasks))
+
+  count-firing : {a : Act} → FiringAct b a → Counted (a ∷ [])
+  count-firing {a} g = counted b (a ∷ []) (firing-frees b b a [] (λ i. mild-same (task b i)) g (ends _))
 
   count-release : (i : ℕ) (c : Code) (w : ℕ) → isWaiting (task b i .state) ≡ true → Counted (release i c w ∷ [])
   count-release i c w h = counted b _ (frees b i c w [] h h (ends _))
 
-ruleset counting = (acts-check, acts-choose, acts-first, acts-count, acts-wait, on-acts, count-none, count-one, count-release, not-false)
+-- ---- a call
 
--- ---- every call
+module _ {v : View} {a p n : ℤ} (s : Sound v) where
+  finds-counted : {d : Act} → Finds v a p n d → Counted (v .body) (d ∷ [])
+  unfolding after
+  finds-counted (simple g f) = count-simple (v .body) g
+  finds-counted (rouses g e) = count-firing (v .body) g
+  finds-counted (breaks e w) = count-release (v .body) (nat a) E-RLWAI 0 w
+  finds-counted (serves k {w} {i} {m} o r z e) = count-release (v .body) i OK w (first-waits v s k (nat a) i m e)
+  finds-counted (sets {c} {s = x} o f) = count-still (v .body) (alarm (nat a) c x) refl refl
 
-module _ (v : View) (s : Sound v) (a y z : ℤ) where
-  -- the first waiter is let go, if there is one
-  counts-to-first : (k : Kind) (o : ℤ) (w : ℕ) (r : Verdict) → Counts (v .body) r → Counts (v .body) (to-first v k o w r)
-  unfolding to-first
-  counts-to-first k o w r h = acts-first (λ e. h) (λ x m e. on-acts (count-release (v .body) x OK w (first-waits v s k (nat o) x m e)))
-
-  wup-counts : Counts (v .body) (wup-tsk v a)
-  unfolding wup-tsk waking
-  wup-counts = acts-choose (λ e. on-acts (count-release (v .body) (nat a) OK 0 (waits-by sleeps refl (stateOf v a) e))) (λ e. search counting depth 9)
-
-  set-counts : outside a (objects (v .body .store) flag) ≡ false → Counts (v .body) (set-flg v a y)
-  unfolding set-flg
-  set-counts o = on-acts (counted (v .body) _ (flag-frees (v .body) (v .body) (nat a) _ _ (waiters-come v s flag (nat a) (in-by a _ o))))
-
-  rows : (h : Bool) (me : ℕ) → AllRows (λ n r. Counts (v .body) r) v h me 1 (table v me a y z)
-  unfolding table staTsk extTsk terTsk chgPri rotRdq relWai susTsk rsmTsk slpTsk waiTsk wupTsk canWup sigSem waiSem preqSem setFlg clrFlg waiFlg polFlg sndMsg rcvMsg prcvMsg getBlk pgetBlk relBlk getTid tskSts semSts flgSts mbxSts mplSts getTim creTsk delTsk exdTsk setAbs setRel canAlm almSts starting sta-tsk ext-tsk ter-tsk chg-pri rot-rdq rel-wai sus-tsk rsm-tsk take-wakeup slp-tsk wai-tsk can-wup get-tid tsk-sts cre-tsk del-tsk exd-tsk obj-sts sig-sem take-sem clr-flg take-flg snd-msg take-msg take-blk rel-blk get-tim set-alm set-abs set-rel can-alm alm-sts
-  rows h me =
-      (λ t. search counting depth 9)
-      ⊗ (λ t. search counting depth 9)
-      ⊗ (λ t. search counting depth 9)
-      ⊗ (λ t. search counting depth 9)
-      ⊗ (λ t. search counting depth 9)
-      ⊗ (λ t. search counting depth 9)
-      ⊗ (λ t. search counting depth 9)
-      ⊗ (λ t. search counting depth 9)
-      ⊗ (λ t. search counting depth 9)
-      ⊗ (λ t. search counting depth 9)
-      ⊗ (λ t. wup-counts)
-      ⊗ (λ t. search counting depth 9)
-      ⊗ (λ t. counts-to-first semaphore a 0 _ (search counting depth 9))
-      ⊗ (λ t. search counting depth 9)
-      ⊗ (λ t. search counting depth 9)
-      ⊗ (λ t. set-counts (t .words .0))
-      ⊗ (λ t. search counting depth 9)
-      ⊗ (λ t. search counting depth 9)
-      ⊗ (λ t. search counting depth 9)
-      ⊗ (λ t. acts-check _ (count-none (v .body)) (λ e. counts-to-first mailbox a (nat y) _ (search counting depth 9)))
-      ⊗ (λ t. search counting depth 9)
-      ⊗ (λ t. search counting depth 9)
-      ⊗ (λ t. search counting depth 9)
-      ⊗ (λ t. search counting depth 9)
-      ⊗ (λ t. acts-check _ (count-none (v .body)) (λ e. counts-to-first pool a (nat y) _ (search counting depth 9)))
-      ⊗ (λ t. search counting depth 9)
-      ⊗ (λ t. search counting depth 9)
-      ⊗ (λ t. search counting depth 9)
-      ⊗ (λ t. search counting depth 9)
-      ⊗ (λ t. search counting depth 9)
-      ⊗ (λ t. search counting depth 9)
-      ⊗ (λ t. search counting depth 9)
-      ⊗ (λ t. search counting depth 9)
-      ⊗ (λ t. search counting depth 9)
-      ⊗ (λ t. search counting depth 9)
-      ⊗ (λ t. search counting depth 9)
-      ⊗ (λ t. search counting depth 9)
-      ⊗ (λ t. search counting depth 9)
-      ⊗ (λ t. search counting depth 9)
-      ⊗ tt
+  way-counted : {r : Verdict} → Way v a p n r → Counted (v .body) (r .acts)
+  unfolding after
+  way-counted (refused c e) = count-none (v .body)
+  way-counted (looked q) = count-none (v .body)
+  way-counted (acted q f) = finds-counted f
+  way-counted (way-waited f) = count-simple (v .body) of-wait
+  way-counted (walked have q i z) = counted (v .body) _ (flag-frees (v .body) (v .body) (nat a) have _ (waiters-come v s flag (nat a) i))
+  way-counted (granted {j} y z i e) = count-still (v .body) (mark (nat a) j false) refl refl
+  way-counted (block-freed e o l) = count-still (v .body) (mark (nat a) (nat p) true) refl refl
+  way-counted (handed {i} {m} e o l) = count-release (v .body) i OK (nat p) (first-waits v s pool (nat a) i m l)
 
 -- ---- an event
 
-enter-counts : (v : View) → Counts (v .body) (entered v)
-unfolding entered
-enter-counts v = acts-check _ (count-none (v .body)) (λ e. on-acts (count-nest (v .body) _))
-
-exit-counts : (v : View) → Counts (v .body) (exited v)
-unfolding exited
-exit-counts v = acts-check _ (count-none (v .body)) (λ e. on-acts (count-nest (v .body) _))
-
 -- the number released is the number of release acts
 pub released-by-acts : (v : View) (e : Event) → Sound v → releasedCount (v .body .tasks) (next v e .body .tasks) ≡ releases (judge v e .acts)
-unfolding next judge ticked entered exited
+unfolding next judge ticked entered exited after
 released-by-acts v tick s = rw (body-acts (ticked v .acts) v) (counted (v .body) _ (tick-frees (v .body) _))
-released-by-acts v enter s = rw (body-acts (entered v .acts) v) (elim (enter-counts v) [ on-acts k ↦ k ])
-released-by-acts v exit s = rw (body-acts (exited v .acts) v) (elim (exit-counts v) [ on-acts k ↦ k ])
-released-by-acts v (call x n a y z) s =
-    rw (body-acts (judge v (call x n a y z) .acts) v) (acts-call (Counted (v .body)) (count-none (v .body)) v a y z (λ h. rows v s a y z (handles v h) (caller v h)) x n)
+released-by-acts v enter s = rw (body-acts (entered v .acts) v) (checked-acts (Counted (v .body)) _ _ _ (count-none (v .body)) (λ k. count-still (v .body) (nest _) refl refl))
+released-by-acts v exit s = rw (body-acts (exited v .acts) v) (checked-acts (Counted (v .body)) _ _ _ (count-none (v .body)) (λ k. count-still (v .body) (nest _) refl refl))
+released-by-acts v (call x n a p c) s = rw (body-acts (judge v (call x n a p c) .acts) v) (way-counted s (call-way v x n a p c))

@@ -11,13 +11,7 @@ use Rattle.rules.specs.Places.{population, belongs, lineAt, tabulate}
 use Rattle.rules.specs.Acts.{after, afters, move}
 use Rattle.rules.specs.View.{View, running, moved, act, acts}
 use Rattle.rules.specs.Verdicts.{check, choose, onFirst, onCount}
-use Rattle.rules.specs.Tasks.{starting, sta-tsk, ext-tsk, ter-tsk, chg-pri, rot-rdq, rel-wai, sus-tsk, rsm-tsk, take-wakeup, slp-tsk, wai-for, wai-tsk, waking, wup-tsk, can-wup, get-tid, stateNumber, tsk-sts, cre-tsk, del-tsk, exd-tsk}
-use Rattle.rules.specs.Objects.{to-first, obj-sts, sig-sem, take-sem, looks, set-flg, clr-flg, take-flg, snd-msg, take-msg, take-blk, rel-blk}
-use Rattle.rules.specs.Alarms.{fired, rings, set-alm, set-abs, set-rel, can-alm, alm-sts}
-use Rattle.rules.specs.Time.{get-tim, ticked}
-use Rattle.rules.specs.Handling.{entered, exited}
-use Rattle.rules.specs.Rows.{staTsk, extTsk, terTsk, chgPri, rotRdq, relWai, susTsk, rsmTsk, slpTsk, waiTsk, wupTsk, canWup, sigSem, waiSem, preqSem, setFlg, clrFlg, waiFlg, polFlg, sndMsg, rcvMsg, prcvMsg, getBlk, pgetBlk, relBlk, getTid, tskSts, semSts, flgSts, mbxSts, mplSts, getTim, creTsk, delTsk, exdTsk, setAbs, setRel, canAlm, almSts}
-use Rattle.rules.specs.Table.{refusals, judged, table, looked-up, numbered, called, judge}
+use Rattle.rules.specs.Table.{refusals, judged, calls-shown, looked-up, numbered, called, judge}
 use Rattle.rules.specs.Answers.{Answer, releasedCount, answer, numbers, readCell}
 use Rattle.rules.specs.Check.{convert, both?, either?, not?, if?, unless?, every?, kinds?, in?, sizes?, lies-well?, store?, cell?, wish?, wait?, unserved?, vacant?, task?, handlers?, kept?, setting?, alarm?, counter?, body?, shape?, known?, queue?, places?, sound?}
 use Rattle.rules.specs.Breach.{ranged?, in-place?, held, listed?, rulesOf, firstBad, firstOf, breachBy, breach}
@@ -28,13 +22,13 @@ use Rattle.rules.specs.Plain.{Plain, queueOf, viewOf, renumbered, plainA
 
 -- the answers of the kernel with queues
 unfoldable pub answers : View → List Event → List Answer
-unfolding ids keep times byNumber number and-then readWord readEntry readEntries readSection readSections readWith readSetup perhaps at-end setup population belongs lineAt tabulate after afters move running moved act acts check choose onFirst onCount starting sta-tsk ext-tsk ter-tsk chg-pri rot-rdq rel-wai sus-tsk rsm-tsk take-wakeup slp-tsk wai-for wai-tsk waking wup-tsk can-wup get-tid stateNumber tsk-sts cre-tsk del-tsk exd-tsk to-first obj-sts sig-sem take-sem looks set-flg clr-flg take-flg snd-msg take-msg take-blk rel-blk get-tim fired rings set-alm set-abs set-rel can-alm alm-sts ticked entered exited staTsk extTsk terTsk chgPri rotRdq relWai susTsk rsmTsk slpTsk waiTsk wupTsk canWup sigSem waiSem preqSem setFlg clrFlg waiFlg polFlg sndMsg rcvMsg prcvMsg getBlk pgetBlk relBlk getTid tskSts semSts flgSts mbxSts mplSts getTim creTsk delTsk exdTsk setAbs setRel canAlm almSts refusals judged table looked-up numbered called judge releasedCount answer readCell idle frees starts begins fresh next served damaged guarded event guardedCell cell convert both? either? not? if? unless? every? kinds? in? sizes? lies-well? store? cell? wish? wait? unserved? vacant? task? handlers? kept? setting? alarm? counter? body? shape? known? queue? places? sound? ranged? in-place? held listed? rulesOf firstBad firstOf breachBy breach Code-discrete decLe decLt ℕ-discrete
+unfolding ids keep times byNumber number and-then readWord readEntry readEntries readSection readSections readWith readSetup perhaps at-end setup population belongs lineAt tabulate after afters move running moved act acts check choose onFirst onCount refusals judged calls-shown looked-up numbered called judge releasedCount answer readCell idle frees starts begins fresh next served damaged guarded event guardedCell cell convert both? either? not? if? unless? every? kinds? in? sizes? lies-well? store? cell? wish? wait? unserved? vacant? task? handlers? kept? setting? alarm? counter? body? shape? known? queue? places? sound? ranged? in-place? held listed? rulesOf firstBad firstOf breachBy breach Code-discrete decLe decLt ℕ-discrete
 answers v [] = []
 answers v (e ∷ l) = event v e .answer ∷ answers (event v e .next) l
 
 -- the answers of the plain kernel
 unfoldable pub plainAnswers : Plain → List Event → List Answer
-unfolding ids keep times byNumber number and-then readWord readEntry readEntries readSection readSections readWith readSetup perhaps at-end setup population belongs lineAt tabulate after afters move running moved act acts check choose onFirst onCount starting sta-tsk ext-tsk ter-tsk chg-pri rot-rdq rel-wai sus-tsk rsm-tsk take-wakeup slp-tsk wai-for wai-tsk waking wup-tsk can-wup get-tid stateNumber tsk-sts cre-tsk del-tsk exd-tsk to-first obj-sts sig-sem take-sem looks set-flg clr-flg take-flg snd-msg take-msg take-blk rel-blk get-tim fired rings set-alm set-abs set-rel can-alm alm-sts ticked entered exited staTsk extTsk terTsk chgPri rotRdq relWai susTsk rsmTsk slpTsk waiTsk wupTsk canWup sigSem waiSem preqSem setFlg clrFlg waiFlg polFlg sndMsg rcvMsg prcvMsg getBlk pgetBlk relBlk getTid tskSts semSts flgSts mbxSts mplSts getTim creTsk delTsk exdTsk setAbs setRel canAlm almSts refusals judged table looked-up numbered called judge releasedCount answer readCell idle frees starts begins fresh next served queueOf viewOf renumbered plainAct plainActs unstarted plainFresh plainNext plainAnswer
+unfolding ids keep times byNumber number and-then readWord readEntry readEntries readSection readSections readWith readSetup perhaps at-end setup population belongs lineAt tabulate after afters move running moved act acts check choose onFirst onCount refusals judged calls-shown looked-up numbered called judge releasedCount answer readCell idle frees starts begins fresh next served queueOf viewOf renumbered plainAct plainActs unstarted plainFresh plainNext plainAnswer
 plainAnswers s [] = []
 plainAnswers s (e ∷ l) = plainAnswer s e ∷ plainAnswers (plainNext s e) l
 

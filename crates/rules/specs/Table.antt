@@ -10,8 +10,11 @@ use Rattle.rules.specs.State.{Body, task, isDormant, isAbsent, isOpen}
 use Rattle.rules.specs.Events.{Event, tick, enter, exit, call}
 use Rattle.rules.specs.View.{View, running}
 use Rattle.rules.specs.Verdicts.{Verdict, refuse, check}
+use Rattle.rules.specs.Tasks.{starting, sta-tsk, ext-tsk, ter-tsk, chg-pri, rot-rdq, rel-wai, sus-tsk, rsm-tsk, take-wakeup, slp-tsk, wai-for, wai-tsk, waking, wup-tsk, can-wup, get-tid, stateNumber, tsk-sts, cre-tsk, del-tsk, exd-tsk}
+use Rattle.rules.specs.Objects.{to-first, obj-sts, sig-sem, take-sem, looks, set-flg, clr-flg, take-flg, snd-msg, take-msg, take-blk, rel-blk}
+use Rattle.rules.specs.Alarms.{fired, rings, set-alm, set-abs, set-rel, can-alm, alm-sts}
 use Rattle.rules.specs.Rows.{Refusal, Context, T, both, Target, unnamed, anyone, alive, another, Row, staTsk, extTsk, terTsk, chgPri, rotRdq, relWai, susTsk, rsmTsk, slpTsk, waiTsk, wupTsk, canWup, sigSem, waiSem, preqSem, setFlg, clrFlg, waiFlg, polFlg, sndMsg, rcvMsg, prcvMsg, getBlk, pgetBlk, relBlk, getTid, tskSts, semSts, flgSts, mbxSts, mplSts, getTim, creTsk, delTsk, exdTsk, setAbs, setRel, canAlm, almSts}
-use Rattle.rules.specs.Time.{ticked}
+use Rattle.rules.specs.Time.{get-tim, ticked}
 use Rattle.rules.specs.Handling.{entered, exited}
 
 -- ---- the order of the refusals
@@ -102,6 +105,11 @@ table v me a b c =
     ∷ canAlm v a
     ∷ almSts v a
     ∷ []
+
+-- Whoever unfolds this sees every row and every rule.
+unfoldable pub calls-shown : Unit {0}
+unfolding table staTsk extTsk terTsk chgPri rotRdq relWai susTsk rsmTsk slpTsk waiTsk wupTsk canWup sigSem waiSem preqSem setFlg clrFlg waiFlg polFlg sndMsg rcvMsg prcvMsg getBlk pgetBlk relBlk getTid tskSts semSts flgSts mbxSts mplSts getTim creTsk delTsk exdTsk setAbs setRel canAlm almSts starting sta-tsk ext-tsk ter-tsk chg-pri rot-rdq rel-wai sus-tsk rsm-tsk take-wakeup slp-tsk wai-for wai-tsk waking wup-tsk can-wup get-tid stateNumber tsk-sts cre-tsk del-tsk exd-tsk to-first obj-sts sig-sem take-sem looks set-flg clr-flg take-flg snd-msg take-msg take-blk rel-blk fired rings set-alm set-abs set-rel can-alm alm-sts get-tim ticked entered exited
+calls-shown = tt
 
 -- how many calls there are
 abbrev pub callCount : ℕ

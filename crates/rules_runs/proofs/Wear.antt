@@ -38,7 +38,8 @@ use Rattle.rules_runs.proofs.Fresh.{mark-line}
 use Rattle.rules.proofs.Events.{event-served, event-next, sound-event, fresh-sound}
 use Rattle.rules_runs.proofs.Rising.{one-line, first-least}
 use Rattle.rules.proofs.Agree.{Numbers, line-viewOf, next-shows, same-answer}
-use Rattle.rules.proofs.Blocks.{OutBlock, Deal, nothing, grant, free, hand, event-deal, Balance, event-balance, release-unmoved}
+use Rattle.rules.proofs.Ways.{OutBlock}
+use Rattle.rules.proofs.Blocks.{Deal, nothing, grant, free, hand, event-deal, Balance, event-balance, release-unmoved}
 
 -- ---- a line that one leaves or joins
 
