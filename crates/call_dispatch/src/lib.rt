@@ -47,8 +47,9 @@ use call_alarms::can_alm;
 use call_alarms::set_abs;
 use call_alarms::set_rel;
 use call_flags::clr_flg;
+use call_flags::pol_flg;
 use call_flags::set_flg;
-use call_flags::take_flg;
+use call_flags::wai_flg;
 use call_judging::ALIVE;
 use call_judging::ANOTHER;
 use call_judging::ANYONE;
@@ -65,13 +66,15 @@ use call_judging::on_queue;
 use call_judging::on_setting;
 use call_judging::on_task;
 use call_judging::on_time;
+use call_mailboxes::prcv_msg;
+use call_mailboxes::rcv_msg;
 use call_mailboxes::snd_msg;
-use call_mailboxes::take_msg;
-use call_objects::Otherwise;
+use call_pools::get_blk;
+use call_pools::pget_blk;
 use call_pools::rel_blk;
-use call_pools::take_blk;
+use call_semaphores::preq_sem;
 use call_semaphores::sig_sem;
-use call_semaphores::take_sem;
+use call_semaphores::wai_sem;
 use call_status::obj_sts;
 use call_tasks::chg_pri;
 use call_tasks::cre_tsk;
@@ -177,11 +180,11 @@ pub fn dispatch(
             e => refuse(e),
         },
         WAI_SEM => match on_object(words, SEMAPHORES, TASK_ONLY, handler, me, i) {
-            OK => take_sem(words, i, Otherwise::Waits(me)),
+            OK => wai_sem(words, me, i),
             e => refuse(e),
         },
         PREQ_SEM => match on_object(words, SEMAPHORES, BOTH, handler, me, i) {
-            OK => take_sem(words, i, Otherwise::Polls),
+            OK => preq_sem(words, i),
             e => refuse(e),
         },
         SET_FLG => match on_object(words, FLAGS, BOTH, handler, me, i) {
@@ -193,11 +196,11 @@ pub fn dispatch(
             e => refuse(e),
         },
         WAI_FLG => match on_flag(words, TASK_ONLY, handler, me, i, p, c) {
-            OK => take_flg(words, i, p, named(c), Otherwise::Waits(me)),
+            OK => wai_flg(words, me, i, p, named(c)),
             e => refuse(e),
         },
         POL_FLG => match on_flag(words, BOTH, handler, me, i, p, c) {
-            OK => take_flg(words, i, p, named(c), Otherwise::Polls),
+            OK => pol_flg(words, i, p, named(c)),
             e => refuse(e),
         },
         SND_MSG => match on_message(words, handler, me, i, j) {
@@ -205,19 +208,19 @@ pub fn dispatch(
             e => refuse(e),
         },
         RCV_MSG => match on_object(words, MAILBOXES, TASK_ONLY, handler, me, i) {
-            OK => take_msg(words, messages, i, Otherwise::Waits(me)),
+            OK => rcv_msg(words, messages, me, i),
             e => refuse(e),
         },
         PRCV_MSG => match on_object(words, MAILBOXES, BOTH, handler, me, i) {
-            OK => take_msg(words, messages, i, Otherwise::Polls),
+            OK => prcv_msg(words, messages, i),
             e => refuse(e),
         },
         GET_BLK => match on_object(words, POOLS, TASK_ONLY, handler, me, i) {
-            OK => take_blk(words, i, Otherwise::Waits(me)),
+            OK => get_blk(words, me, i),
             e => refuse(e),
         },
         PGET_BLK => match on_object(words, POOLS, BOTH, handler, me, i) {
-            OK => take_blk(words, i, Otherwise::Polls),
+            OK => pget_blk(words, i),
             e => refuse(e),
         },
         REL_BLK => match on_object(words, POOLS, BOTH, handler, me, i) {

@@ -1,11 +1,12 @@
 // The calls on flags: what is left of each once the common refusals are out of the way (crate `call_judging`). `i` is
 // the flag that the call names. The contracts speak of an accepted memory, where what is named is there (`DoesOnWords`).
-use call_objects::Otherwise;
-use call_objects::wait_or_poll;
 use call_words::Outcome;
+use call_words::codes::H_POLL;
 use call_words::done;
 use call_words::gives;
+use call_words::refuse;
 use call_words::reports;
+use call_words::waits;
 use memory_columns::CELL_OK;
 use memory_columns::FLAG;
 use memory_columns::MAX_TASKS;
@@ -22,16 +23,17 @@ use memory_objects::flags::meets;
 use memory_queues::follow;
 use memory_queues::wait_anchor;
 use memory_tasks::release;
+use memory_tasks::wait;
 ghost use mathlib.Core.Bool.{false};
 ghost use mathlib.Core.Path.{_≡_};
 ghost use Prim.Native.Nat.{_≤_, _+_};
 ghost use lib.IntN.{pos};
 ghost use Rattle.rules.specs.State as Kind;
 ghost use Rattle.rules.specs.State.{on};
-ghost use Rattle.rules.specs.Objects.{left, set-flg, clr-flg, take-flg};
+ghost use Rattle.rules.specs.Verdicts as Verdicts;
+ghost use Rattle.rules.specs.Objects.{polls, left, set-flg, clr-flg, take-flg};
 ghost use Rattle.call_words.specs.Doing.{DoesOnWords};
 ghost use Rattle.call_words.specs.Naming.{NamesObject};
-ghost use Rattle.call_objects.specs.Taking.{otherwise};
 ghost use Rattle.call_flags.specs.Serving.{made, lookedAt, served, leftBy};
 
 // The modes from which on the pattern is cleared on success.
@@ -142,15 +144,29 @@ pub fn clr_flg(words: &mut [u32; STATE_WORDS], i: u32, p: u32) -> Outcome
     done()
 }
 
-// 18 wai_flg, 19 pol_flg: the pattern is taken, if it meets the pattern p that is asked for in mode t.
-pub fn take_flg(words: &mut [u32; STATE_WORDS], i: u32, p: u32, t: u32, other: Otherwise) -> Outcome
+// 18 wai_flg: the caller takes the pattern p that it asks for in mode t, or waits.
+pub fn wai_flg(words: &mut [u32; STATE_WORDS], me: u32, i: u32, p: u32, t: u32) -> Outcome
     ensures { λ r. ⌜ DoesOnWords (NamesObject Kind.flag i)
-        (λ v. take-flg v (pos i) (pos p) (pos t) (otherwise other (on Kind.flag i p t))) r (now (words .entry))
+        (λ v. take-flg v (pos i) (pos p) (pos t) (Verdicts.waits me (on Kind.flag i p t))) r (now (words .entry))
         (now (words .exit)) ⌝ }
 {
     let n = flag(words, i);
     if !meets(n, p, t) {
-        return wait_or_poll(words, other, FLAG, i, p, t);
+        wait(words, me, FLAG, i, p, t);
+        return waits();
+    }
+    set_flag(words, i, left_of(n, t));
+    gives(n, 0)
+}
+
+// 19 pol_flg: the pattern is taken, if it meets what is asked for.
+pub fn pol_flg(words: &mut [u32; STATE_WORDS], i: u32, p: u32, t: u32) -> Outcome
+    ensures { λ r. ⌜ DoesOnWords (NamesObject Kind.flag i) (λ v. take-flg v (pos i) (pos p) (pos t) polls) r
+        (now (words .entry)) (now (words .exit)) ⌝ }
+{
+    let n = flag(words, i);
+    if !meets(n, p, t) {
+        return refuse(H_POLL);
     }
     set_flag(words, i, left_of(n, t));
     gives(n, 0)

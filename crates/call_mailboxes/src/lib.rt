@@ -1,15 +1,15 @@
 // The calls on mailboxes: what is left of each once the common refusals are out of the way (crate `call_judging`). `i`
-// is the object that the call names. The contracts speak of an accepted memory, where what is named is there
-// (`DoesOnBoth`).
-use call_objects::Otherwise;
+// is the object that the call names, `me` the caller. The contracts speak of an accepted memory, where what is named is
+// there (`DoesOnBoth`).
 use call_objects::first_waiter;
-use call_objects::wait_or_poll;
 use call_words::Outcome;
 use call_words::codes::H_MSG;
+use call_words::codes::H_POLL;
 use call_words::done;
 use call_words::gives;
 use call_words::refuse;
 use call_words::releases;
+use call_words::waits;
 use memory_columns::CELL_OK;
 use memory_columns::MAILBOX;
 use memory_columns::Rings;
@@ -20,14 +20,14 @@ use memory_objects::marks::receive;
 use memory_queues::first;
 use memory_queues::mail_anchor;
 use memory_tasks::release;
+use memory_tasks::wait;
 ghost use mathlib.Core.Path.{_≡_};
 ghost use lib.IntN.{pos};
-ghost use Rattle.rules.specs.State.{mailbox, on};
-ghost use Rattle.rules.specs.Objects.{snd-msg, take-msg};
+ghost use Rattle.rules.specs.State.{mailbox};
+ghost use Rattle.rules.specs.Objects.{polls, waits-on, snd-msg, take-msg};
 ghost use Rattle.call_words.specs.Doing.{DoesOnBoth};
 ghost use Rattle.call_words.specs.Naming.{NamesObject, NamesMessage};
 ghost use Rattle.call_objects.specs.Waiting.{firstMessage};
-ghost use Rattle.call_objects.specs.Taking.{otherwise};
 
 // The first message in a mailbox, 0 if it is empty.
 pub fn first_message(words: &[u32; STATE_WORDS], mailbox: u32) -> u32
@@ -53,19 +53,33 @@ pub fn snd_msg(words: &mut [u32; STATE_WORDS], messages: &mut [u32; 256], i: u32
     done()
 }
 
-// 21 rcv_msg, 22 prcv_msg: the first message is taken, if there is one.
-pub fn take_msg(
+// 21 rcv_msg: the caller takes the first message, or waits.
+pub fn rcv_msg(
     words: &mut [u32; STATE_WORDS],
     messages: &mut [u32; 256],
+    me: u32,
     i: u32,
-    other: Otherwise,
 ) -> Outcome
-    ensures { λ r. ⌜ DoesOnBoth (NamesObject mailbox i) (λ v. take-msg v (pos i) (otherwise other (on mailbox i 0 0))) r
+    ensures { λ r. ⌜ DoesOnBoth (NamesObject mailbox i) (λ v. take-msg v (pos i) (waits-on me mailbox (pos i))) r
         (now (words .entry)) (now (messages .entry)) (now (words .exit)) (now (messages .exit)) ⌝ }
 {
     let j = first_message(words, i);
     if j == 0 {
-        return wait_or_poll(words, other, MAILBOX, i, 0, 0);
+        wait(words, me, MAILBOX, i, 0, 0);
+        return waits();
+    }
+    receive(words, messages, j);
+    gives(j, 0)
+}
+
+// 22 prcv_msg: the first message is taken, if there is one.
+pub fn prcv_msg(words: &mut [u32; STATE_WORDS], messages: &mut [u32; 256], i: u32) -> Outcome
+    ensures { λ r. ⌜ DoesOnBoth (NamesObject mailbox i) (λ v. take-msg v (pos i) polls) r (now (words .entry))
+        (now (messages .entry)) (now (words .exit)) (now (messages .exit)) ⌝ }
+{
+    let j = first_message(words, i);
+    if j == 0 {
+        return refuse(H_POLL);
     }
     receive(words, messages, j);
     gives(j, 0)

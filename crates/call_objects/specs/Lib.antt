@@ -1,3 +1,2 @@
--- What the calls on objects read and share.
+-- What the calls on objects read.
 pub mod Waiting
-pub mod Taking

@@ -1,14 +1,14 @@
 // The calls on pools: what is left of each once the common refusals are out of the way (crate `call_judging`). `i` is the
 // object that the call names. The contracts speak of an accepted memory, where what is named is there (`DoesOnWords`).
-use call_objects::Otherwise;
 use call_objects::first_waiter;
-use call_objects::wait_or_poll;
 use call_words::Outcome;
 use call_words::codes::H_ILBLK;
+use call_words::codes::H_POLL;
 use call_words::done;
 use call_words::gives;
 use call_words::refuse;
 use call_words::releases;
+use call_words::waits;
 use memory_columns::CELL_OK;
 use memory_columns::MAX_BLOCKS;
 use memory_columns::POOL;
@@ -21,14 +21,14 @@ use memory_queues::block_node;
 use memory_queues::first;
 use memory_queues::free_anchor;
 use memory_tasks::release;
+use memory_tasks::wait;
 ghost use mathlib.Core.Path.{_≡_};
 ghost use lib.IntN.{pos};
-ghost use Rattle.rules.specs.State.{pool, on};
-ghost use Rattle.rules.specs.Objects.{take-blk, rel-blk};
+ghost use Rattle.rules.specs.State.{pool};
+ghost use Rattle.rules.specs.Objects.{polls, waits-on, take-blk, rel-blk};
 ghost use Rattle.call_words.specs.Doing.{DoesOnWords};
 ghost use Rattle.call_words.specs.Naming.{NamesObject};
 ghost use Rattle.call_objects.specs.Waiting.{firstBlock};
-ghost use Rattle.call_objects.specs.Taking.{otherwise};
 ghost use Rattle.call_pools.specs.Blocks.{bitCount, notOut};
 
 // The block of a pool that is longest free, the first in its queue of free blocks; 0 if none is.
@@ -71,14 +71,27 @@ fn is_not_out(words: &[u32; STATE_WORDS], pool: u32, k: u32) -> bool
     (free(words, pool) >> (k - 1)) % 2 == 1
 }
 
-// 23 get_blk, 24 pget_blk: the block longest free is taken, if there is one.
-pub fn take_blk(words: &mut [u32; STATE_WORDS], i: u32, other: Otherwise) -> Outcome
-    ensures { λ r. ⌜ DoesOnWords (NamesObject pool i) (λ v. take-blk v (pos i) (otherwise other (on pool i 0 0))) r
+// 23 get_blk: the caller takes the block longest free, or waits.
+pub fn get_blk(words: &mut [u32; STATE_WORDS], me: u32, i: u32) -> Outcome
+    ensures { λ r. ⌜ DoesOnWords (NamesObject pool i) (λ v. take-blk v (pos i) (waits-on me pool (pos i))) r
         (now (words .entry)) (now (words .exit)) ⌝ }
 {
     let k = first_block(words, i);
     if k == 0 {
-        return wait_or_poll(words, other, POOL, i, 0, 0);
+        wait(words, me, POOL, i, 0, 0);
+        return waits();
+    }
+    mark_block(words, i, k, false);
+    gives(k, 0)
+}
+
+// 24 pget_blk: the block longest free is taken, if there is one.
+pub fn pget_blk(words: &mut [u32; STATE_WORDS], i: u32) -> Outcome
+    ensures { λ r. ⌜ DoesOnWords (NamesObject pool i) (λ v. take-blk v (pos i) polls) r (now (words .entry)) (now (words .exit)) ⌝ }
+{
+    let k = first_block(words, i);
+    if k == 0 {
+        return refuse(H_POLL);
     }
     mark_block(words, i, k, false);
     gives(k, 0)

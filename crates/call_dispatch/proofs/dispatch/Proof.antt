@@ -341,7 +341,7 @@ returns-27 c =
     let at-j = at-p .before in
     let at-i = at-j .before in
     let start = at-i .before in
-    arm-done 13 (λ v. waiSem v (start .args .me) (start .args .a)) (start .args .handler) (start .args .me) (start .args .a) (start .args .b) (start .args .c) (arm .match .keys14) (λ v. refl) (λ A. rw (rw (toZ-ofZ (start .fits .a)) at (at-i .named .ensures)) at ((judge .on-object2 .ensures) Kind.semaphore refl _ A)) (code-zero (judge .on-object2 .ok) (none .match15 .keys1)) (λ A t. (rw (rw (toZ-ofZ (start .fits .a)) at (at-i .named .ensures)) at (c .take-sem .ensures)) _ A (in-by (start .args .a) _ (t .words .0)))
+    arm-done 13 (λ v. waiSem v (start .args .me) (start .args .a)) (start .args .handler) (start .args .me) (start .args .a) (start .args .b) (start .args .c) (arm .match .keys14) (λ v. refl) (λ A. rw (rw (toZ-ofZ (start .fits .a)) at (at-i .named .ensures)) at ((judge .on-object2 .ensures) Kind.semaphore refl _ A)) (code-zero (judge .on-object2 .ok) (none .match15 .keys1)) (λ A t. (rw (rw (toZ-ofZ (start .fits .a)) at (at-i .named .ensures)) at (c .wai-sem .ensures)) _ A (in-by (start .args .a) _ (t .words .0)))
 
 returns-28 : tie.Need-returns-28
 unfolding table waiSem
@@ -365,7 +365,7 @@ returns-29 c =
     let at-j = at-p .before in
     let at-i = at-j .before in
     let start = at-i .before in
-    arm-done 14 (λ v. preqSem v (start .args .a)) (start .args .handler) (start .args .me) (start .args .a) (start .args .b) (start .args .c) (arm .match .keys15) (λ v. refl) (λ A. rw (rw (toZ-ofZ (start .fits .a)) at (at-i .named .ensures)) at ((judge .on-object3 .ensures) Kind.semaphore refl _ A)) (code-zero (judge .on-object3 .ok) (none .match16 .keys1)) (λ A t. (rw (rw (toZ-ofZ (start .fits .a)) at (at-i .named .ensures)) at (c .take-sem2 .ensures)) _ A (in-by (start .args .a) _ (t .words .0)))
+    arm-done 14 (λ v. preqSem v (start .args .a)) (start .args .handler) (start .args .me) (start .args .a) (start .args .b) (start .args .c) (arm .match .keys15) (λ v. refl) (λ A. rw (rw (toZ-ofZ (start .fits .a)) at (at-i .named .ensures)) at ((judge .on-object3 .ensures) Kind.semaphore refl _ A)) (code-zero (judge .on-object3 .ok) (none .match16 .keys1)) (λ A t. (rw (rw (toZ-ofZ (start .fits .a)) at (at-i .named .ensures)) at (c .preq-sem .ensures)) _ A (in-by (start .args .a) _ (t .words .0)))
 
 returns-30 : tie.Need-returns-30
 unfolding table preqSem
@@ -438,7 +438,7 @@ returns-35 c =
     let at-j = at-p .before in
     let at-i = at-j .before in
     let start = at-i .before in
-    arm-done 17 (λ v. waiFlg v (start .args .me) (start .args .a) (start .args .b) (start .args .c)) (start .args .handler) (start .args .me) (start .args .a) (start .args .b) (start .args .c) (arm .match .keys18) (λ v. refl) (λ A. rw (rw (toZ-ofZ (start .fits .a)) at (at-i .named .ensures), rw (toZ-ofZ (start .fits .b)) at (at-p .bits-of .ensures), toZ-ofZ (start .fits .c)) at ((judge .on-flag .ensures) _ A)) (code-zero (judge .on-flag .ok) (none .match19 .keys1)) (λ A t. (rw (rw (toZ-ofZ (start .fits .a)) at (at-i .named .ensures), rw (toZ-ofZ (start .fits .b)) at (at-p .bits-of .ensures), rw (toZ-ofZ (start .fits .c)) at (mode .named3 .ensures)) at (c .take-flg .ensures)) _ A (in-by (start .args .a) _ (t .words .0)))
+    arm-done 17 (λ v. waiFlg v (start .args .me) (start .args .a) (start .args .b) (start .args .c)) (start .args .handler) (start .args .me) (start .args .a) (start .args .b) (start .args .c) (arm .match .keys18) (λ v. refl) (λ A. rw (rw (toZ-ofZ (start .fits .a)) at (at-i .named .ensures), rw (toZ-ofZ (start .fits .b)) at (at-p .bits-of .ensures), toZ-ofZ (start .fits .c)) at ((judge .on-flag .ensures) _ A)) (code-zero (judge .on-flag .ok) (none .match19 .keys1)) (λ A t. (rw (rw (toZ-ofZ (start .fits .a)) at (at-i .named .ensures), rw (toZ-ofZ (start .fits .b)) at (at-p .bits-of .ensures), rw (toZ-ofZ (start .fits .c)) at (mode .named3 .ensures)) at (c .wai-flg .ensures)) _ A (in-by (start .args .a) _ (t .words .0)))
 
 returns-36 : tie.Need-returns-36
 unfolding table waiFlg
@@ -463,7 +463,7 @@ returns-37 c =
     let at-j = at-p .before in
     let at-i = at-j .before in
     let start = at-i .before in
-    arm-done 18 (λ v. polFlg v (start .args .a) (start .args .b) (start .args .c)) (start .args .handler) (start .args .me) (start .args .a) (start .args .b) (start .args .c) (arm .match .keys19) (λ v. refl) (λ A. rw (rw (toZ-ofZ (start .fits .a)) at (at-i .named .ensures), rw (toZ-ofZ (start .fits .b)) at (at-p .bits-of .ensures), toZ-ofZ (start .fits .c)) at ((judge .on-flag2 .ensures) _ A)) (code-zero (judge .on-flag2 .ok) (none .match20 .keys1)) (λ A t. (rw (rw (toZ-ofZ (start .fits .a)) at (at-i .named .ensures), rw (toZ-ofZ (start .fits .b)) at (at-p .bits-of .ensures), rw (toZ-ofZ (start .fits .c)) at (mode .named4 .ensures)) at (c .take-flg2 .ensures)) _ A (in-by (start .args .a) _ (t .words .0)))
+    arm-done 18 (λ v. polFlg v (start .args .a) (start .args .b) (start .args .c)) (start .args .handler) (start .args .me) (start .args .a) (start .args .b) (start .args .c) (arm .match .keys19) (λ v. refl) (λ A. rw (rw (toZ-ofZ (start .fits .a)) at (at-i .named .ensures), rw (toZ-ofZ (start .fits .b)) at (at-p .bits-of .ensures), toZ-ofZ (start .fits .c)) at ((judge .on-flag2 .ensures) _ A)) (code-zero (judge .on-flag2 .ok) (none .match20 .keys1)) (λ A t. (rw (rw (toZ-ofZ (start .fits .a)) at (at-i .named .ensures), rw (toZ-ofZ (start .fits .b)) at (at-p .bits-of .ensures), rw (toZ-ofZ (start .fits .c)) at (mode .named4 .ensures)) at (c .pol-flg .ensures)) _ A (in-by (start .args .a) _ (t .words .0)))
 
 returns-38 : tie.Need-returns-38
 unfolding table polFlg
@@ -511,7 +511,7 @@ returns-41 c =
     let at-j = at-p .before in
     let at-i = at-j .before in
     let start = at-i .before in
-    arm-done 20 (λ v. rcvMsg v (start .args .me) (start .args .a)) (start .args .handler) (start .args .me) (start .args .a) (start .args .b) (start .args .c) (arm .match .keys21) (λ v. refl) (λ A. rw (rw (toZ-ofZ (start .fits .a)) at (at-i .named .ensures)) at ((judge .on-object6 .ensures) Kind.mailbox refl _ A)) (code-zero (judge .on-object6 .ok) (none .match22 .keys1)) (λ A t. (rw (rw (toZ-ofZ (start .fits .a)) at (at-i .named .ensures)) at (c .take-msg .ensures)) A (in-by (start .args .a) _ (t .words .0)))
+    arm-done 20 (λ v. rcvMsg v (start .args .me) (start .args .a)) (start .args .handler) (start .args .me) (start .args .a) (start .args .b) (start .args .c) (arm .match .keys21) (λ v. refl) (λ A. rw (rw (toZ-ofZ (start .fits .a)) at (at-i .named .ensures)) at ((judge .on-object6 .ensures) Kind.mailbox refl _ A)) (code-zero (judge .on-object6 .ok) (none .match22 .keys1)) (λ A t. (rw (rw (toZ-ofZ (start .fits .a)) at (at-i .named .ensures)) at (c .rcv-msg .ensures)) A (in-by (start .args .a) _ (t .words .0)))
 
 returns-42 : tie.Need-returns-42
 unfolding table rcvMsg
@@ -535,7 +535,7 @@ returns-43 c =
     let at-j = at-p .before in
     let at-i = at-j .before in
     let start = at-i .before in
-    arm-done 21 (λ v. prcvMsg v (start .args .a)) (start .args .handler) (start .args .me) (start .args .a) (start .args .b) (start .args .c) (arm .match .keys22) (λ v. refl) (λ A. rw (rw (toZ-ofZ (start .fits .a)) at (at-i .named .ensures)) at ((judge .on-object7 .ensures) Kind.mailbox refl _ A)) (code-zero (judge .on-object7 .ok) (none .match23 .keys1)) (λ A t. (rw (rw (toZ-ofZ (start .fits .a)) at (at-i .named .ensures)) at (c .take-msg2 .ensures)) A (in-by (start .args .a) _ (t .words .0)))
+    arm-done 21 (λ v. prcvMsg v (start .args .a)) (start .args .handler) (start .args .me) (start .args .a) (start .args .b) (start .args .c) (arm .match .keys22) (λ v. refl) (λ A. rw (rw (toZ-ofZ (start .fits .a)) at (at-i .named .ensures)) at ((judge .on-object7 .ensures) Kind.mailbox refl _ A)) (code-zero (judge .on-object7 .ok) (none .match23 .keys1)) (λ A t. (rw (rw (toZ-ofZ (start .fits .a)) at (at-i .named .ensures)) at (c .prcv-msg .ensures)) A (in-by (start .args .a) _ (t .words .0)))
 
 returns-44 : tie.Need-returns-44
 unfolding table prcvMsg
@@ -559,7 +559,7 @@ returns-45 c =
     let at-j = at-p .before in
     let at-i = at-j .before in
     let start = at-i .before in
-    arm-done 22 (λ v. getBlk v (start .args .me) (start .args .a)) (start .args .handler) (start .args .me) (start .args .a) (start .args .b) (start .args .c) (arm .match .keys23) (λ v. refl) (λ A. rw (rw (toZ-ofZ (start .fits .a)) at (at-i .named .ensures)) at ((judge .on-object8 .ensures) Kind.pool refl _ A)) (code-zero (judge .on-object8 .ok) (none .match24 .keys1)) (λ A t. (rw (rw (toZ-ofZ (start .fits .a)) at (at-i .named .ensures)) at (c .take-blk .ensures)) _ A (in-by (start .args .a) _ (t .words .0)))
+    arm-done 22 (λ v. getBlk v (start .args .me) (start .args .a)) (start .args .handler) (start .args .me) (start .args .a) (start .args .b) (start .args .c) (arm .match .keys23) (λ v. refl) (λ A. rw (rw (toZ-ofZ (start .fits .a)) at (at-i .named .ensures)) at ((judge .on-object8 .ensures) Kind.pool refl _ A)) (code-zero (judge .on-object8 .ok) (none .match24 .keys1)) (λ A t. (rw (rw (toZ-ofZ (start .fits .a)) at (at-i .named .ensures)) at (c .get-blk .ensures)) _ A (in-by (start .args .a) _ (t .words .0)))
 
 returns-46 : tie.Need-returns-46
 unfolding table getBlk
@@ -583,7 +583,7 @@ returns-47 c =
     let at-j = at-p .before in
     let at-i = at-j .before in
     let start = at-i .before in
-    arm-done 23 (λ v. pgetBlk v (start .args .a)) (start .args .handler) (start .args .me) (start .args .a) (start .args .b) (start .args .c) (arm .match .keys24) (λ v. refl) (λ A. rw (rw (toZ-ofZ (start .fits .a)) at (at-i .named .ensures)) at ((judge .on-object9 .ensures) Kind.pool refl _ A)) (code-zero (judge .on-object9 .ok) (none .match25 .keys1)) (λ A t. (rw (rw (toZ-ofZ (start .fits .a)) at (at-i .named .ensures)) at (c .take-blk2 .ensures)) _ A (in-by (start .args .a) _ (t .words .0)))
+    arm-done 23 (λ v. pgetBlk v (start .args .a)) (start .args .handler) (start .args .me) (start .args .a) (start .args .b) (start .args .c) (arm .match .keys24) (λ v. refl) (λ A. rw (rw (toZ-ofZ (start .fits .a)) at (at-i .named .ensures)) at ((judge .on-object9 .ensures) Kind.pool refl _ A)) (code-zero (judge .on-object9 .ok) (none .match25 .keys1)) (λ A t. (rw (rw (toZ-ofZ (start .fits .a)) at (at-i .named .ensures)) at (c .pget-blk .ensures)) _ A (in-by (start .args .a) _ (t .words .0)))
 
 returns-48 : tie.Need-returns-48
 unfolding table pgetBlk
