@@ -1,4 +1,4 @@
--- Demand 2's broken mark: after an accepted rel_wai the cell reads E_RLWAI and 0 until the task's next release or start. Assumes nothing.
+-- Demand 2's broken mark: after an accepted rel_wai the cell reads E_RLWAI and 0 until the task's next release, start or deletion. Assumes nothing.
 use mathlib.Core.Bool.{Bool, true, false, cond, not, _&&_, _||_, false≢true}
 use mathlib.Core.List.{List, [], _∷_}
 use mathlib.Core.Logic.{inl, inr, _≢_}
