@@ -246,55 +246,6 @@ fn task_ok(words: &[u32; STATE_WORDS], t: u32) -> bool
     }
 }
 
-fn tasks_ok(words: &[u32; STATE_WORDS], n: u32) -> bool
-    requires { ⌜ n ≤ maxMessages ⌝ }
-    ensures { λ r. ⌜ r ≡ every n 1 (Ranges.taskOk (now (words .entry))) ⌝ }
-{
-    let mut i: u32 = 1;
-    let mut left = n;
-    while 0 < left {
-        if !task_ok(words, i) {
-            return false;
-        }
-        i += 1;
-        left -= 1;
-    }
-    true
-}
-
-fn semaphores_ok(words: &[u32; STATE_WORDS], n: u32) -> bool
-    requires { ⌜ n ≤ maxMessages ⌝ }
-    ensures { λ r. ⌜ r ≡ every n 1 (Ranges.semaphoreOk (now (words .entry))) ⌝ }
-{
-    let mut i: u32 = 1;
-    let mut left = n;
-    while 0 < left {
-        if 65535 < semaphore(words, i) {
-            return false;
-        }
-        i += 1;
-        left -= 1;
-    }
-    true
-}
-
-// Patterns are words of 32 bits.
-fn flags_ok(words: &[u32; STATE_WORDS], n: u32) -> bool
-    requires { ⌜ n ≤ maxMessages ⌝ }
-    ensures { λ r. ⌜ r ≡ every n 1 (Ranges.flagOk (now (words .entry))) ⌝ }
-{
-    let mut i: u32 = 1;
-    let mut left = n;
-    while 0 < left {
-        if 4294967295 < flag(words, i) {
-            return false;
-        }
-        i += 1;
-        left -= 1;
-    }
-    true
-}
-
 fn pool_ok(words: &[u32; STATE_WORDS], p: u32) -> bool
     ensures { λ r. ⌜ r ≡ Ranges.poolOk (now (words .entry)) p ⌝ }
 {
@@ -309,14 +260,27 @@ fn pool_ok(words: &[u32; STATE_WORDS], p: u32) -> bool
     k == MAX_BLOCKS
 }
 
-fn pools_ok(words: &[u32; STATE_WORDS], n: u32) -> bool
+// Entry i of a sort, which the place of its count names. Patterns are words of 32 bits.
+fn entry_ok(words: &[u32; STATE_WORDS], sort: u32, i: u32) -> bool
+    ensures { λ r. ⌜ r ≡ Ranges.entryOk (now (words .entry)) sort i ⌝ }
+{
+    match sort {
+        TASKS => task_ok(words, i),
+        SEMAPHORES => semaphore(words, i) <= 65535,
+        POOLS => pool_ok(words, i),
+        _ => flag(words, i) <= 4294967295,
+    }
+}
+
+// All n of a sort.
+fn entries_ok(words: &[u32; STATE_WORDS], sort: u32, n: u32) -> bool
     requires { ⌜ n ≤ maxMessages ⌝ }
-    ensures { λ r. ⌜ r ≡ every n 1 (Ranges.poolOk (now (words .entry))) ⌝ }
+    ensures { λ r. ⌜ r ≡ every n 1 (Ranges.entryOk (now (words .entry)) sort) ⌝ }
 {
     let mut i: u32 = 1;
     let mut left = n;
     while 0 < left {
-        if !pool_ok(words, i) {
+        if !entry_ok(words, sort, i) {
             return false;
         }
         i += 1;
@@ -456,16 +420,16 @@ pub fn ranges_ok(words: &[u32; STATE_WORDS], messages: &[u32; MESSAGE_WORDS]) ->
     if !sizes_ok(words) {
         return false;
     }
-    if !tasks_ok(words, at_most(system(words, TASKS), MAX_TASKS)) {
+    if !entries_ok(words, TASKS, at_most(system(words, TASKS), MAX_TASKS)) {
         return false;
     }
-    if !semaphores_ok(words, at_most(system(words, SEMAPHORES), MAX_OBJECTS)) {
+    if !entries_ok(words, SEMAPHORES, at_most(system(words, SEMAPHORES), MAX_OBJECTS)) {
         return false;
     }
-    if !flags_ok(words, at_most(system(words, FLAGS), MAX_OBJECTS)) {
+    if !entries_ok(words, FLAGS, at_most(system(words, FLAGS), MAX_OBJECTS)) {
         return false;
     }
-    if !pools_ok(words, at_most(system(words, POOLS), MAX_POOLS)) {
+    if !entries_ok(words, POOLS, at_most(system(words, POOLS), MAX_POOLS)) {
         return false;
     }
     if !messages_ok(

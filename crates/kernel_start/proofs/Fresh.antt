@@ -16,7 +16,8 @@ use Rattle.rules.specs.Places.{awaits, tabulate}
 use Rattle.rules.specs.View.{View, act, acts}
 use Rattle.rules.specs.Kernel.{idleTask, idle, frees, starts, begins, fresh}
 use Rattle.rules.proofs.Ids.{of-replicate}
-use Rattle.rules.proofs.Sizes.{SameSizes, sizes-tasks, sizes-after}
+use Rattle.rules.proofs.Sizes.{SameSizes, sizes-then, sizes-tasks, sizes-after}
+use Rattle.rules.proofs.Cells.{acts-join}
 use Rattle.rules.proofs.Keeps.{NoneAt}
 use Rattle.rules.proofs.Queues.{sound-act, body-act}
 use Rattle.rules.proofs.Accepted.{GoodSetup, setup-good, idle-sound, all-there}
@@ -38,16 +39,8 @@ use Rattle.kernel_start.specs.Starting.{StartsAs, Starts, Holds, freed, 
 use Rattle.kernel_start.specs.declared.Started.the-variants.{Fresh, Refused}
 use Rattle.kernel_start.proofs.Shown.{Blank, zeros-blank, idle-shown, idle-accepted}
 
-acts-join : (l m : List Act) (v : View) → acts (l ++ m) v ≡ acts m (acts l v)
-unfolding acts
-acts-join [] m v = refl
-acts-join (a ∷ l) m v = acts-join l m (act a v)
-
 same-sizes : (b : Body) → SameSizes b b
 same-sizes b = sizes-tasks b (b .tasks) refl
-
-sizes-then : {b c d : Body} → SameSizes b c → SameSizes c d → SameSizes b d
-sizes-then h g = record { priorities = g .priorities ∙ h .priorities; tasks = g .tasks ∙ h .tasks; objects = λ k. g .objects k ∙ h .objects k; messages = g .messages ∙ h .messages; blocks = λ p. g .blocks p ∙ h .blocks p; counter = g .counter ∙ h .counter; alarms = g .alarms ∙ h .alarms }
 
 -- the first turn
 turn-one : (f : ℕ → List ℕ → List ℕ) (n i : ℕ) (b : List ℕ) → inTurn f (suc n) i b ≡ inTurn f n (suc i) (f i b)

@@ -43,6 +43,14 @@ abbrev pub Reads : {A : Type 0} → (A → ℕ → Type 0) → Read A → Type 0
 Reads P (got a next) = P a next
 Reads P (refused d place) = Unit {0}
 
+pub reads-both : {A : Type 0} (P Q : A → ℕ → Type 0) (r : Read A) → Reads P r → Reads Q r → Reads (λ a i. P a i × Q a i) r
+reads-both P Q (got a i) h g = (h, g)
+reads-both P Q (refused d p) h g = tt
+
+pub reads-itself : {A : Type 0} (r : Read A) → Reads (λ a i. r ≡ got a i) r
+reads-itself (got a i) = refl
+reads-itself (refused d i) = tt
+
 module _ {A B : Type 0} (P : A → ℕ → Type 0) (Q : B → ℕ → Type 0) where
   pub reads-then : (r : Read A) (f : A → ℕ → Read B) → Reads P r → ((a : A) (i : ℕ) → P a i → Reads Q (f a i)) → Reads Q (and-then r f)
   unfolding and-then

@@ -55,6 +55,11 @@ unfolding acts act afters
 body-acts [] v = refl
 body-acts (a ∷ l) v = body-acts l (act a v)
 
+pub acts-join : (l m : List Act) (v : View) → acts (l ++ m) v ≡ acts m (acts l v)
+unfolding acts
+acts-join [] m v = refl
+acts-join (a ∷ l) m v = acts-join l m (act a v)
+
 -- ---- the cell is as it was, or the task was released or started, or is not there after
 
 abbrev pub Kept : Task → Task → Type 0

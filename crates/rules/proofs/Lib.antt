@@ -1,4 +1,5 @@
 -- The theorems about the rules, in the order in which to read them.
+pub mod Numbers
 pub mod Ids
 pub mod Sizes
 pub mod States

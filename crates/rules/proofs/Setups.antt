@@ -15,7 +15,7 @@ use Rattle.rules.specs.Setup.{S4, Read, got, refused, and-then, Range, t
 use Rattle.rules.specs.Writing.{joined, taskWords, alarmWords, counterWords, sevenSections, setupSections, setupWords, wordBytes, setupBytes, sevenBytes, Alone, Bytes}
 use Rattle.rules.proofs.Judge.{_⊗_}
 use Rattle.rules.proofs.Spelled.{Spells, spells-first, spells-rest, spells-both, sectionWords, sectionsWords, section-got, sections-got, Stands, section-stands, sections-stand, length-written, written-spells, spells-written}
-use Rattle.rules.proofs.Accepted.{each-map, Reads, reads-then, from-read, InRange, Fits, SectionFits, SectionsFit, Within, section-reads, sections-reads, setup-good, setup-whole}
+use Rattle.rules.proofs.Accepted.{each-map, Reads, reads-both, reads-then, from-read, InRange, Fits, SectionFits, SectionsFit, Within, section-reads, sections-reads, setup-good, setup-whole}
 
 -- ---- a setup and the entries of its sections
 
@@ -291,10 +291,6 @@ module _ (u : Setup) (g : GoodSetup u) where
       seven-got perhaps s i h ∙ rw (le-leb (length s) (i + 4 * length (sevenWords u)) (omega (arith, d))) (λ z. got ((ap (λ (c : List CounterEntry). setupOf (u .priorities) (sectionsOf u) (map counterWords c)) (sym e) ∙ setup-sections u) z) (sym d z))
 
 -- ---- a setup that is read has its words there
-
-reads-both : {A : Type 0} (P Q : A → ℕ → Type 0) (r : Read A) → Reads P r → Reads Q r → Reads (λ a i. P a i × Q a i) r
-reads-both P Q (got a i) h g = (h, g)
-reads-both P Q (refused d p) h g = tt
 
 -- the words of a setup that is made of sections that fit
 words-back : (p : List (List ℕ)) (l : List (List (List ℕ))) (c : List (List ℕ)) → Each (Fits []) p → SectionsFit (sections (length p)) l

@@ -17,7 +17,7 @@ pub record SameSizes (b c : Body) : Type 0 where
   pub counter : c .counter .size ≡ b .counter .size
   pub alarms : length (c .counter .alarms) ≡ length (b .counter .alarms)
 
-sizes-then : {b c d : Body} → SameSizes b c → SameSizes c d → SameSizes b d
+pub sizes-then : {b c d : Body} → SameSizes b c → SameSizes c d → SameSizes b d
 sizes-then h g = record {
   priorities = g .priorities ∙ h .priorities;
   tasks = g .tasks ∙ h .tasks;

@@ -20,14 +20,9 @@ use Rattle.rules.proofs.Sizes.{SameSizes, sizes-after, sizes-afters}
 use Rattle.rules.proofs.Fits.{marked}
 use Rattle.rules.proofs.Lines.{line-tabulate, line-act}
 use Rattle.rules.proofs.Queues.{body-act, stands-free}
-use Rattle.rules.proofs.Cells.{body-acts}
+use Rattle.rules.proofs.Cells.{body-acts, acts-join}
 use Rattle.rules.proofs.Events.{fresh-sound}
 use Rattle.rules.proofs.Blocks.{Unmoved, start-unmoved}
-
-acts-join : (l m : List Act) (v : View) → acts (l ++ m) v ≡ acts m (acts l v)
-unfolding acts
-acts-join [] m v = refl
-acts-join (a ∷ l) m v = acts-join l m (act a v)
 
 acts-sizes : (l : List Act) (v : View) → SameSizes (v .body) (acts l v .body)
 acts-sizes l v = rw (body-acts l v) (sizes-afters l (v .body))

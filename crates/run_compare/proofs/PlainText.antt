@@ -16,7 +16,7 @@ use Rattle.rules.specs.Blocks.{Happened}
 use Rattle.rules_runs.specs.Demand3.{happened, Demand3}
 use Rattle.rules_runs.proofs.Demand3.{demand3}
 use Rattle.run_reading.specs.Recorded.{signedWord}
-use Rattle.run_playback.proofs.PlainText.{word-fits, event-fits}
+use Rattle.run_reading.proofs.Words.{word-fits, event-fits}
 use Rattle.rules.specs.Setup.{wordAt}
 use Rattle.run_compare_reading.specs.Compared.{Compared, compared, wordsFrom}
 use Rattle.run_compare_reading.proofs.Offset.{rest-got}

@@ -6,7 +6,7 @@ use native.Mathlib.Omega.{arith}
 use lib.IntN.{ℤ}
 use lib.ListN.{length, replicate, length-replicate}
 use Rattle.rules.specs.Setup.{S2, S3, Read, got, refused, and-then, wordAt, Range, to, readWord, readEntry, readEntries, readSection, at-end}
-use Rattle.rules.proofs.Accepted.{Reads, reads-then}
+use Rattle.rules.proofs.Accepted.{Reads, reads-both, reads-then}
 use Rattle.setup.specs.Judging.{judgedOf, onGood, endedAt}
 use Rattle.setup.specs.declared.Judged.{Judged}
 use Rattle.setup.proofs.Reading.{WordAt, word-lies}
@@ -28,10 +28,6 @@ module _ {A B : Type 0} where
   unfolding and-then
   then-then (got a i) f g = refl
   then-then (refused d i) f g = refl
-
-pub reads-both : {A : Type 0} (P Q : A → ℕ → Type 0) (r : Read A) → Reads P r → Reads Q r → Reads (λ a j. P a j × Q a j) r
-reads-both P Q (got a j) p q = (p, q)
-reads-both P Q (refused d j) p q = tt
 
 then-got : {A : Type 0} (r : Read A) → r ≡ and-then r (λ a i. got a i)
 unfolding and-then

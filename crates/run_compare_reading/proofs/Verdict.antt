@@ -8,7 +8,7 @@ use lib.Dec.{leb}
 use lib.IntN.{ℤ}
 use lib.ListN.{length}
 use Rattle.rules.specs.Setup.{Fault, S4, Read, got, refused, and-then, Setup, readSetup, at-end}
-use Rattle.rules.proofs.Accepted.{Reads, reads-then, from-read}
+use Rattle.rules.proofs.Accepted.{Reads, reads-itself, reads-then, from-read}
 use Rattle.setup.specs.Judging.{judgedOf}
 use Rattle.setup.specs.declared.Judged.{Judged}
 use Rattle.setup.specs.declared.Judged.the-variants.{Bad, Good}
@@ -113,10 +113,6 @@ module _ (s : List ℕ) where
     pub second : readSetup s second-at ≡ got (c .second) events-at
     pub events : Lie s events-at (c .words)
 
-  itself : {A : Type 0} (r : Read A) → Reads (λ a i. r ≡ got a i) r
-  itself (got a i) = refl
-  itself (refused d i) = tt
-
   end-reads : {A : Type 0} (P : A → ℕ → Type 0) (r : Read A) → Reads P r → Reads P (at-end s r)
   unfolding at-end
   end-reads P (got a i) h = go (leb (length s) i)
@@ -130,8 +126,8 @@ module _ (s : List ℕ) where
   unfolding compared
   all-found =
       end-reads _ _
-      (reads-then (λ u i. readSetup s 0 ≡ got u i) _ (readSetup s 0) _ (itself (readSetup s 0))
-      (λ u i e. reads-then (λ v j. readSetup s i ≡ got v j) _ (readSetup s i) _ (itself (readSetup s i))
+      (reads-then (λ u i. readSetup s 0 ≡ got u i) _ (readSetup s 0) _ (reads-itself (readSetup s 0))
+      (λ u i e. reads-then (λ v j. readSetup s i ≡ got v j) _ (readSetup s i) _ (reads-itself (readSetup s i))
       (λ v j f. reads-then (λ w k. Lie s j w) _ (readEvents s j) _ (events-lie s j)
       (λ w k L. record { second-at = i; events-at = j; first = e; second = f; events = L }))))
 

@@ -12,23 +12,9 @@ use borrow.Author.Tests.{eqb-true, eq-eqb, ne-eqb}
 use mir.Syntax.{w32}
 use mir.Val.{SFits, toZ, ofZ}
 use mir.Facts.{toZ-ofZ}
-use Rattle.run_compare_text.specs.Changes.{same, differ}
-
-pub same-refl : (z : ℤ) → same z z ≡ true
-same-refl (pos n) = eq-eqb n n refl
-same-refl (negsuc n) = eq-eqb n n refl
-
-same-is : (z w : ℤ) → same z w ≡ true → z ≡ w
-same-is (pos m) (pos n) e = ap pos (eqb-true m n e)
-same-is (pos m) (negsuc n) e = absurd (let q : _≡_ {A = ℕ} 0 1 = cc in omega arith)
-same-is (negsuc m) (pos n) e = absurd (let q : _≡_ {A = ℕ} 0 1 = cc in omega arith)
-same-is (negsuc m) (negsuc n) e = ap negsuc (eqb-true m n e)
-
-same-not : (z w : ℤ) → (z ≡ w → ⊥) → same z w ≡ false
-same-not (pos m) (pos n) h = ne-eqb m n (λ e. h (ap pos e))
-same-not (pos m) (negsuc n) h = refl
-same-not (negsuc m) (pos n) h = refl
-same-not (negsuc m) (negsuc n) h = ne-eqb m n (λ e. h (ap negsuc e))
+use Rattle.rules.specs.Codes.{same}
+use Rattle.rules.proofs.Numbers.{same-true, same-false, same-is}
+use Rattle.run_compare_text.specs.Changes.{differ}
 
 -- ---- the tests of the code
 
@@ -38,10 +24,10 @@ or-false false = refl
 
 -- codes are compared by their bits
 pub same-code : {z w : ℤ} → SFits w32 z → SFits w32 w → ofZ w32 z ≡ ofZ w32 w → same z w ≡ true
-same-code {z} {w} f g e = let q : z ≡ w = sym (toZ-ofZ f) ∙ ap (toZ w32) e ∙ toZ-ofZ g in ap (same z) (sym q) ∙ same-refl z
+same-code {z} {w} f g e = let q : z ≡ w = sym (toZ-ofZ f) ∙ ap (toZ w32) e ∙ toZ-ofZ g in ap (same z) (sym q) ∙ same-true z z refl
 
 pub other-code : (z w : ℤ) → (ofZ w32 z ≡ ofZ w32 w → ⊥) → same z w ≡ false
-other-code z w h = same-not z w (λ e. h (ap (ofZ w32) e))
+other-code z w h = same-false z w (λ e. h (ap (ofZ w32) e))
 
 -- the answers of two runs, number by number
 module _ {z y : ℤ} (f : SFits w32 z) (g : SFits w32 y) (a b : ℕ) (c d : ℕ) (k l : ℕ) (m n : ℕ) where
@@ -79,7 +65,7 @@ module _ {z y : ℤ} (f : SFits w32 z) (g : SFits w32 y) (a b : ℕ) (c d : ℕ)
 pub never-itself : (a : List ℤ) → differ a a ≡ false
 unfolding differ
 never-itself [] = refl
-never-itself (x ∷ a) = rw (same-refl x) (never-itself a)
+never-itself (x ∷ a) = rw (same-true x x refl) (never-itself a)
 
 pub differ-not : (a b : List ℤ) → differ a b ≡ true → a ≢ b
 differ-not a b e q = false≢true (sym (never-itself a) ∙ ap (differ a) q ∙ e)

@@ -3,17 +3,12 @@ use mathlib.Core.Bool.{Bool, false, cond, not, _||_}
 use mathlib.Core.List.{List, [], _∷_, _++_}
 use Prim.Native.Nat.{ℕ, suc}
 use lib.Dec.{eqb}
-use lib.IntN.{ℤ, pos, negsuc}
+use lib.IntN.{ℤ}
 use lib.ListN.{length}
+use Rattle.rules.specs.Codes.{same}
 use Rattle.run_text.specs.Lines.{digits, decimal, signed, fields, eventLine, countLine}
 
 -- ---- events at which the answers differ
-
-abbrev pub same : ℤ → ℤ → Bool
-same (pos m) (pos n) = eqb m n
-same (pos m) (negsuc n) = false
-same (negsuc m) (pos n) = false
-same (negsuc m) (negsuc n) = eqb m n
 
 -- in any of the numbers
 unfoldable pub differ : List ℤ → List ℤ → Bool

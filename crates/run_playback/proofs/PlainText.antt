@@ -3,14 +3,13 @@
 use mathlib.Core.Bool.{Bool, true, false, cond}
 use mathlib.Core.List.{List, [], _∷_, _++_}
 use mathlib.Core.Path.{_≡_, refl, sym}
-use Prim.Native.Nat.{ℕ, zero, suc, _+_, _-_, _*_, _/_, _^_}
+use Prim.Native.Nat.{ℕ, zero, suc, _+_, _-_, _*_, _/_}
 use native.Mathlib.Omega.{arith}
-use lib.Dec.{leb, ltb}
-use lib.IntN.{ℤ, pos, negsuc}
+use lib.Dec.{leb}
+use lib.IntN.{ℤ}
 use lib.ListN.{length, take, drop}
-use borrow.Author.Tests.{ltb-true, ltb-false}
 use Rattle.rules.specs.Setup.{S1, Read, got, refused, wordAt}
-use Rattle.rules.specs.Events.{Event, eventOf, Word, Words, AllWords}
+use Rattle.rules.specs.Events.{Event, Words, AllWords}
 use Rattle.rules.specs.Answers.{numbers}
 use Rattle.rules.specs.View.{View, running}
 use Rattle.rules.specs.Kernel.{event, fresh}
@@ -22,26 +21,11 @@ use Rattle.rules.proofs.Agree.{fresh-shows}
 use Rattle.rules_runs.proofs.Demand3.{demand3}
 use Rattle.run_reading.specs.Recorded.{Head, readHead, signedWord, eventBytes, eventIn, Item, begins, occurs, refuses, eventItems, itemsBehind, itemsOf}
 use Rattle.run_reading.proofs.Reach.{setup-prefix, Parts, head-parts}
+use Rattle.run_reading.proofs.Words.{word-fits, event-fits}
 use Rattle.run_text.specs.Lines.{startLine, eventLine}
 use Rattle.run_text.specs.Text.{unstarted, at, lineOf, onward, linesFrom, queues, plain, textOf, plainTextOf}
 
 -- ---- the words of an event
-
-pub word-fits : (w : ℕ) → Word (signedWord w)
-word-fits w = go (ltb w (2 ^ 31)) refl
-  where
-    go : (t : Bool) → ltb w (2 ^ 31) ≡ t → Word (cond t (pos w) (negsuc (2 ^ 32 - 1 - w)))
-    go true e = ltb-true w (2 ^ 31) e
-    go false e = omega (arith, ltb-false w (2 ^ 31) e)
-
-pub event-fits : (k n a b c : ℤ) → Word k → Word n → Word a → Word b → Word c → Words (eventOf k n a b c)
-event-fits (pos zero) n a b c x y z v w = (x, y, z, v, w)
-event-fits (pos (suc zero)) n a b c x y z v w = (x, y, z, v, w)
-event-fits (pos (suc (suc zero))) n a b c x y z v w = tt
-event-fits (pos (suc (suc (suc zero)))) n a b c x y z v w = tt
-event-fits (pos (suc (suc (suc (suc zero))))) n a b c x y z v w = tt
-event-fits (pos (suc (suc (suc (suc (suc k)))))) n a b c x y z v w = (x, y, z, v, w)
-event-fits (negsuc k) n a b c x y z v w = (x, y, z, v, w)
 
 event-words : (w : List ℕ) → Words (eventIn w)
 event-words w =

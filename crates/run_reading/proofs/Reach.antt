@@ -10,7 +10,7 @@ use lib.Dec.{leb}
 use lib.ListN.{length, take, getD, length-take, length-append}
 use borrow.Author.Tests.{le-leb, leb-true, leb-false}
 use Rattle.rules.specs.Setup.{Fault, S1, S2, S3, S4, Read, got, refused, and-then, wordAt, Range, to, within, readWord, Section, priorities, sections, counters, readEntry, readEntries, readSection, readSections, Setup, entriesOf, setupOf, readWith, readSetup, perhaps, at-end, setup}
-use Rattle.rules.proofs.Accepted.{Reads, from-read, reads-then}
+use Rattle.rules.proofs.Accepted.{Reads, from-read, reads-both, reads-itself, reads-then}
 use Rattle.rules_setups.proofs.Recorded.{from-more, more-alone}
 use Rattle.setup.proofs.Reading.{WordAt, word-lies}
 use Rattle.run_reading.specs.Recorded.{mostEvents, headBytes, Head, readHead}
@@ -263,14 +263,6 @@ needs-more s p e =
 
 -- ---- the parts of a head
 
-reads-both : {A : Type 0} (P Q : A → ℕ → Type 0) (r : Read A) → Reads P r → Reads Q r → Reads (λ a j. P a j × Q a j) r
-reads-both P Q (got a j) p q = (p, q)
-reads-both P Q (refused d j) p q = tt
-
-itself : {A : Type 0} (r : Read A) → Reads (λ a i. r ≡ got a i) r
-itself (got a i) = refl
-itself (refused d i) = tt
-
 -- the setup, then the count behind it
 pub record Parts (s : List ℕ) (h : Head) (i : ℕ) : Type 0 where
   pub end : ℕ
@@ -283,7 +275,7 @@ pub record Parts (s : List ℕ) (h : Head) (i : ℕ) : Type 0 where
 pub head-parts : (s : List ℕ) → Reads (Parts s) (readHead s)
 unfolding readHead
 head-parts s =
-    reads-then (λ u i. readSetup s 0 ≡ got u i) _ (readSetup s 0) _ (itself (readSetup s 0))
+    reads-then (λ u i. readSetup s 0 ≡ got u i) _ (readSetup s 0) _ (reads-itself (readSetup s 0))
     (λ u i e. reads-then (λ n j. WordAt s i n j × ((i + 4 ≤ length s) × (n ≤ mostEvents))) _ (readWord s (to 0 mostEvents) S2 i) _
     (reads-both _ _ (readWord s (to 0 mostEvents) S2 i) (word-lies s (to 0 mostEvents) S2 i) (word-within s (to 0 mostEvents) S2 i))
     (λ n j h. record { end = i; setup = e; whole = h .0 .1; within = rw (h .0 .1) (h .1 .0); events = h .0 .0; few = h .1 .1 }))

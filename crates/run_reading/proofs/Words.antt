@@ -1,12 +1,15 @@
--- The words of the events as signed words with the same bits. Assumes nothing.
+-- The words of the events as signed words with the same bits; any five make an event of 32-bit words. Assumes nothing.
+use mathlib.Core.Bool.{Bool, true, false, cond}
 use mathlib.Core.Path.{_≡_, refl, _∙_, ap}
 use Prim.Native.Nat.{ℕ, zero, suc, _+_, _-_, _^_, _≤_, _<_}
 use native.Mathlib.Omega.{arith}
-use lib.IntN.{pos, negsuc, _-ℤ_}
-use borrow.Author.Tests.{lt-ltb, le-ltb}
+use lib.Dec.{ltb}
+use lib.IntN.{ℤ, pos, negsuc, _-ℤ_}
+use borrow.Author.Tests.{lt-ltb, le-ltb, ltb-true, ltb-false}
 use mir.Syntax.{w32}
 use mir.Val.{SFits, toZ, ofZ}
 use mir.Facts.{toZ-ofZ}
+use Rattle.rules.specs.Events.{eventOf, Word, Words}
 use Rattle.run_reading.specs.Recorded.{signedWord}
 
 small : (k : ℕ) → k < 2 ^ 31 → toZ w32 k ≡ pos k
@@ -27,3 +30,19 @@ high-fits w h f = rw (high-is w h f, le-ltb w (2 ^ 31) h) (record { sfits = omeg
 
 pub high-word : (w : ℕ) → 2147483648 ≤ w → w < 4294967296 → toZ w32 (ofZ w32 (negsuc 0 -ℤ toZ w32 (4294967295 - w))) ≡ signedWord w
 high-word w h f = toZ-ofZ (high-fits w h f) ∙ high-is w h f
+
+pub word-fits : (w : ℕ) → Word (signedWord w)
+word-fits w = go (ltb w (2 ^ 31)) refl
+  where
+    go : (t : Bool) → ltb w (2 ^ 31) ≡ t → Word (cond t (pos w) (negsuc (2 ^ 32 - 1 - w)))
+    go true e = ltb-true w (2 ^ 31) e
+    go false e = omega (arith, ltb-false w (2 ^ 31) e)
+
+pub event-fits : (k n a b c : ℤ) → Word k → Word n → Word a → Word b → Word c → Words (eventOf k n a b c)
+event-fits (pos zero) n a b c x y z v w = (x, y, z, v, w)
+event-fits (pos (suc zero)) n a b c x y z v w = (x, y, z, v, w)
+event-fits (pos (suc (suc zero))) n a b c x y z v w = tt
+event-fits (pos (suc (suc (suc zero)))) n a b c x y z v w = tt
+event-fits (pos (suc (suc (suc (suc zero))))) n a b c x y z v w = tt
+event-fits (pos (suc (suc (suc (suc (suc k)))))) n a b c x y z v w = (x, y, z, v, w)
+event-fits (negsuc k) n a b c x y z v w = (x, y, z, v, w)

@@ -8,7 +8,8 @@ use lib.IntN.{ℤ, pos, negsuc}
 use lib.ListN.{length, getD, set, drop}
 use borrow.Author.Tests.{eq-eqb, ne-eqb, lt-ltb, le-ltb}
 use native.Mathlib.Numerals.{add-one}
-use Rattle.run_tally.specs.Tables.{more, raised, states, tableCounted, same, placeIn}
+use Rattle.run_tally.specs.Tables.{more, raised, states, tableCounted, placeIn}
+use Rattle.rules.proofs.Numbers.{same-true, same-false}
 
 pub raised-in : (size : ℕ) (l : List ℕ) (i : ℕ) → i < size → raised size l i ≡ set l i (more (getD l i 0))
 unfolding raised
@@ -63,18 +64,6 @@ module _ (i n : ℕ) (f : ℕ → ℕ) (t : List (List ℕ)) (h : i < n) {s : �
       ap (λ (j : ℕ). onward j n f t) (add-one i) ∙ ap (onward (suc i) n f) (sym u) ∙ next i n f t h
 
 -- ---- codes
-
-pub same-true : (x y : ℤ) → x ≡ y → same x y ≡ true
-same-true (pos m) (pos n) e = eq-eqb m n (cc)
-same-true (pos m) (negsuc n) e = absurd (let z : _≡_ {A = ℕ} 0 1 = cc in omega arith)
-same-true (negsuc m) (pos n) e = absurd (let z : _≡_ {A = ℕ} 0 1 = cc in omega arith)
-same-true (negsuc m) (negsuc n) e = eq-eqb m n (cc)
-
-pub same-false : (x y : ℤ) → (x ≡ y → ⊥) → same x y ≡ false
-same-false (pos m) (pos n) e = ne-eqb m n (λ z. e (ap pos z))
-same-false (pos m) (negsuc n) e = refl
-same-false (negsuc m) (pos n) e = refl
-same-false (negsuc m) (negsuc n) e = ne-eqb m n (λ z. e (ap negsuc z))
 
 drop-entry : (i : ℕ) (l : List ℤ) → i < length l → drop i l ≡ getD l i (pos 0) ∷ drop (i + 1) l
 drop-entry i [] h = absurd (omega (arith, h))

@@ -3,10 +3,10 @@ use mathlib.Core.Bool.{Bool, false, cond}
 use mathlib.Core.List.{List, [], _∷_}
 use mathlib.Core.Path.{_≡_}
 use Prim.Native.Nat.{ℕ, zero, suc, _+_, _-_, _*_, _^_, _<_, min}
-use lib.Dec.{eqb, ltb}
-use lib.IntN.{ℤ, pos, negsuc}
+use lib.Dec.{ltb}
+use lib.IntN.{ℤ, pos}
 use lib.ListN.{getD, set}
-use Rattle.rules.specs.Codes.{minus}
+use Rattle.rules.specs.Codes.{minus, same}
 
 -- ---- a row of counts
 
@@ -36,12 +36,6 @@ codes =
     pos 0 ∷ pos 1 ∷ minus 1 ∷ minus 2 ∷ minus 3 ∷ minus 4 ∷ minus 5 ∷ minus 6 ∷ minus 7 ∷ minus 8 ∷ minus 10 ∷ minus 11 ∷ minus 12
     ∷ minus 20 ∷ minus 21 ∷ minus 22 ∷ minus 23 ∷ minus 24 ∷ minus 1830 ∷ minus 1831
     ∷ minus 2097 ∷ minus 2100 ∷ minus 2101 ∷ minus 2104 ∷ minus 2110 ∷ minus 2629 ∷ minus 2889 ∷ minus 3413 ∷ minus 3414 ∷ []
-
-abbrev pub same : ℤ → ℤ → Bool
-same (pos m) (pos n) = eqb m n
-same (pos m) (negsuc n) = false
-same (negsuc m) (pos n) = false
-same (negsuc m) (negsuc n) = eqb m n
 
 -- the place of a number in a list, behind the last one if it stands nowhere
 unfoldable pub placeIn : List ℤ → ℤ → ℕ
