@@ -423,7 +423,11 @@ pub fn ranges_ok(words: &[u32; STATE_WORDS], messages: &[u32; MESSAGE_WORDS]) ->
     if !entries_ok(words, TASKS, at_most(system(words, TASKS), MAX_TASKS)) {
         return false;
     }
-    if !entries_ok(words, SEMAPHORES, at_most(system(words, SEMAPHORES), MAX_OBJECTS)) {
+    if !entries_ok(
+        words,
+        SEMAPHORES,
+        at_most(system(words, SEMAPHORES), MAX_OBJECTS),
+    ) {
         return false;
     }
     if !entries_ok(words, FLAGS, at_most(system(words, FLAGS), MAX_OBJECTS)) {

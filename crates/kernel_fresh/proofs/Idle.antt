@@ -11,8 +11,8 @@ use borrow.Author.Tests.{eq-eqb, ne-eqb}
 use Rattle.rules.specs.Ids.{In}
 use Rattle.rules.specs.Setup.{wordAt}
 use Rattle.memory_rings.proofs.Columns.{col-store, length-store}
-use Rattle.setup.specs.declared.Plan.{Plan}
-use Rattle.setup.specs.Layout.{PlanFits}
+use Rattle.setup_plan.specs.declared.Plan.{Plan}
+use Rattle.setup_plan.specs.Layout.{PlanFits}
 use Rattle.memory_columns.specs.declared.Rings.{Rings}
 use Rattle.memory_columns.specs.declared.Rings.the-variants.{Tasks, Messages, Blocks}
 use Rattle.memory_columns.specs.Layout as Layout

@@ -6,9 +6,9 @@ use native.Mathlib.Numerals.{sub-one, add-one}
 use native.Mathlib.Omega.{arith}
 use lib.ListN.{length, getD, replicate, List·getD-eq-default}
 use Rattle.rules.specs.Setup.{wordAt}
-use Rattle.setup.specs.declared.Plan.{Plan}
-use Rattle.setup.specs.Layout.{planOf, PlanFits}
-use Rattle.setup.proofs.Plans.{plan-fits}
+use Rattle.setup_plan.specs.declared.Plan.{Plan}
+use Rattle.setup_plan.specs.Layout.{planOf, PlanFits}
+use Rattle.setup_plan.proofs.Plans.{plan-fits}
 use Rattle.memory_columns.specs.declared.Rings.the-variants.{Tasks, Messages, Blocks}
 use Rattle.memory_columns.specs.Layout as Layout
 use Rattle.memory_columns.specs.Layout.{system, stateWords, readyNode, waitNode, mailNode, freeNode, put}

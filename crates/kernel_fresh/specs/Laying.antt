@@ -5,7 +5,7 @@ use Prim.Native.Nat.{ℕ, zero, suc, _+_, _-_, _*_}
 use lib.Dec.{eqb}
 use lib.ListN.{replicate}
 use Rattle.rules.specs.Setup.{wordAt}
-use Rattle.setup.specs.declared.Plan.{Plan}
+use Rattle.setup_plan.specs.declared.Plan.{Plan}
 use Rattle.memory_columns.specs.declared.Rings.the-variants as Rings
 use Rattle.memory_columns.specs.Layout as Layout
 use Rattle.memory_columns.specs.Layout.{stateWords, maxAlarms, atMost, readyNode, waitNode, mailNode, freeNode, put}

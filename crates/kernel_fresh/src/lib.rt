@@ -30,12 +30,12 @@ use memory_columns::set_size;
 use memory_columns::set_start;
 use memory_columns::set_system;
 use memory_queues::clear;
-use setup::Plan;
+use setup_plan::Plan;
 ghost use mathlib.Core.Path.{_≡_};
 ghost use Prim.Native.Nat.{_+_, _≤_, _<_};
 ghost use lib.ListN.{length};
 ghost use Rattle.rules.specs.Setup.{wordAt};
-ghost use Rattle.setup.specs.Layout.{planOf, PlanFits};
+ghost use Rattle.setup_plan.specs.Layout.{planOf, PlanFits};
 ghost use Rattle.memory_columns.specs.Layout.{maxPriorities, maxTasks, maxObjects, maxPools};
 ghost use Rattle.memory_queues.specs.Moves.{emptied as emptiedAt};
 ghost use Rattle.kernel_fresh.specs.Laying.{inTurn, counted, wordOfId, laidTask, laidAlarm, laidEntry};
@@ -52,7 +52,7 @@ pub fn word_at(bytes: &[u8], at: usize, k: usize) -> u32
     if end - at <= k {
         return 0;
     }
-    setup::word(bytes, at + k)
+    setup_sections::word(bytes, at + k)
 }
 
 // How many there are of each; the clock is 0.
@@ -152,7 +152,7 @@ fn lay_counter(bytes: &[u8], at: usize, n: u32, words: &mut [u32; STATE_WORDS])
     if n == 0 {
         return;
     }
-    set_counter(words, COUNTER_SIZE, setup::word(bytes, at));
+    set_counter(words, COUNTER_SIZE, setup_sections::word(bytes, at));
     lay_section(Section::Alarms, bytes, at, MAX_ALARMS, words);
 }
 
@@ -211,7 +211,7 @@ pub fn lay_plan(bytes: &[u8], words: &mut [u32; STATE_WORDS]) -> Plan
         (now (words .exit) ≡ laid (now (bytes .entry)) (planOf (now (bytes .entry)) 0)) ⌝ }
 {
     *words = [0; STATE_WORDS];
-    let p = setup::plan_of(bytes, 0);
+    let p = setup_plan::plan_of(bytes, 0);
     lay_counts(words, p);
     lay_entries(bytes, p, words);
     empty_all(words, p);

@@ -22,12 +22,12 @@ use Rattle.rules.proofs.Keeps.{NoneAt}
 use Rattle.rules.proofs.Queues.{sound-act, body-act}
 use Rattle.rules.proofs.Accepted.{GoodSetup, setup-good, idle-sound, all-there}
 use Rattle.rules.proofs.Calls.{AllThere, start-there}
-use Rattle.setup.specs.declared.Plan.{Plan}
-use Rattle.setup.specs.declared.Judged.{Judged}
-use Rattle.setup.specs.declared.Judged.the-variants.{Bad, Good}
-use Rattle.setup.specs.Judging.{judgedOf}
-use Rattle.setup.specs.Layout.{planOf, PlanShows}
-use Rattle.setup.proofs.Plans.{whole-plan-law, plan-fits}
+use Rattle.setup_plan.specs.declared.Plan.{Plan}
+use Rattle.setup_sections.specs.declared.Judged.{Judged}
+use Rattle.setup_sections.specs.declared.Judged.the-variants.{Bad, Good}
+use Rattle.setup_sections.specs.Judging.{judgedOf}
+use Rattle.setup_plan.specs.Layout.{planOf, PlanShows}
+use Rattle.setup_plan.proofs.Plans.{whole-plan-law, plan-fits}
 use Rattle.memory_columns.specs.Layout.{stateWords, maxMessages, maxBlocks, atMost}
 use Rattle.memory_tasks.specs.Moves.{started}
 use Rattle.memory_objects.specs.Moves.{marked}

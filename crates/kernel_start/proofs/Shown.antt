@@ -24,8 +24,8 @@ use Rattle.rules.proofs.Lines.{tabulate-same}
 use Rattle.memory_rings.specs.Rings.{lineOf, Linked}
 use Rattle.memory_rings.proofs.Columns.{col-at}
 use Rattle.memory_rings.proofs.Laws.{blank-law, linked-ext, line-is}
-use Rattle.setup.specs.declared.Plan.{Plan}
-use Rattle.setup.specs.Layout.{alarmsAt, counterAt, PlanShows, PlanFits}
+use Rattle.setup_plan.specs.declared.Plan.{Plan}
+use Rattle.setup_plan.specs.Layout.{alarmsAt, counterAt, PlanShows, PlanFits}
 use Rattle.memory_columns.specs.declared.Rings.{Rings}
 use Rattle.memory_columns.specs.declared.Rings.the-variants.{Tasks, Messages, Blocks}
 use Rattle.memory_columns.specs.Layout as Layout

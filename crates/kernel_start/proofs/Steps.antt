@@ -5,9 +5,9 @@ use mathlib.Core.Logic.{_≢_}
 use mathlib.Core.Path.{_≡_, _∙_}
 use borrow.Author.Tests.{eq-eqb, ne-eqb}
 use Rattle.rules.specs.Setup.{wordAt}
-use Rattle.setup.specs.declared.Plan.{Plan}
-use Rattle.setup.specs.Layout.{planOf}
-use Rattle.setup.proofs.Plans.{plan-fits}
+use Rattle.setup_plan.specs.declared.Plan.{Plan}
+use Rattle.setup_plan.specs.Layout.{planOf}
+use Rattle.setup_plan.proofs.Plans.{plan-fits}
 use Rattle.memory_columns.specs.Layout.{maxTasks, maxPools, maxBlocks, atMost}
 use Rattle.memory_tasks.specs.Moves.{started}
 use Rattle.kernel_fresh.specs.Laying.{inTurn, wordOfId, laid}

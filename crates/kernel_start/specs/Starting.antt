@@ -7,7 +7,7 @@ use lib.Dec.{eqb}
 use Rattle.rules.specs.Setup.{digit, Read, got, refused, wordAt, Setup, setup}
 use Rattle.rules.specs.View.{View}
 use Rattle.rules.specs.Kernel.{fresh}
-use Rattle.setup.specs.Layout.{planOf}
+use Rattle.setup_plan.specs.Layout.{planOf}
 use Rattle.memory_columns.specs.Layout.{maxBlocks, atMost}
 use Rattle.memory_tasks.specs.Moves.{started}
 use Rattle.memory_objects.specs.Moves.{marked}

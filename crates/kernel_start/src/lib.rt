@@ -8,7 +8,7 @@ use memory_columns::STATE_WORDS;
 use memory_columns::at_most;
 use memory_objects::marks::mark_block;
 use memory_tasks::begin;
-use setup::Judged;
+use setup_sections::Judged;
 ghost use mathlib.Core.Path.{_≡_};
 ghost use Prim.Native.Nat.{_≤_};
 ghost use lib.ListN.{replicate};

@@ -33,7 +33,7 @@ fn decode(bytes: &[u8], from: usize, n: usize, events: &mut [i32])
 {
     let mut i: usize = 0;
     while i < n {
-        events[i] = signed(setup::word(bytes, from + 4 * i));
+        events[i] = signed(setup_sections::word(bytes, from + 4 * i));
         i += 1;
     }
 }
@@ -121,7 +121,7 @@ fn compare_in(
     match run_compare_reading::judge(input) {
         Places::Bad(d, i) => show_refusal(text, d, i),
         Places::Good(second, at) => {
-            let n = setup::word(input, at) as usize;
+            let n = setup_sections::word(input, at) as usize;
             run_both(
                 input,
                 second,

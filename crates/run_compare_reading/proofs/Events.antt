@@ -7,10 +7,12 @@ use lib.IntN.{ℤ}
 use lib.ListN.{length, replicate, length-replicate}
 use Rattle.rules.specs.Setup.{S2, S3, Read, got, refused, and-then, wordAt, Range, to, readWord, readEntry, readEntries, readSection, at-end}
 use Rattle.rules.proofs.Accepted.{Reads, reads-both, reads-then}
-use Rattle.setup.specs.Judging.{judgedOf, onGood, endedAt}
-use Rattle.setup.specs.declared.Judged.{Judged}
-use Rattle.setup.proofs.Reading.{WordAt, word-lies}
-use Rattle.setup.proofs.Judging.{map-judged, end-judged}
+use Rattle.setup_sections.specs.Judging.{judgedOf, onGood}
+use Rattle.setup.specs.Whole.{endedAt}
+use Rattle.setup_sections.specs.declared.Judged.{Judged}
+use Rattle.setup_sections.proofs.Reading.{WordAt, word-lies}
+use Rattle.setup_sections.proofs.Judging.{map-judged}
+use Rattle.setup.proofs.Whole.{end-judged}
 use Rattle.rules.specs.Writing.{joined}
 use Rattle.run_reading.specs.Recorded.{signedWord}
 use Rattle.run_reading.proofs.Reach.{word-within}

@@ -9,10 +9,10 @@ use lib.IntN.{ℤ}
 use lib.ListN.{length}
 use Rattle.rules.specs.Setup.{Fault, S4, Read, got, refused, and-then, Setup, readSetup, at-end}
 use Rattle.rules.proofs.Accepted.{Reads, reads-itself, reads-then, from-read}
-use Rattle.setup.specs.Judging.{judgedOf}
-use Rattle.setup.specs.declared.Judged.{Judged}
-use Rattle.setup.specs.declared.Judged.the-variants.{Bad, Good}
-use Rattle.setup.proofs.Judging.{good-read, bad-read}
+use Rattle.setup_sections.specs.Judging.{judgedOf}
+use Rattle.setup_sections.specs.declared.Judged.{Judged}
+use Rattle.setup_sections.specs.declared.Judged.the-variants.{Bad, Good}
+use Rattle.setup_sections.proofs.Judging.{good-read, bad-read}
 use Rattle.run_compare_reading.specs.Compared.{Compared, readEvents, compared, Refuses, Lies}
 use Rattle.run_compare_reading.proofs.Events.{Lie, events-lie}
 

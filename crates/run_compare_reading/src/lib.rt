@@ -2,14 +2,14 @@
 // places are counted from the input's start.
 use run_reading::EVENT;
 use run_reading::HEAD;
-use setup::Judged;
-use setup::Shape;
-use setup::Span;
 use setup::at_end;
-use setup::judge_section;
+use setup_sections::Judged;
+use setup_sections::Shape;
+use setup_sections::Span;
+use setup_sections::judge_section;
 ghost use mathlib.Core.Path.{_≡_};
 ghost use Rattle.rules.specs.Setup.{at-end};
-ghost use Rattle.setup.specs.Judging.{judgedOf};
+ghost use Rattle.setup_sections.specs.Judging.{judgedOf};
 ghost use Rattle.run_compare_reading.specs.Compared.{readEvents, Judges, JudgesRest};
 
 // The most events, and the words of each: kind, call and three arguments.

@@ -12,7 +12,7 @@ use borrow.Author.Tests.{le-leb, leb-true, leb-false}
 use Rattle.rules.specs.Setup.{Fault, S1, S2, S3, S4, Read, got, refused, and-then, wordAt, Range, to, within, readWord, Section, priorities, sections, counters, readEntry, readEntries, readSection, readSections, Setup, entriesOf, setupOf, readWith, readSetup, perhaps, at-end, setup}
 use Rattle.rules.proofs.Accepted.{Reads, from-read, reads-both, reads-itself, reads-then}
 use Rattle.rules_setups.proofs.Recorded.{from-more, more-alone}
-use Rattle.setup.proofs.Reading.{WordAt, word-lies}
+use Rattle.setup_sections.proofs.Reading.{WordAt, word-lies}
 use Rattle.run_reading.specs.Recorded.{mostEvents, headBytes, Head, readHead}
 
 -- the offset behind the last byte that decided

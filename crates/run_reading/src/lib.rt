@@ -1,11 +1,11 @@
 // The bytes of a recorded run: the setup and the count of events are judged as they stand, and an event's words are
 // signed ones. The contracts cite `readHead` and `signedWord`. That the bytes may come in parts is said and proved here
 // without code (`Recorder`, `any-division`).
-use setup::Judged;
-use setup::Span;
-use setup::judge_word;
+use setup_sections::Judged;
+use setup_sections::Span;
+use setup_sections::judge_word;
 ghost use mathlib.Core.Path.{_≡_};
-ghost use Rattle.setup.specs.Judging.{judgedOf};
+ghost use Rattle.setup_sections.specs.Judging.{judgedOf};
 ghost use Rattle.run_reading.specs.Recorded.{signedWord, readHead};
 
 // The most events of a run.

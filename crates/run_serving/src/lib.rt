@@ -8,7 +8,7 @@ use memory_columns::STATE_WORDS;
 use run_reading::EVENT;
 use run_reading::HEAD;
 use run_reading::signed;
-use setup::word;
+use setup_sections::word;
 ghost use lib.ListN.{take};
 ghost use Rattle.kernel_steps.specs.Steps.{replyOf};
 ghost use Rattle.kernel_steps.specs.Serving.{Serves};

@@ -11,10 +11,10 @@ use lib.ListN.{length, take, set, length-take}
 use borrow.Author.Tests.{le-leb, lt-leb}
 use Rattle.rules.specs.Setup.{Fault, S1, S2, S3, S4, digit, Read, got, refused, wordAt, setup}
 use Rattle.rules.proofs.Accepted.{from-read}
-use Rattle.setup.specs.Judging.{judgedOf}
-use Rattle.setup.specs.declared.Judged.{Judged}
-use Rattle.setup.specs.declared.Judged.the-variants.{Bad, Good}
-use Rattle.setup.proofs.Judging.{good-read, bad-read}
+use Rattle.setup_sections.specs.Judging.{judgedOf}
+use Rattle.setup_sections.specs.declared.Judged.{Judged}
+use Rattle.setup_sections.specs.declared.Judged.the-variants.{Bad, Good}
+use Rattle.setup_sections.proofs.Judging.{good-read, bad-read}
 use Rattle.run_reading.specs.Recorded.{headBytes, eventBytes, eventIn, Head, readHead, begins, occurs, refuses}
 use Rattle.run_reading.specs.Recorder.{heading, running, stopped, ended, begun, closed, isEnded, Fed, fed, onFault, onHead, eat, onEnd, atEnd}
 use Rattle.run_reading.proofs.Reach.{setup-prefix, needs-more, Parts, head-parts}

@@ -4,8 +4,8 @@
 use run_reading::EVENT;
 use run_reading::HEAD;
 use run_reading::judge_head;
-use setup::Judged;
-use setup::word;
+use setup_sections::Judged;
+use setup_sections::word;
 ghost use mathlib.Core.List.{[], _∷_, _++_};
 ghost use mathlib.Core.Path.{_≡_};
 ghost use Prim.Native.Nat.{_+_, _-_, _≤_, _<_, min};

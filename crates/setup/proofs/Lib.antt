@@ -1,4 +1,2 @@
--- The theorems about the setup's bytes.
-pub mod Reading
-pub mod Judging
-pub mod Plans
+-- The theorems about a whole setup.
+pub mod Whole

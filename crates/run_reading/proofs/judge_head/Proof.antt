@@ -1,8 +1,8 @@
 -- `judge_head`: the count goes by what was judged of the setup. Assumes nothing.
 use mathlib.Core.Path.{_≡_, sym, _∙_}
 use Rattle.rules.specs.Setup.{S2, to, readWord}
-use Rattle.setup.specs.Judging.{judgedOf, onGood}
-use Rattle.setup.proofs.Judging.{word-told}
+use Rattle.setup_sections.specs.Judging.{judgedOf, onGood}
+use Rattle.setup_sections.proofs.Judging.{word-told}
 use Rattle.run_reading.specs.Recorded.{mostEvents, readHead}
 use Rattle.run_reading.proofs.Heads.{head-judged}
 use borrow.Author.Needs.{needs}

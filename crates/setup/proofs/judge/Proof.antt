@@ -1,9 +1,9 @@
 -- `judge`: seven sections, then the eighth by the number of tasks. Assumes nothing.
 use mathlib.Core.Path.{_≡_, sym, _∙_}
 use Rattle.rules.specs.Setup.{wordAt, counters, readSection, readSetup}
-use Rattle.setup.specs.Judging.{judgedOf, onGood}
-use Rattle.setup.specs.Layout.{onward}
-use Rattle.setup.proofs.Judging.{eight-judged}
+use Rattle.setup_sections.specs.Judging.{judgedOf, onGood}
+use Rattle.setup_sections.specs.Judging.{onward}
+use Rattle.setup.proofs.Whole.{eight-judged}
 use borrow.Author.Needs.{needs}
 use Rattle.setup.proofs.judge.Statement.{statement}
 use Rattle.setup.proofs.judge.Tie as tie

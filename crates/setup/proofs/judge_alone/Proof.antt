@@ -2,9 +2,9 @@
 use mathlib.Core.Path.{_≡_, sym, _∙_}
 use borrow.Author.Tests.{le-leb, lt-leb}
 use Rattle.rules.specs.Setup.{wordAt, counters, readWith, perhaps}
-use Rattle.setup.specs.Judging.{judgedOf, onGood}
-use Rattle.setup.specs.Layout.{onward}
-use Rattle.setup.proofs.Judging.{eight-judged}
+use Rattle.setup_sections.specs.Judging.{judgedOf, onGood}
+use Rattle.setup_sections.specs.Judging.{onward}
+use Rattle.setup.proofs.Whole.{eight-judged}
 use borrow.Author.Needs.{needs}
 use Rattle.setup.proofs.judge_alone.Statement.{statement}
 use Rattle.setup.proofs.judge_alone.Tie as tie

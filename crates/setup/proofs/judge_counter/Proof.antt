@@ -2,8 +2,9 @@
 use mathlib.Core.List.{[], _∷_}
 use mathlib.Core.Path.{_≡_, sym, _∙_}
 use Rattle.rules.specs.Setup.{S3, to, counters, readEntry, readEntries}
-use Rattle.setup.specs.Judging.{judgedOf, onGood}
-use Rattle.setup.proofs.Judging.{counter-judged, word-told}
+use Rattle.setup_sections.specs.Judging.{judgedOf, onGood}
+use Rattle.setup_sections.proofs.Judging.{word-told}
+use Rattle.setup.proofs.Whole.{counter-judged}
 use borrow.Author.Needs.{needs}
 use Rattle.setup.proofs.judge_counter.Statement.{statement}
 use Rattle.setup.proofs.judge_counter.Tie as tie

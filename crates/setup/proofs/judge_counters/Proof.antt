@@ -4,9 +4,10 @@ use mathlib.Core.Path.{_≡_, sym, _∙_}
 use lib.Dec.{eqb}
 use borrow.Author.Tests.{eq-eqb, ne-eqb}
 use Rattle.rules.specs.Setup.{S2, wordAt, counters, readEntry, readSection}
-use Rattle.setup.specs.Judging.{judgedOf, onGood}
-use Rattle.setup.specs.declared.Judged.the-variants.{Good}
-use Rattle.setup.proofs.Judging.{counters-judged, word-told}
+use Rattle.setup_sections.specs.Judging.{judgedOf, onGood}
+use Rattle.setup_sections.specs.declared.Judged.the-variants.{Good}
+use Rattle.setup_sections.proofs.Judging.{word-told}
+use Rattle.setup.proofs.Whole.{counters-judged}
 use borrow.Author.Needs.{needs}
 use Rattle.setup.proofs.judge_counters.Statement.{statement}
 use Rattle.setup.proofs.judge_counters.Tie as tie

@@ -1,5 +1,5 @@
 -- `judge_seven`: section after section, as `seven-judged` says. Assumes nothing.
-use Rattle.setup.proofs.Judging.{seven-judged}
+use Rattle.setup.proofs.Whole.{seven-judged}
 use borrow.Author.Needs.{needs}
 use Rattle.setup.proofs.judge_seven.Statement.{statement}
 use Rattle.setup.proofs.judge_seven.Tie as tie

@@ -1,6 +1,6 @@
 -- `judge_whole`: what was judged, and whether bytes are left over. Assumes nothing.
 use mathlib.Core.Path.{sym, _∙_}
-use Rattle.setup.proofs.Judging.{whole-judged}
+use Rattle.setup.proofs.Whole.{whole-judged}
 use borrow.Author.Needs.{needs}
 use Rattle.setup.proofs.judge_whole.Statement.{statement}
 use Rattle.setup.proofs.judge_whole.Tie as tie

@@ -1,0 +1,2 @@
+-- The theorems about where the parts of a setup lie.
+pub mod Plans

@@ -1,0 +1,3 @@
+-- The theorems about words, entries and sections.
+pub mod Reading
+pub mod Judging
