@@ -2,10 +2,13 @@
 use mathlib.Core.Bool.{true, false, not}
 use mathlib.Core.List.{List}
 use mathlib.Core.Path.{_≡_, refl, ap, _∙_}
-use Prim.Native.Nat.{ℕ, zero, suc, _+_, _%_}
+use Prim.Native.Nat.{ℕ, zero, suc, _+_, _%_, _^_, _<_}
+use native.Mathlib.Nat.{mod-lt}
 use native.Mathlib.Omega.{arith}
 use lib.Dec.{eqb}
 use lib.IntN.{pos}
+use mir.Syntax.{w32}
+use mir.Val.{Fits}
 use borrow.Author.Tests.{ne-eqb}
 use Rattle.rules.specs.Codes.{number, H-USED, H-IDLE}
 use Rattle.rules.specs.State.{unset, due, inUse, Alarm, alarmOf}
@@ -22,7 +25,7 @@ use Rattle.call_words.specs.Doing.{DoesOnWords}
 use Rattle.call_words.specs.Naming.{NamesAlarm}
 use Rattle.call_words.proofs.Verdicts.{check-stops, check-passes, gives-none, gives-one}
 use Rattle.call_words.proofs.Alarms.{size-shown, alarm-shown, some-size, now-shown, code-shown}
-use Rattle.call_alarms.specs.Ringing.{SetsAlarm, dueAfter}
+use Rattle.call_alarms.specs.Setting.{SetsAlarm, dueAfter}
 
 -- ---- whether it is in use
 
@@ -87,3 +90,7 @@ module _ (k : ℕ) {b : List ℕ} {s : Outcome} where
       pub sts-used : (d ≡ 0 → ⊥) → s ≡ outcome (pos 0) 1 c 0 → DoesOnWords (NamesAlarm k) (λ v. alm-sts v (pos k)) s b b
       unfolding alm-sts keptNumber
       sts-used z f m A r = gives-none (f ∙ rw (ec, ← code-shown b m k r A, reads-used b m k r e z))
+
+-- a remainder of a word, and one more, are words
+pub fits-due : (m n : ℕ) → m < 2 ^ 32 → (m ≡ 0 → ⊥) → Fits w32 (n % m) × Fits w32 (n % m + 1)
+fits-due m n h ne = let l : n % m < m = mod-lt n (omega arith) in (record { fits = omega arith }, record { fits = omega arith })

@@ -1,4 +1,2 @@
--- Laws of the alarms.
+-- Laws of the calls on alarms.
 pub mod AlarmCalls
-pub mod Firing
-pub mod Ringing

@@ -28,7 +28,7 @@ use Rattle.memory_columns.specs.Layout as Layout
 use Rattle.memory_columns.specs.Layout.{Column, stateWords, maxTasks, maxAlarms, entry, atMost}
 use Rattle.memory_queues.specs.Moves.{queued, unqueued}
 use Rattle.memory_tasks.specs.Moves.{rotated, readied, released}
-use Rattle.memory_objects.specs.Moves.{aged, agedFrom, agedAll, clocked, counted, elapsed}
+use Rattle.memory_time.specs.Elapsing.{aged, agedFrom, agedAll, clocked, counted, elapsed}
 use Rattle.memory_picture.specs.Picture.{noWait, waitShown, stateShown, taskShown, bodyShown, viewShown, Accepted}
 use Rattle.memory_picture.specs.Perform.{performed}
 use Rattle.memory_queues.proofs.Relinks.{queued-law}
@@ -42,7 +42,7 @@ use Rattle.call_words.proofs.Tasks.{few-tasks}
 use Rattle.call_words.proofs.Alarms.{alarms-count}
 use Rattle.call_words.proofs.Performing.{performs-append, marks-append, releases-append, words-law}
 use Rattle.call_words.proofs.TickActs.{lapse-names, lapse-marks, rings-marks}
-use Rattle.call_alarms.specs.Ringing.{Performs, PerformsOnWords, HasCounter}
+use Rattle.call_ringing.specs.Ringing.{Performs, PerformsOnWords, HasCounter}
 use Rattle.call_tick.specs.Ticking.{lastTick, endsAt, expiredAt, expired, expiries, tasksAt, anyFrom, hasLeft, hasOne}
 
 -- ---- a wait that ends, as shown

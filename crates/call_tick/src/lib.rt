@@ -1,6 +1,6 @@
 // The tick: the waits that it ends are released, then the other timed waits lose one and the clock and the counter rise, then the alarms
 // ring. The contract speaks of an accepted memory.
-use call_alarms::ring;
+use call_ringing::ring;
 use call_words::Outcome;
 use call_words::releases;
 use memory_columns::CELL_TMOUT;
@@ -17,16 +17,16 @@ use memory_columns::kind;
 use memory_columns::status;
 use memory_columns::system;
 use memory_columns::ticks;
-use memory_objects::time::age_all;
-use memory_objects::time::step_clock;
-use memory_objects::time::step_counter;
 use memory_tasks::release;
+use memory_time::age_all;
+use memory_time::step_clock;
+use memory_time::step_counter;
 ghost use mathlib.Core.Path.{_≡_};
 ghost use Prim.Native.Nat.{_≤_};
 ghost use Rattle.rules.specs.Ids.{once};
 ghost use Rattle.rules.specs.Time.{ticked};
 ghost use Rattle.memory_columns.specs.Layout.{maxTasks};
-ghost use Rattle.memory_objects.specs.Moves.{agedAll};
+ghost use Rattle.memory_time.specs.Elapsing.{agedAll};
 ghost use Rattle.call_words.specs.Doing.{Anything, DoesOnWords};
 ghost use Rattle.call_tick.specs.Ticking.{lastTick, endsAt, expiredAt, expired, expiries, tasksAt, anyFrom, hasLeft, hasOne};
 

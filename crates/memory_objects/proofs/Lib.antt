@@ -1,2 +1,2 @@
--- Laws of the acts on objects and time.
+-- Laws of the acts on objects.
 pub mod Steps

@@ -20,7 +20,7 @@ use Rattle.memory_columns.specs.declared.Rings.the-variants.{Tasks, Messages, B
 use Rattle.memory_columns.specs.Layout as Layout
 use Rattle.memory_columns.specs.Layout.{stateWords, maxTasks, nextOf, prevOf, words, entry, Only}
 use Rattle.memory_columns.proofs.Frame.{words-length, put-only, entry-put, entry-other, only-none, only-both, only-on}
-use Rattle.memory_objects.specs.Moves.{aged, agedFrom, agedAll, clocked, counted, elapsed}
+use Rattle.memory_time.specs.Elapsing.{aged, agedFrom, agedAll, clocked, counted, elapsed}
 use Rattle.memory_picture.specs.Picture.{noWait, waitShown, stateShown, taskShown, countShown, counterShown, storeShown, bodyShown, viewShown, Accepted}
 use Rattle.memory_queues.proofs.Relinks.{put-at}
 use Rattle.memory_picture.proofs.Lines.{rest, follows-stay}

@@ -1,8 +1,8 @@
 -- `call_alarms::due_after` meets its contract. By its test; the remainder is below the size, so that one more fits. Assumes nothing.
 use native.Mathlib.Omega.{arith}
 use borrow.Author.Tests.{eq-eqb, ne-eqb}
-use Rattle.call_alarms.specs.Ringing.{dueAfter}
-use Rattle.call_alarms.proofs.Firing.{fits-due}
+use Rattle.call_alarms.specs.Setting.{dueAfter}
+use Rattle.call_alarms.proofs.AlarmCalls.{fits-due}
 use borrow.Author.Needs.{needs}
 use Rattle.call_alarms.proofs.due_after.Statement.{statement}
 use Rattle.call_alarms.proofs.due_after.Tie as tie

@@ -1,0 +1,3 @@
+-- Laws of the alarms' firing.
+pub mod Firing
+pub mod Ringing

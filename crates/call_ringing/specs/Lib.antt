@@ -1,0 +1,2 @@
+-- What the alarms do to the memory.
+pub mod Ringing

@@ -1,0 +1,2 @@
+-- Laws of the acts on time.
+pub mod Steps
