@@ -17,8 +17,7 @@ use Rattle.rules.specs.Broken.{isFresh, Unless}
 use Rattle.rules.proofs.Breach.{breach-tells}
 use Rattle.rules.proofs.Broken.{read-kept, read-there}
 use Rattle.rules.proofs.Events.{event-next}
-use Rattle.memory_picture.specs.Picture.{viewShown, Accepted}
-use Rattle.kernel_steps.specs.Steps.{Reply, Link, Step, Chain}
+use Rattle.kernel_steps.specs.Steps.{Memory, viewIn, SoundIn, Reply, Link, Step, Chain}
 use Rattle.kernel_cells.specs.Promises.{Reads}
 use Rattle.brightness.specs.DarkRoom.{stateIn, UntilFreed}
 
@@ -29,35 +28,35 @@ abbrev pub cellOf : View → ℕ → Cell
 cellOf v t = readCell (v .body) (pos t)
 
 -- the memory is sound, and the cell of task t is this one
-pub record Holds (t : ℕ) (x : Cell) (b m : List ℕ) : Type 0 where
-  pub accepted : Accepted b m
-  pub cell : cellOf (viewShown b m) t ≡ x
+pub record Holds (t : ℕ) (x : Cell) (m : Memory) : Type 0 where
+  pub accepted : SoundIn m
+  pub cell : cellOf (viewIn m) t ≡ x
 
-holds-on : {t : ℕ} {x : Cell} {b m : List ℕ} (k : Link) → x .code ≢ E-NOEXS → Holds t x b m → Step (k .event) b m (k .reply) (k .words) (k .marks)
-    → isFresh (stateIn b m t) (stateIn (k .words) (k .marks) t) ≡ false → Holds t x (k .words) (k .marks)
-holds-on {t} {b = b} {m} k n H S f =
+holds-on : {t : ℕ} {x : Cell} {m : Memory} (k : Link) → x .code ≢ E-NOEXS → Holds t x m → Step (k .event) m (k .reply) (k .left)
+    → isFresh (stateIn m t) (stateIn (k .left) t) ≡ false → Holds t x (k .left)
+holds-on {t} {m = m} k n H S f =
     let A = H .accepted in
-    let e : viewShown (k .words) (k .marks) ≡ next (viewShown b m) (k .event) = S .shows A ∙ event-next (viewShown b m) (k .event) (A .sound) in
-    let g = ap (λ (v : View). isFresh (stateIn b m t) (task (v .body) t .state)) (sym e) ∙ f in
-    let there = read-there (viewShown b m .body) (pos t) (λ c. n (ap (λ (y : Cell). y .code) (sym (H .cell)) ∙ c)) in
-    record { accepted = S .accepted A; cell = ap (λ (v : View). cellOf v t) e ∙ read-kept (viewShown b m) (k .event) (pos t) there g ∙ H .cell }
+    let e : viewIn (k .left) ≡ next (viewIn m) (k .event) = S .shows A ∙ event-next (viewIn m) (k .event) (A .sound) in
+    let g = ap (λ (v : View). isFresh (stateIn m t) (task (v .body) t .state)) (sym e) ∙ f in
+    let there = read-there (viewIn m .body) (pos t) (λ c. n (ap (λ (y : Cell). y .code) (sym (H .cell)) ∙ c)) in
+    record { accepted = S .accepted A; cell = ap (λ (v : View). cellOf v t) e ∙ read-kept (viewIn m) (k .event) (pos t) there g ∙ H .cell }
 
 -- ---- a chain
 
 -- whatever `cell` reads of task t is this
-abbrev pub CellIs : ℕ → Cell → List ℕ → List ℕ → Type 0
-CellIs t x b m = (code : ℤ) (word : ℕ) → Reads b m (pos t) code word → (code ≡ number (x .code)) × (word ≡ x .word)
+abbrev pub CellIs : ℕ → Cell → Memory → Type 0
+CellIs t x m = (code : ℤ) (word : ℕ) → Reads (m .words) (m .marks) (pos t) code word → (code ≡ number (x .code)) × (word ≡ x .word)
 
-cell-is : {t : ℕ} {x : Cell} {b m : List ℕ} → Holds t x b m → CellIs t x b m
+cell-is : {t : ℕ} {x : Cell} {m : Memory} → Holds t x m → CellIs t x m
 cell-is H code word R =
     let r = R .sound (H .accepted) in
     (r .0 ∙ ap (λ (y : Cell). number (y .code)) (H .cell), r .1 ∙ ap (λ (y : Cell). y .word) (H .cell))
 
-pub cell-until : {t : ℕ} {x : Cell} {b m : List ℕ} (l : List Link) → x .code ≢ E-NOEXS → Holds t x b m → Chain b m l → UntilFreed t (CellIs t x) b m l
+pub cell-until : {t : ℕ} {x : Cell} {m : Memory} (l : List Link) → x .code ≢ E-NOEXS → Holds t x m → Chain m l → UntilFreed t (CellIs t x) m l
 cell-until [] n H C = cell-is H
-cell-until {t} {x} {b} {m} (k ∷ l) n H C = (cell-is H, go (isFresh (stateIn b m t) (stateIn (k .words) (k .marks) t)) refl (λ f. cell-until l n (holds-on k n H (C .0) f) (C .1)))
+cell-until {t} {x} {m} (k ∷ l) n H C = (cell-is H, go (isFresh (stateIn m t) (stateIn (k .left) t)) refl (λ f. cell-until l n (holds-on k n H (C .0) f) (C .1)))
   where
-    go : (u : Bool) {A : Type 0} → isFresh (stateIn b m t) (stateIn (k .words) (k .marks) t) ≡ u → (isFresh (stateIn b m t) (stateIn (k .words) (k .marks) t) ≡ false → A) → Unless u A
+    go : (u : Bool) {A : Type 0} → isFresh (stateIn m t) (stateIn (k .left) t) ≡ u → (isFresh (stateIn m t) (stateIn (k .left) t) ≡ false → A) → Unless u A
     go true f h = tt
     go false f h = h f
 
@@ -66,9 +65,9 @@ unless : (u : Bool) {A B : Type 0} → (A → B) → Unless u A → Unless u B
 unless true f h = tt
 unless false f h = f h
 
-pub until-map : (t : ℕ) {P Q : List ℕ → List ℕ → Type 0} → ((b m : List ℕ) → P b m → Q b m) → (b m : List ℕ) (l : List Link) → UntilFreed t P b m l → UntilFreed t Q b m l
-until-map t f b m [] U = f b m U
-until-map t f b m (k ∷ l) U = (f b m (U .0), unless (isFresh (stateIn b m t) (stateIn (k .words) (k .marks) t)) (until-map t f (k .words) (k .marks) l) (U .1))
+pub until-map : (t : ℕ) {P Q : Memory → Type 0} → ((m : Memory) → P m → Q m) → (m : Memory) (l : List Link) → UntilFreed t P m l → UntilFreed t Q m l
+until-map t f m [] U = f m U
+until-map t f m (k ∷ l) U = (f m (U .0), unless (isFresh (stateIn m t) (stateIn (k .left) t)) (until-map t f (k .left) l) (U .1))
 
 -- ---- an event that is not refused
 
@@ -87,17 +86,17 @@ module _ {A : Type 0} (n : (A → ⊥) → ⊥) where
   pub sure-words : {x y : ℤ} {p q : ℕ} → (A → (x ≡ y) × (p ≡ q)) → (x ≡ y) × (p ≡ q)
   sure-words f = (sureℤ _ _ (λ a. f a .0), sureℕ _ _ (λ a. f a .1))
 
-  pub sure-until : (t : ℕ) (x : Cell) (b m : List ℕ) (l : List Link) → (A → UntilFreed t (CellIs t x) b m l) → UntilFreed t (CellIs t x) b m l
-  sure-until t x b m [] f = λ code word R. sure-words (λ a. f a code word R)
-  sure-until t x b m (k ∷ l) f =
-      ((λ code word R. sure-words (λ a. f a .0 code word R)), sure-unless (isFresh (stateIn b m t) (stateIn (k .words) (k .marks) t)) (sure-until t x (k .words) (k .marks) l) (λ a. f a .1))
+  pub sure-until : (t : ℕ) (x : Cell) (m : Memory) (l : List Link) → (A → UntilFreed t (CellIs t x) m l) → UntilFreed t (CellIs t x) m l
+  sure-until t x m [] f = λ code word R. sure-words (λ a. f a code word R)
+  sure-until t x m (k ∷ l) f =
+      ((λ code word R. sure-words (λ a. f a .0 code word R)), sure-unless (isFresh (stateIn m t) (stateIn (k .left) t)) (sure-until t x (k .left) l) (λ a. f a .1))
 
 damage-negative : (z : ℤ) → inDamage z ≡ true → negative z ≡ true
 damage-negative (pos k) e = absurd (false≢true e)
 damage-negative (negsuc k) e = refl
 
 -- its memory is sound
-pub not-refused : {e : Event} {b m : List ℕ} {r : Reply} {b′ m′ : List ℕ} → Step e b m r b′ m′ → negative (r .code) ≡ false → (Accepted b m → ⊥) → ⊥
+pub not-refused : {e : Event} {old new : Memory} {r : Reply} → Step e old r new → negative (r .code) ≡ false → (SoundIn old → ⊥) → ⊥
 unfolding tellsDamage
-not-refused {b = b} {m} S p n =
-    false≢true (sym p ∙ ap (λ (q : Reply). negative (q .code)) (S .refuses n) ∙ damage-negative (number (breach (viewShown b m) .code)) (breach-tells (viewShown b m)))
+not-refused {old = old} S p n =
+    false≢true (sym p ∙ ap (λ (q : Reply). negative (q .code)) (S .refuses n) ∙ damage-negative (number (breach (viewIn old) .code)) (breach-tells (viewIn old)))

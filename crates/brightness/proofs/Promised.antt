@@ -4,6 +4,7 @@ use mathlib.Core.Path.{_≡_, refl, sym, _∙_}
 use Prim.Native.Nat.{ℕ}
 use native.Mathlib.Omega.{arith}
 use lib.IntN.{ℤ}
+use Rattle.kernel_steps.specs.Steps.{Memory}
 use Rattle.brightness_curve.specs.declared.Curve.{Curve}
 use Rattle.brightness_curve.specs.declared.Judged.{Judged}
 use Rattle.brightness_curve.specs.declared.Judged.the-variants.{Good, BadPoint}
@@ -25,15 +26,15 @@ module _ (c : Curve) (s : List ℕ) (l : Light) {j : Judged} (e : j ≡ judgedOf
     told : (n : ℕ) → judgedOf c ≡ BadPoint n → shown l (BadCurve k) ≡ shown l (BadCurve n)
     told n g = rw (same-point f (e ∙ g))
 
-    pub refused : (a : ℤ) (b m : List ℕ) → Receives c s l a b m (shown l (BadCurve k)) b m
-    refused a b m = record { bad = λ n g. (told n g, refl, refl); good = λ g. good-bad g (sym e ∙ f) }
+    pub refused : (a : ℤ) (m : Memory) → Receives c s l a m (shown l (BadCurve k)) m
+    refused a m = record { bad = λ n g. (told n g, refl); good = λ g. good-bad g (sym e ∙ f) }
 
-    pub refused-again : (b m : List ℕ) → Resumes c s l b m (shown l (BadCurve k))
-    refused-again b m = record { bad = told; good = λ g. good-bad g (sym e ∙ f) }
+    pub refused-again : (m : Memory) → Resumes c s l m (shown l (BadCurve k))
+    refused-again m = record { bad = told; good = λ g. good-bad g (sym e ∙ f) }
 
   module _ (f : j ≡ Good) where
-    pub asked : {a : ℤ} {b m : List ℕ} {r : Shown} {b′ m′ : List ℕ} → Received c s l a b m r b′ m′ → Receives c s l a b m r b′ m′
+    pub asked : {a : ℤ} {old new : Memory} {r : Shown} → Received c s l a old r new → Receives c s l a old r new
     asked R = record { bad = λ n g. good-bad (sym e ∙ f) g; good = λ g. R }
 
-    pub read : {b m : List ℕ} {r : Shown} → Resumed c s l b m r → Resumes c s l b m r
+    pub read : {m : Memory} {r : Shown} → Resumed c s l m r → Resumes c s l m r
     read R = record { bad = λ n g. good-bad (sym e ∙ f) g; good = λ g. R }

@@ -8,8 +8,7 @@ use Rattle.rules.specs.Places.{waiters, mail}
 use Rattle.rules.specs.Events.{nat}
 use Rattle.rules.specs.View.{line}
 use Rattle.rules.specs.Broken.{isFresh, Unless, BreaksOff}
-use Rattle.memory_picture.specs.Picture.{viewShown}
-use Rattle.kernel_steps.specs.Steps.{Link}
+use Rattle.kernel_steps.specs.Steps.{Memory, viewIn, Link}
 use Rattle.brightness_curve.specs.declared.Curve.{Curve}
 use Rattle.brightness_curve.specs.declared.Judged.the-variants.{Good}
 use Rattle.brightness_curve.specs.Curves.{judgedOf}
@@ -20,39 +19,39 @@ use Rattle.brightness_light.specs.Lights.{idle, readOf}
 use Rattle.brightness.specs.Readings.{Resumes}
 
 -- the state of a task, as the memory shows it
-abbrev pub stateIn : List ℕ → List ℕ → ℕ → State
-stateIn b m t = task (viewShown b m .body) t .state
+abbrev pub stateIn : Memory → ℕ → State
+stateIn m t = task (viewIn m .body) t .state
 
 -- P of the memory, now and after each event of a chain, up to the event that releases, starts or deletes task t
-abbrev pub UntilFreed : ℕ → (List ℕ → List ℕ → Type 0) → List ℕ → List ℕ → List Link → Type 0
-UntilFreed t P b m [] = P b m
-UntilFreed t P b m (k ∷ l) = P b m × Unless (isFresh (stateIn b m t) (stateIn (k .words) (k .marks) t)) (UntilFreed t P (k .words) (k .marks) l)
+abbrev pub UntilFreed : ℕ → (Memory → Type 0) → Memory → List Link → Type 0
+UntilFreed t P m [] = P m
+UntilFreed t P m (k ∷ l) = P m × Unless (isFresh (stateIn m t) (stateIn (k .left) t)) (UntilFreed t P (k .left) l)
 
 -- ---- a broken wait
 
 -- whatever `resumed` makes of a light that waits for task t leaves its level, by any curve and any slots
-abbrev pub LevelStays : ℕ → List ℕ → List ℕ → Type 0
-LevelStays t b m = (c : Curve) (s : List ℕ) (l : Light) (r : Shown) → l .waits ≡ t → Resumes c s l b m r → r .light .level ≡ l .level
+abbrev pub LevelStays : ℕ → Memory → Type 0
+LevelStays t m = (c : Curve) (s : List ℕ) (l : Light) (r : Shown) → l .waits ≡ t → Resumes c s l m r → r .light .level ≡ l .level
 
 -- after every rel_wai of a chain that is answered with 0, for the task that it names
 abbrev pub BrokenStays : List Link → Type 0
 BrokenStays [] = Unit {0}
-BrokenStays (k ∷ l) = ((t : ℕ) → BreaksOff (pos t) (k .event) (k .reply .code) → UntilFreed t (LevelStays t) (k .words) (k .marks) l) × BrokenStays l
+BrokenStays (k ∷ l) = ((t : ℕ) → BreaksOff (pos t) (k .event) (k .reply .code) → UntilFreed t (LevelStays t) (k .left) l) × BrokenStays l
 
 -- whatever `resumed` makes of this light has level y
-abbrev pub LevelIs : Light → ℕ → List ℕ → List ℕ → Type 0
-LevelIs l y b m = (c : Curve) (s : List ℕ) (r : Shown) → Resumes c s l b m r → r .light .level ≡ y
+abbrev pub LevelIs : Light → ℕ → Memory → Type 0
+LevelIs l y m = (c : Curve) (s : List ℕ) (r : Shown) → Resumes c s l m r → r .light .level ≡ y
 
 -- ---- a reading
 
 -- the messages that lie in a mailbox, and the tasks that wait there, as the memory shows them
-abbrev pub mailIn : List ℕ → List ℕ → ℤ → List ℕ
-mailIn b m a = line (viewShown b m) (mail (nat a))
+abbrev pub mailIn : Memory → ℤ → List ℕ
+mailIn m a = line (viewIn m) (mail (nat a))
 
-abbrev pub waitersIn : List ℕ → List ℕ → ℤ → List ℕ
-waitersIn b m a = line (viewShown b m) (waiters mailbox (nat a))
+abbrev pub waitersIn : Memory → ℤ → List ℕ
+waitersIn m a = line (viewIn m) (waiters mailbox (nat a))
 
 -- whatever `resumed` makes of a light that waits for task t, by a good curve and once that task runs, is what message j gives: its slot's level
-abbrev pub GivesSlot : ℕ → ℕ → List ℕ → List ℕ → Type 0
-GivesSlot t j b m =
-    (c : Curve) (s : List ℕ) (l : Light) (r : Shown) → judgedOf c ≡ Good → l .waits ≡ t → Resumes c s l b m r → (r .news ≡ Waits → ⊥) → r ≡ readOf c s (idle l) j
+abbrev pub GivesSlot : ℕ → ℕ → Memory → Type 0
+GivesSlot t j m =
+    (c : Curve) (s : List ℕ) (l : Light) (r : Shown) → judgedOf c ≡ Good → l .waits ≡ t → Resumes c s l m r → (r .news ≡ Waits → ⊥) → r ≡ readOf c s (idle l) j

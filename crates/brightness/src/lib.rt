@@ -4,8 +4,8 @@
 // The kernel is used only through what its calls promise: `Step` of `call`, `Reads` of `cell` and `Runs` of `running`.
 // A reader sees it in two places. crates.txt names, of the kernel, `rules`, `kernel_events` and `kernel_cells`, which
 // promise, `kernel_steps`, which has the words of the promise, and besides `memory_columns` for the memory's size in the
-// functions' types and `memory_picture` for `viewShown` and `Accepted`, in which `Step` speaks of a state. And `grep -rho 'Rattle·[a-z_]*'
-// crates/brightness/specs crates/brightness/proofs | sort -u` lists every crate that a statement or a proof here cites.
+// functions' types. And `grep -rho 'Rattle·[a-z_]*' crates/brightness/specs crates/brightness/proofs | sort -u` lists
+// every crate that a statement or a proof here cites.
 use brightness_curve::Curve;
 use brightness_curve::Judged;
 use brightness_curve::judge;
@@ -19,6 +19,7 @@ use kernel_cells::running;
 use kernel_events::call;
 use memory_columns::STATE_WORDS;
 ghost use mathlib.Core.Path.{_≡_};
+ghost use Rattle.kernel_steps.specs.Steps.{memory};
 ghost use Rattle.brightness.specs.Readings.{taskWord, Receives, Resumes};
 
 // The context of a task's call, the call, and the words that it ignores.
@@ -50,8 +51,8 @@ pub fn receive(
     light: Light,
     mailbox: i32,
 ) -> Shown
-    ensures { λ r. ⌜ Receives curve (now (slots .entry)) light mailbox (now (words .entry)) (now (messages .entry)) r
-        (now (words .exit)) (now (messages .exit)) ⌝ }
+    ensures { λ r. ⌜ Receives curve (now (slots .entry)) light mailbox (memory (now (words .entry)) (now (messages .entry))) r
+        (memory (now (words .exit)) (now (messages .exit))) ⌝ }
 {
     match judge(curve) {
         Judged::BadPoint(point) => Shown {
@@ -75,7 +76,7 @@ pub fn resumed(
     slots: &[u32],
     light: Light,
 ) -> Shown
-    ensures { λ r. ⌜ Resumes curve (now (slots .entry)) light (now (words .entry)) (now (messages .entry)) r ⌝ }
+    ensures { λ r. ⌜ Resumes curve (now (slots .entry)) light (memory (now (words .entry)) (now (messages .entry))) r ⌝ }
 {
     match judge(curve) {
         Judged::BadPoint(point) => Shown {

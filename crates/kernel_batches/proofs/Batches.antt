@@ -11,6 +11,7 @@ use Rattle.rules.specs.Setup.{Read, got, refused, Setup, setup}
 use Rattle.kernel_start.specs.Starting.{StartsAs, Starts}
 use Rattle.kernel_start.specs.declared.Started.{Started}
 use Rattle.kernel_start.specs.declared.Started.the-variants.{Fresh, Refused}
+use Rattle.kernel_steps.specs.Steps.{Memory, memory}
 use Rattle.kernel_steps.specs.Written.{Lent, lent, RanThrough, Room}
 use Rattle.kernel_batches.specs.declared.Batch.{Batch}
 use Rattle.kernel_batches.specs.declared.Batch.the-variants.{Done, Ragged, FewCodes, FewWords}
@@ -76,19 +77,19 @@ module _ (given : List ℤ) (old : Lent) {r : Batch} (e : r ≡ fitted given old
       go FewCodes z = (refl, refl)
       go FewWords z = (refl, refl)
 
-  module _ (d : r ≡ Done) (s b m : List ℕ) (t : Started) (S : Starts s t (old .words) (old .marks) b m) where
-    pub run-done : (new : Lent) → t ≡ Fresh → RanThrough given (lent b m (old .codes) (old .answers)) new → RunsFrom s given Ran.Done old new
+  module _ (d : r ≡ Done) (s : List ℕ) (m : Memory) (t : Started) (S : Starts s t (old .memory .words) (old .memory .marks) (m .words) (m .marks)) where
+    pub run-done : (new : Lent) → t ≡ Fresh → RanThrough given (lent m (old .codes) (old .answers)) new → RunsFrom s given Ran.Done old new
     unfolding RunsFrom Starts isFresh
     run-done new h R = let f : fitted given old ≡ Done = sym e ∙ d in rw f (go (setup s) refl (rw h at S))
       where
-        go : (u : Read Setup) → setup s ≡ u → StartsAs u Fresh (old .words) (old .marks) b m → RunsAs Done u s given Ran.Done old new
-        go (got u i) q S = (refl, record { words = b; marks = m; starts = rw q S; ran = R })
+        go : (u : Read Setup) → setup s ≡ u → StartsAs u Fresh (old .memory .words) (old .memory .marks) (m .words) (m .marks) → RunsAs Done u s given Ran.Done old new
+        go (got u i) q S = (refl, record { started = m; starts = rw q S; ran = R })
         go (refused f place) q S = absurd (false≢true (ap isFresh (sym (S .0))))
 
-    pub run-refused : (n i : ℕ) → t ≡ Refused n i → RunsFrom s given (Ran.Refused n i) old (lent b m (old .codes) (old .answers))
+    pub run-refused : (n i : ℕ) → t ≡ Refused n i → RunsFrom s given (Ran.Refused n i) old (lent m (old .codes) (old .answers))
     unfolding RunsFrom Starts isFresh toRan
     run-refused n i h = let f : fitted given old ≡ Done = sym e ∙ d in rw f (go (setup s) (rw h at S))
       where
-        go : (u : Read Setup) → StartsAs u (Refused n i) (old .words) (old .marks) b m → RunsAs Done u s given (Ran.Refused n i) old (lent b m (old .codes) (old .answers))
+        go : (u : Read Setup) → StartsAs u (Refused n i) (old .memory .words) (old .memory .marks) (m .words) (m .marks) → RunsAs Done u s given (Ran.Refused n i) old (lent m (old .codes) (old .answers))
         go (got u j) S = absurd (false≢true (ap isFresh (S .0)))
-        go (refused f place) S = (ap toRan (S .0), λ z. lent (S .1 z) (S .2 z) (old .codes) (old .answers))
+        go (refused f place) S = (ap toRan (S .0), λ z. lent (memory (S .1 z) (S .2 z)) (old .codes) (old .answers))

@@ -13,6 +13,7 @@ use Rattle.kernel_batches.specs.declared.Batch.{Batch}
 use Rattle.kernel_batches.specs.declared.Batch.the-variants as Batch
 use Rattle.kernel_batches.specs.declared.Ran.{Ran}
 use Rattle.kernel_batches.specs.declared.Ran.the-variants as Ran
+use Rattle.kernel_steps.specs.Steps.{Memory}
 pub use Rattle.kernel_steps.specs.Written.{Lent, lent, codesOf, wordsOf, RanThrough}
 unfoldable pub use Rattle.kernel_steps.specs.Written.{over}
 
@@ -48,10 +49,9 @@ Batched events r old new = (r ≡ fitted events old) × BatchedAs (fitted events
 
 -- from the memory that `start` leaves
 pub record RanFresh (s : List ℕ) (given : List ℤ) (old new : Lent) : Type 0 where
-  pub words : List ℕ
-  pub marks : List ℕ
-  pub starts : Starts s Fresh (old .words) (old .marks) words marks
-  pub ran : RanThrough given (lent words marks (old .codes) (old .answers)) new
+  pub started : Memory
+  pub starts : Starts s Fresh (old .memory .words) (old .memory .marks) (started .words) (started .marks)
+  pub ran : RanThrough given (lent started (old .codes) (old .answers)) new
 
 abbrev pub RunsAs : Batch → Read Setup → List ℕ → List ℤ → Ran → Lent → Lent → Type 0
 RunsAs Batch.Done (got u i) s events r old new = (r ≡ Ran.Done) × RanFresh s events old new

@@ -6,6 +6,7 @@ use memory_columns::STATE_WORDS;
 use memory_running::running_task;
 ghost use mathlib.Core.Path.{_≡_};
 ghost use lib.ListN.{length};
+ghost use Rattle.kernel_steps.specs.Steps.{memory};
 ghost use Rattle.kernel_batches.specs.Batches.{fitOf, lent, RanThrough, Batched, RunsFrom};
 ghost use Rattle.kernel_batches.specs.declared.Batch.the-variants as Batch;
 
@@ -52,8 +53,8 @@ fn run_all(
 )
     requires { ⌜ fitOf (length (now events)) (length (now codes)) (length (now answers)) ≡ Batch.Done ⌝ }
     ensures { λ _. ⌜ RanThrough (now (events .entry))
-        (lent (now (words .entry)) (now (messages .entry)) (now (codes .entry)) (now (answers .entry)))
-        (lent (now (words .exit)) (now (messages .exit)) (now (codes .exit)) (now (answers .exit))) ⌝ }
+        (lent (memory (now (words .entry)) (now (messages .entry))) (now (codes .entry)) (now (answers .entry)))
+        (lent (memory (now (words .exit)) (now (messages .exit))) (now (codes .exit)) (now (answers .exit))) ⌝ }
 {
     let found = judged(words, messages);
     let me = running_task(words);
@@ -69,8 +70,8 @@ pub fn events(
     answers: &mut [u32],
 ) -> Batch
     ensures { λ r. ⌜ Batched (now (events .entry)) r
-        (lent (now (words .entry)) (now (messages .entry)) (now (codes .entry)) (now (answers .entry)))
-        (lent (now (words .exit)) (now (messages .exit)) (now (codes .exit)) (now (answers .exit))) ⌝ }
+        (lent (memory (now (words .entry)) (now (messages .entry))) (now (codes .entry)) (now (answers .entry)))
+        (lent (memory (now (words .exit)) (now (messages .exit))) (now (codes .exit)) (now (answers .exit))) ⌝ }
 {
     match fit(events.len(), codes.len(), answers.len()) {
         Batch::Done => {
@@ -93,8 +94,8 @@ pub fn run(
     answers: &mut [u32],
 ) -> Ran
     ensures { λ r. ⌜ RunsFrom (now (setup .entry)) (now (events .entry)) r
-        (lent (now (words .entry)) (now (messages .entry)) (now (codes .entry)) (now (answers .entry)))
-        (lent (now (words .exit)) (now (messages .exit)) (now (codes .exit)) (now (answers .exit))) ⌝ }
+        (lent (memory (now (words .entry)) (now (messages .entry))) (now (codes .entry)) (now (answers .entry)))
+        (lent (memory (now (words .exit)) (now (messages .exit))) (now (codes .exit)) (now (answers .exit))) ⌝ }
 {
     match fit(events.len(), codes.len(), answers.len()) {
         Batch::Done => match kernel_start::start(setup, words, messages) {

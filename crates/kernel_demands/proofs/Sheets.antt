@@ -18,13 +18,14 @@ use Rattle.rules_examples.specs.BenchSheet.{Case, Sheet, Ran, expectedCase, ran
 use Rattle.rules.proofs.Waits.{both-true}
 use Rattle.rules_examples.proofs.BenchSheet.{bench-sheet-holds}
 use Rattle.kernel_start.specs.Starting.{Starts, Holds}
+use Rattle.kernel_steps.specs.Steps.{Memory, memory}
 use Rattle.kernel_demands.specs.Demands.{figures, clockSet, CaseHolds, Every, SheetOnCode}
 use Rattle.kernel_demands.proofs.Chains.{start-holds, runs-is, cell-is, chain-holds, chain-says}
 use Rattle.kernel_demands.proofs.Clocks.{clock-shown, clock-accepted}
 
 -- ---- a case
 
-case-on-code : {b m : List ℕ} (begin : ℕ → View) (c : Case) → Holds b m (begin (c .clock)) → ranCase running answers states cell begin c ≡ expectedCase c → CaseHolds b m c
+case-on-code : {m : Memory} (begin : ℕ → View) (c : Case) → Holds (m .words) (m .marks) (begin (c .clock)) → ranCase running answers states cell begin c ≡ expectedCase c → CaseHolds m c
 case-on-code begin c H e = record {
   runs = λ r R. runs-is H R ∙ ap (λ (x : Ran). x .runs) e;
   says = λ l C f. chain-says figures l H C ∙ ap (λ (x : List Event). map numbers (answers (begin (c .clock)) x)) f ∙ ap (λ (x : Ran). x .says) e;
@@ -43,14 +44,14 @@ clocks-fit (c ∷ l) = ltb (c .clock) (2 ^ 48) && clocks-fit l
 both : {x y : Ran} {l m : List Ran} → x ∷ l ≡ y ∷ m → (x ≡ y) × (l ≡ m)
 both e = (cc, cc)
 
-module _ {b m : List ℕ} (u : Setup) (H : Holds b m (fresh u)) where
-  clocked : (t : ℕ) → ltb t (2 ^ 48) ≡ true → Holds (clockSet t b) m (freshAt u t)
+module _ {m : Memory} (u : Setup) (H : Holds (m .words) (m .marks) (fresh u)) where
+  clocked : (t : ℕ) → ltb t (2 ^ 48) ≡ true → Holds (clockSet t (m .words)) (m .marks) (freshAt u t)
   clocked t h = record {
     accepted = clock-accepted (H .accepted) t (ltb-true t (2 ^ 48) h);
     view = clock-shown (H .accepted) t ∙ ap (λ (v : View). record { body = at-clock t (v .body); lines = v .lines }) (H .view);
   }
 
-  cases-on-code : (l : List Case) → clocks-fit l ≡ true → map (ranCase running answers states cell (freshAt u)) l ≡ map expectedCase l → Every (λ c. CaseHolds (clockSet (c .clock) b) m c) l
+  cases-on-code : (l : List Case) → clocks-fit l ≡ true → map (ranCase running answers states cell (freshAt u)) l ≡ map expectedCase l → Every (λ c. CaseHolds (memory (clockSet (c .clock) (m .words)) (m .marks)) c) l
   cases-on-code [] r e = tt
   cases-on-code (c ∷ l) r e =
       let k = both-true (ltb (c .clock) (2 ^ 48)) (clocks-fit l) r in
@@ -67,7 +68,7 @@ unfolding ran expected and-then Starts
 sheet-on-code s h e = go (setup (s .bytes)) refl e
   where
     go : (r : Read Setup) → setup (s .bytes) ≡ r → and-then r (λ u i. got (map (ranCase running answers states cell (freshAt u)) (s .cases)) i) ≡ expected s → SheetOnCode s
-    go (got u i) f e = λ r words marks b m S. ((rw f at S) .0, cases-on-code u (start-holds (s .bytes) u i f r words marks b m S) (s .cases) h (got-list e))
+    go (got u i) f e = λ r old m S. ((rw f at S) .0, cases-on-code u (start-holds (s .bytes) u i f r old m S) (s .cases) h (got-list e))
     go (refused d i) f e = absurd (let x : _≡_ {A = ℕ} 0 1 = cc in omega arith)
 
 -- the bench sheet, from every start on its bytes

@@ -6,11 +6,10 @@ use mathlib.Core.Path.{_≡_, refl, sym, ap, _∙_, subst}
 use Prim.Native.Nat.{ℕ}
 use lib.IntN.{ℤ}
 use Rattle.rules.specs.Setup.{Read, got, refused, Setup, setup}
-use Rattle.memory_picture.specs.Picture.{Accepted}
 use Rattle.kernel_start.specs.Starting.{Starts, StartsAs}
 use Rattle.kernel_start.specs.declared.Started.{Started}
 use Rattle.kernel_start.specs.declared.Started.the-variants.{Fresh, Refused}
-use Rattle.kernel_steps.specs.Steps.{Link, Chain, lastWords, lastMarks}
+use Rattle.kernel_steps.specs.Steps.{Memory, SoundIn, Link, Chain, lastMemory}
 use Rattle.kernel_batches.specs.declared.Batch.{Batch}
 use Rattle.kernel_batches.specs.declared.Batch.the-variants as Batch
 use Rattle.kernel_batches.specs.declared.Ran.{Ran}
@@ -24,25 +23,25 @@ use Rattle.kernel_demands.proofs.Turns.{chain-in-turn}
 
 -- ---- a chain
 
-chain-kept : (b m : List ℕ) → Accepted b m → (l : List Link) → Chain b m l → Kept b m l
-chain-kept b m A l C = record { broken = chain-broken b m A l C; only = chain-only-rel-wai b m A l C; blocks = chain-block-once b m A l C; wear = chain-worn-evenly b m A l C; interrupted = chain-interrupted b m A l C; turns = chain-in-turn b m A l C }
+chain-kept : (m : Memory) → SoundIn m → (l : List Link) → Chain m l → Kept m l
+chain-kept m A l C = record { broken = chain-broken m A l C; only = chain-only-rel-wai m A l C; blocks = chain-block-once m A l C; wear = chain-worn-evenly m A l C; interrupted = chain-interrupted m A l C; turns = chain-in-turn m A l C }
 
-chain-demanded : (s : List ℕ) (u : Setup) (i : ℕ) → setup s ≡ got u i → (words marks b m : List ℕ) → Starts s Fresh words marks b m → (l : List Link) → Chain b m l → Demanded u b m l
-chain-demanded s u i e words marks b m S l C = record {
-  plain = demand3-on-code s u i e Fresh words marks b m S l C;
-  kept = chain-kept b m (start-holds s u i e Fresh words marks b m S .accepted) l C;
+chain-demanded : (s : List ℕ) (u : Setup) (i : ℕ) → setup s ≡ got u i → (old m : Memory) → Starts s Fresh (old .words) (old .marks) (m .words) (m .marks) → (l : List Link) → Chain m l → Demanded u m l
+chain-demanded s u i e old m S l C = record {
+  plain = demand3-on-code s u i e Fresh old m S l C;
+  kept = chain-kept m (start-holds s u i e Fresh old m S .accepted) l C;
 }
 
 -- a start that was not refused has read a setup
-start-read : (s words marks b m : List ℕ) → Starts s Fresh words marks b m → (u : Setup) × (i : ℕ) × (setup s ≡ got u i)
+start-read : (s : List ℕ) (old m : Memory) → Starts s Fresh (old .words) (old .marks) (m .words) (m .marks) → (u : Setup) × (i : ℕ) × (setup s ≡ got u i)
 unfolding Starts
-start-read s words marks b m S = go (setup s) refl S
+start-read s old m S = go (setup s) refl S
   where
     isFresh : Started → Bool
     isFresh Fresh = true
     isFresh (Refused d p) = false
 
-    go : (r : Read Setup) → setup s ≡ r → StartsAs r Fresh words marks b m → (u : Setup) × (i : ℕ) × (setup s ≡ got u i)
+    go : (r : Read Setup) → setup s ≡ r → StartsAs r Fresh (old .words) (old .marks) (m .words) (m .marks) → (u : Setup) × (i : ℕ) × (setup s ≡ got u i)
     go (got u i) e h = (u, i, e)
     go (refused f p) e h = absurd (false≢true (sym (ap isFresh (h .0))))
 
@@ -67,11 +66,10 @@ run-demanded s given old new R = go (fitted given old) (setup s) refl R
           read = u;
           end = i;
           accepted = e;
-          words = F .words;
-          marks = F .marks;
+          started = F .started;
           starts = F .starts;
           ran = F .ran;
-          demanded = chain-demanded s u i e (old .words) (old .marks) (F .words) (F .marks) (F .starts) (F .ran .links) (F .ran .chain);
+          demanded = chain-demanded s u i e (old .memory) (F .started) (F .starts) (F .ran .links) (F .ran .chain);
         }
     go Batch.Done (refused f p) e h = not-done (h .0) refl
     go Batch.Ragged r e h = not-done (h .0) refl
@@ -80,40 +78,38 @@ run-demanded s given old new R = go (fitted given old) (setup s) refl R
 
 -- ---- a mix
 
-chain-append : (b m : List ℕ) (l k : List Link) → Chain b m l → Chain (lastWords b l) (lastMarks m l) k → Chain b m (l ++ k)
-chain-append b m [] k C D = D
-chain-append b m (x ∷ l) k C D = (C .0, chain-append (x .words) (x .marks) l k (C .1) D)
+chain-append : (m : Memory) (l k : List Link) → Chain m l → Chain (lastMemory m l) k → Chain m (l ++ k)
+chain-append m [] k C D = D
+chain-append m (x ∷ l) k C D = (C .0, chain-append (x .left) l k (C .1) D)
 
 -- a batch ran in its links, to the memory that it left
 module _ (given : List ℤ) (old new : Lent) where
   abbrev links : (q : Batch) → BatchedAs q given old new → List Link
   links q R = batchLinks q given old new R
 
-  batch-chain : (q : Batch) (R : BatchedAs q given old new)
-      → Chain (old .words) (old .marks) (links q R) × (new .words ≡ lastWords (old .words) (links q R)) × (new .marks ≡ lastMarks (old .marks) (links q R))
-  batch-chain Batch.Done R = (R .chain, R .words, R .marks)
-  batch-chain Batch.Ragged R = (tt, ap (λ (x : Lent). x .words) R, ap (λ (x : Lent). x .marks) R)
-  batch-chain Batch.FewCodes R = (tt, ap (λ (x : Lent). x .words) R, ap (λ (x : Lent). x .marks) R)
-  batch-chain Batch.FewWords R = (tt, ap (λ (x : Lent). x .words) R, ap (λ (x : Lent). x .marks) R)
+  batch-chain : (q : Batch) (R : BatchedAs q given old new) → Chain (old .memory) (links q R) × (new .memory ≡ lastMemory (old .memory) (links q R))
+  batch-chain Batch.Done R = (R .chain, R .left)
+  batch-chain Batch.Ragged R = (tt, ap (λ (x : Lent). x .memory) R)
+  batch-chain Batch.FewCodes R = (tt, ap (λ (x : Lent). x .memory) R)
+  batch-chain Batch.FewWords R = (tt, ap (λ (x : Lent). x .memory) R)
 
-pub mix-chain : (b m : List ℕ) (t : List Turn) (M : Mix b m t) → Chain b m (mixLinks b m t M)
+pub mix-chain : (m : Memory) (t : List Turn) (M : Mix m t) → Chain m (mixLinks m t M)
 unfolding mixLinks Batched
-mix-chain b m [] M = tt
-mix-chain b m (one e r b′ m′ ∷ t) M = (M .0, mix-chain b′ m′ t (M .1))
-mix-chain b m (many given q codes answers new ∷ t) M =
-    let old : Lent = lent b m codes answers in
+mix-chain m [] M = tt
+mix-chain m (one e r new ∷ t) M = (M .0, mix-chain new t (M .1))
+mix-chain m (many given q codes answers new ∷ t) M =
+    let old : Lent = lent m codes answers in
     let B = batch-chain given old new (fitted given old) (M .0 .1) in
-    let rest : List Link = mixLinks (new .words) (new .marks) t (M .1) in
-    chain-append b m (links given old new (fitted given old) (M .0 .1)) rest (B .0)
-    (subst (λ (y : List ℕ). Chain (lastWords b (links given old new (fitted given old) (M .0 .1))) y rest) (B .2)
-    (subst (λ (x : List ℕ). Chain x (new .marks) rest) (B .1) (mix-chain (new .words) (new .marks) t (M .1))))
+    let rest : List Link = mixLinks (new .memory) t (M .1) in
+    chain-append m (links given old new (fitted given old) (M .0 .1)) rest (B .0)
+    (subst (λ (x : Memory). Chain x rest) (B .1) (mix-chain (new .memory) t (M .1)))
 
 -- from any accepted memory
-pub mix-kept : (b m : List ℕ) → Accepted b m → (t : List Turn) (M : Mix b m t) → Kept b m (mixLinks b m t M)
-mix-kept b m A t M = chain-kept b m A (mixLinks b m t M) (mix-chain b m t M)
+pub mix-kept : (m : Memory) → SoundIn m → (t : List Turn) (M : Mix m t) → Kept m (mixLinks m t M)
+mix-kept m A t M = chain-kept m A (mixLinks m t M) (mix-chain m t M)
 
 -- after a start
-pub mix-demanded : (s words marks b m : List ℕ) → Starts s Fresh words marks b m → (t : List Turn) (M : Mix b m t) → MixDemanded s b m t M
-mix-demanded s words marks b m S t M =
-    let r = start-read s words marks b m S in
-    record { read = r .0; end = r .1; accepted = r .2; demanded = chain-demanded s (r .0) (r .1) (r .2) words marks b m S (mixLinks b m t M) (mix-chain b m t M) }
+pub mix-demanded : (s : List ℕ) (old m : Memory) → Starts s Fresh (old .words) (old .marks) (m .words) (m .marks) → (t : List Turn) (M : Mix m t) → MixDemanded s m t M
+mix-demanded s old m S t M =
+    let r = start-read s old m S in
+    record { read = r .0; end = r .1; accepted = r .2; demanded = chain-demanded s (r .0) (r .1) (r .2) old m S (mixLinks m t M) (mix-chain m t M) }

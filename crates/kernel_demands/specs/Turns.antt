@@ -9,8 +9,7 @@ use Rattle.rules.specs.Ids.{once}
 use Rattle.rules.specs.State.{Kind}
 use Rattle.rules.specs.Ahead.{waitsAt, ahead}
 use Rattle.rules_turns.specs.Turns.{gave, servedCell, Whether}
-use Rattle.memory_picture.specs.Picture.{viewShown}
-use Rattle.kernel_steps.specs.Steps.{Link}
+use Rattle.kernel_steps.specs.Steps.{Memory, viewIn, Link}
 use Rattle.kernel_demands.specs.Demands.{CellIs}
 
 -- how many links are accepted calls that give to object o of kind k
@@ -23,13 +22,13 @@ giftsOnCode k o (x ∷ l) = once (gave k o (x .event) (x .reply .code)) + giftsO
 abbrev pub LeavesOnCode : Kind → ℕ → ℕ → List Link → Type 0
 LeavesOnCode k o i [] = ⊥
 LeavesOnCode k o i (x ∷ l) =
-    Whether (waitsAt (viewShown (x .words) (x .marks)) k o i) (LeavesOnCode k o i l)
-    (gave k o (x .event) (x .reply .code) ≡ true → CellIs (x .words) (x .marks) (pos i) (servedCell k (x .event)))
+    Whether (waitsAt (viewIn (x .left)) k o i) (LeavesOnCode k o i l)
+    (gave k o (x .event) (x .reply .code) ≡ true → CellIs (x .left) (pos i) (servedCell k (x .event)))
 
 -- At the first memory of a chain and at each that a link leaves: every task that waits there on an object has left that wait once one more was
 -- given to the object, from there on, than stood ahead of the task.
-abbrev pub InTurnOnCode : List ℕ → List ℕ → List Link → Type 0
-InTurnOnCode b m [] = Unit {0}
-InTurnOnCode b m (x ∷ l) =
-    ((k : Kind) (o i : ℕ) → waitsAt (viewShown b m) k o i ≡ true → suc (ahead (viewShown b m) k o i) ≤ giftsOnCode k o (x ∷ l) → LeavesOnCode k o i (x ∷ l))
-    × InTurnOnCode (x .words) (x .marks) l
+abbrev pub InTurnOnCode : Memory → List Link → Type 0
+InTurnOnCode m [] = Unit {0}
+InTurnOnCode m (x ∷ l) =
+    ((k : Kind) (o i : ℕ) → waitsAt (viewIn m) k o i ≡ true → suc (ahead (viewIn m) k o i) ≤ giftsOnCode k o (x ∷ l) → LeavesOnCode k o i (x ∷ l))
+    × InTurnOnCode (x .left) l

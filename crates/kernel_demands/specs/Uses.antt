@@ -9,7 +9,7 @@ use Rattle.rules.specs.Events.{Event}
 use Rattle.rules.specs.Plain.{plainFresh}
 use Rattle.kernel_start.specs.Starting.{Starts}
 use Rattle.kernel_start.specs.declared.Started.the-variants.{Fresh}
-use Rattle.kernel_steps.specs.Steps.{Reply, Step, Link}
+use Rattle.kernel_steps.specs.Steps.{Memory, Reply, Step, Link}
 use Rattle.kernel_batches.specs.declared.Batch.{Batch}
 use Rattle.kernel_batches.specs.declared.Batch.the-variants as Batch
 use Rattle.kernel_batches.specs.Batches.{Lent, lent, RanThrough, fitted, BatchedAs, Batched}
@@ -20,18 +20,18 @@ use Rattle.kernel_demands.specs.Turns.{InTurnOnCode}
 
 -- from any accepted memory: a broken wait stays broken, only rel_wai breaks one off, a block is given to one at a time, blocks wear
 -- evenly, handlers do not switch tasks halfway, waiters are served in turn
-pub record Kept (b m : List ℕ) (l : List Link) : Type 0 where
+pub record Kept (m : Memory) (l : List Link) : Type 0 where
   pub broken : BrokenOnCode l
-  pub only : OnlyRelWaiOnCode b m l
-  pub blocks : BlocksOnce b m l
-  pub wear : WornEvenlyOnCode b m l
-  pub interrupted : InterruptedOnCode b m l
-  pub turns : InTurnOnCode b m l
+  pub only : OnlyRelWaiOnCode m l
+  pub blocks : BlocksOnce m l
+  pub wear : WornEvenlyOnCode m l
+  pub interrupted : InterruptedOnCode m l
+  pub turns : InTurnOnCode m l
 
 -- from the memory that a start on setup u left: it is the plain kernel's too, link by link
-pub record Demanded (u : Setup) (b m : List ℕ) (l : List Link) : Type 0 where
-  pub plain : Demand3OnCode [] b m (plainFresh u) l
-  pub kept : Kept b m l
+pub record Demanded (u : Setup) (m : Memory) (l : List Link) : Type 0 where
+  pub plain : Demand3OnCode [] m (plainFresh u) l
+  pub kept : Kept m l
 
 -- ---- `run`
 
@@ -41,25 +41,24 @@ pub record RunDemanded (s : List ℕ) (given : List ℤ) (old new : Lent) : Type
   pub read : Setup
   pub end : ℕ
   pub accepted : setup s ≡ got read end
-  pub words : List ℕ
-  pub marks : List ℕ
-  pub starts : Starts s Fresh (old .words) (old .marks) words marks
-  pub ran : RanThrough given (lent words marks (old .codes) (old .answers)) new
-  pub demanded : Demanded read words marks (ran .links)
+  pub started : Memory
+  pub starts : Starts s Fresh (old .memory .words) (old .memory .marks) (started .words) (started .marks)
+  pub ran : RanThrough given (lent started (old .codes) (old .answers)) new
+  pub demanded : Demanded read started (ran .links)
 
 -- ---- `call`, `tick`, `enter`, `leave` and `events` in any order
 
 -- a call, a tick, an entry or a return: the event, what came back, and the memory that it left; or `events`: the words given, what was said, what was lent for codes and
 -- answers, and all that it left
 pub data Turn : Type 0 where
-  one : Event → Reply → List ℕ → List ℕ → Turn
+  one : Event → Reply → Memory → Turn
   many : List ℤ → Batch → List ℤ → List ℕ → Lent → Turn
 
 -- each turn is as its function promises, from the memory that the last one left
-abbrev pub Mix : List ℕ → List ℕ → List Turn → Type 0
-Mix b m [] = Unit {0}
-Mix b m (one e r b′ m′ ∷ t) = Step e b m r b′ m′ × Mix b′ m′ t
-Mix b m (many given q codes answers new ∷ t) = Batched given q (lent b m codes answers) new × Mix (new .words) (new .marks) t
+abbrev pub Mix : Memory → List Turn → Type 0
+Mix m [] = Unit {0}
+Mix m (one e r new ∷ t) = Step e m r new × Mix new t
+Mix m (many given q codes answers new ∷ t) = Batched given q (lent m codes answers) new × Mix (new .memory) t
 
 -- the links of a batch: those that it promises, none if it did not run
 abbrev pub batchLinks : (q : Batch) (given : List ℤ) (old new : Lent) → BatchedAs q given old new → List Link
@@ -69,16 +68,16 @@ batchLinks Batch.FewCodes given old new R = []
 batchLinks Batch.FewWords given old new R = []
 
 -- the links of a mix, in order
-unfoldable pub mixLinks : (b m : List ℕ) (t : List Turn) → Mix b m t → List Link
+unfoldable pub mixLinks : (m : Memory) (t : List Turn) → Mix m t → List Link
 unfolding Batched
-mixLinks b m [] M = []
-mixLinks b m (one e r b′ m′ ∷ t) M = record { event = e; reply = r; words = b′; marks = m′ } ∷ mixLinks b′ m′ t (M .1)
-mixLinks b m (many given q codes answers new ∷ t) M =
-    batchLinks (fitted given (lent b m codes answers)) given (lent b m codes answers) new (M .0 .1) ++ mixLinks (new .words) (new .marks) t (M .1)
+mixLinks m [] M = []
+mixLinks m (one e r new ∷ t) M = record { event = e; reply = r; left = new } ∷ mixLinks new t (M .1)
+mixLinks m (many given q codes answers new ∷ t) M =
+    batchLinks (fitted given (lent m codes answers)) given (lent m codes answers) new (M .0 .1) ++ mixLinks (new .memory) t (M .1)
 
 -- after a start that was not refused
-pub record MixDemanded (s b m : List ℕ) (t : List Turn) (M : Mix b m t) : Type 0 where
+pub record MixDemanded (s : List ℕ) (m : Memory) (t : List Turn) (M : Mix m t) : Type 0 where
   pub read : Setup
   pub end : ℕ
   pub accepted : setup s ≡ got read end
-  pub demanded : Demanded read b m (mixLinks b m t M)
+  pub demanded : Demanded read m (mixLinks m t M)

@@ -10,7 +10,7 @@ use kernel_steps::misnamed;
 use memory_columns::STATE_WORDS;
 use memory_running::running_task;
 ghost use Rattle.rules.specs.Events as Events;
-ghost use Rattle.kernel_steps.specs.Steps.{replyOf, Step};
+ghost use Rattle.kernel_steps.specs.Steps.{memory, replyOf, Step};
 
 // The last context of a call: 0 task, 1 handler.
 const HANDLER: u32 = 1;
@@ -25,8 +25,8 @@ pub fn call(
     b: i32,
     c: i32,
 ) -> Answer
-    ensures { λ r. ⌜ Step (Events.call context number a b c) (now (words .entry)) (now (messages .entry))
-        (replyOf r) (now (words .exit)) (now (messages .exit)) ⌝ }
+    ensures { λ r. ⌜ Step (Events.call context number a b c) (memory (now (words .entry)) (now (messages .entry)))
+        (replyOf r) (memory (now (words .exit)) (now (messages .exit))) ⌝ }
 {
     let found = judged(words, messages);
     let me = running_task(words);
@@ -38,8 +38,8 @@ pub fn call(
 
 // A tick.
 pub fn tick(words: &mut [u32; STATE_WORDS], messages: &[u32; 256]) -> Answer
-    ensures { λ r. ⌜ Step Events.tick (now (words .entry)) (now (messages .entry))
-        (replyOf r) (now (words .exit)) (now (messages .entry)) ⌝ }
+    ensures { λ r. ⌜ Step Events.tick (memory (now (words .entry)) (now (messages .entry)))
+        (replyOf r) (memory (now (words .exit)) (now (messages .entry))) ⌝ }
 {
     let found = judged(words, messages);
     let now = running_task(words);
@@ -48,8 +48,8 @@ pub fn tick(words: &mut [u32; STATE_WORDS], messages: &[u32; 256]) -> Answer
 
 // The entry of a handler.
 pub fn enter(words: &mut [u32; STATE_WORDS], messages: &[u32; 256]) -> Answer
-    ensures { λ r. ⌜ Step Events.enter (now (words .entry)) (now (messages .entry))
-        (replyOf r) (now (words .exit)) (now (messages .entry)) ⌝ }
+    ensures { λ r. ⌜ Step Events.enter (memory (now (words .entry)) (now (messages .entry)))
+        (replyOf r) (memory (now (words .exit)) (now (messages .entry))) ⌝ }
 {
     let found = judged(words, messages);
     let now = running_task(words);
@@ -58,8 +58,8 @@ pub fn enter(words: &mut [u32; STATE_WORDS], messages: &[u32; 256]) -> Answer
 
 // The return of a handler.
 pub fn leave(words: &mut [u32; STATE_WORDS], messages: &[u32; 256]) -> Answer
-    ensures { λ r. ⌜ Step Events.exit (now (words .entry)) (now (messages .entry))
-        (replyOf r) (now (words .exit)) (now (messages .entry)) ⌝ }
+    ensures { λ r. ⌜ Step Events.exit (memory (now (words .entry)) (now (messages .entry)))
+        (replyOf r) (memory (now (words .exit)) (now (messages .entry))) ⌝ }
 {
     let found = judged(words, messages);
     let now = running_task(words);

@@ -34,13 +34,12 @@ use Rattle.call_words.specs.declared.Outcome.{Outcome}
 use Rattle.call_words.specs.Outcomes.{outcome}
 use Rattle.call_words.specs.Doing.{Does, Anything, DoesOnWords}
 use Rattle.call_words.specs.Naming.{Runs}
-use Rattle.call_words.proofs.Signed.{signed}
 use Rattle.call_words.proofs.Verdicts.{refuses-with}
 use Rattle.call_dispatch.specs.Dispatching.{Dispatches}
 use Rattle.call_dispatch.proofs.Done.{does-law}
 use Rattle.check_damage.specs.declared.Breach.{Breach}
 use Rattle.check_damage.specs.Judged.{Judged}
-use Rattle.kernel_steps.specs.Steps.{Reply, reply, told, unsound, Step}
+use Rattle.kernel_steps.specs.Steps.{Memory, memory, viewIn, SoundIn, Reply, reply, told, unsound, Step}
 use Rattle.kernel_steps.specs.Serving.{replied, Known, Misnames}
 
 -- ---- words
@@ -74,7 +73,7 @@ served-next v e = refl
 
 -- on a sound state
 module _ (e : Event) (b m b′ m′ : List ℕ) (A : Accepted b m) (w : Words e) where
-  pub done-step : {s : Outcome} {r : ℕ} → Does (judge (viewShown b m) e) s b m b′ m′ → (Accepted b′ m′ → r ≡ running (viewShown b′ m′)) → Step e b m (replied s r) b′ m′
+  pub done-step : {s : Outcome} {r : ℕ} → Does (judge (viewShown b m) e) s b m b′ m′ → (Accepted b′ m′ → r ≡ running (viewShown b′ m′)) → Step e (memory b m) (replied s r) (memory b′ m′)
   done-step {s} {r} D g =
       let v : View = viewShown b m in
       let L = does-law b m e D A w in
@@ -85,12 +84,12 @@ module _ (e : Event) (b m b′ m′ : List ℕ) (A : Accepted b m) (w : Words e)
         accepted = λ _. L .0;
         shows = λ _. L .1 ∙ sym (ap (λ (o : _). o .next) (event-served v e (A .sound)) ∙ served-next v e);
         refuses = λ n. absurd (n A);
-        kept = L .2;
+        kept = λ n z. memory (L .2 n .0 z) (L .2 n .1 z);
       }
 
 -- on a damaged one
-pub unsound-step : (e : Event) (b m : List ℕ) (r : Reply) → Words e → (Accepted b m → ⊥) → r ≡ unsound b m → Step e b m r b m
-unsound-step e b m r w n g = record { words = w; answers = λ A. absurd (n A); accepted = λ A. absurd (n A); shows = λ A. absurd (n A); refuses = λ _. g; kept = λ _. (refl, refl) }
+pub unsound-step : (e : Event) (m : Memory) (r : Reply) → Words e → (SoundIn m → ⊥) → r ≡ unsound m → Step e m r m
+unsound-step e m r w n g = record { words = w; answers = λ A. absurd (n A); accepted = λ A. absurd (n A); shows = λ A. absurd (n A); refuses = λ _. g; kept = λ _. refl }
 
 -- ---- calls
 
@@ -117,11 +116,11 @@ named-call v (pos (suc (suc k))) n a b c e = absurd (true≢false (sym (le-leb 2
 named-call v (negsuc k) n a b c e = absurd (true≢false e)
 
 module _ {me : ℕ} {b m : List ℕ} (here : Accepted b m) (runs : me ≡ running (viewShown b m)) (x n a c d : ℤ) (w : Words (call x n a c d)) where
-  pub call-misnamed : above x 1 ≡ true → {o : Outcome} → o ≡ outcome (number H-CALL) 0 0 0 → Step (call x n a c d) b m (replied o me) b m
+  pub call-misnamed : above x 1 ≡ true → {o : Outcome} → o ≡ outcome (number H-CALL) 0 0 0 → Step (call x n a c d) (memory b m) (replied o me) (memory b m)
   call-misnamed z e = done-step (call x n a c d) b m b m here w (rw (misnamed (viewShown b m) x n a c d z) (refuses-with H-CALL e)) (λ _. runs)
 
   pub call-done : above x 1 ≡ false → {h q g : Bool} {i j r : ℕ} {o : Outcome} {b′ m′ : List ℕ} → h ≡ eqb (nat x) 1 → j ≡ nat n → q ≡ isOpen (handlersShown b) → i ≡ cond (h || q) 0 me → g ≡ h && q
-      → Dispatches g i j a c d o b m b′ m′ → r ≡ runningOf b′ → Step (call x n a c d) b m (replied o r) b′ m′
+      → Dispatches g i j a c d o b m b′ m′ → r ≡ runningOf b′ → Step (call x n a c d) (memory b m) (replied o r) (memory b′ m′)
   call-done z {h} {q} {g} {i} {j} {r} {o} {b′} {m′} eh ej eq ei eg D er =
       let v : View = viewShown b m in
       let inside : q ≡ isOpen (v .body .handlers) = eq ∙ ap isOpen (sym (handlers-are b m)) in
@@ -131,12 +130,12 @@ module _ {me : ℕ} {b m : List ℕ} (here : Accepted b m) (runs : me ≡ runnin
       done-step (call x n a c d) b m b′ m′ here w (subst (λ (q : Verdict). Does q o b m b′ m′) y (D here)) (λ A. er ∙ running-law b′ m′ A)
 
 -- from no context
-pub misnamed-step : {f : Breach} {me : ℕ} {b m : List ℕ} (K : Known f me b m) (x n a c d : ℤ) → Words (call x n a c d) → above x 1 ≡ true → {r : Reply} → Misnames f me r → Step (call x n a c d) b m r b m
-misnamed-step {f} {me} {b} {m} K x n a c d w e {r} M = go (ℤ-discrete (f .code) (pos 0))
+pub misnamed-step : {f : Breach} {me : ℕ} {m : Memory} (K : Known f me m) (x n a c d : ℤ) → Words (call x n a c d) → above x 1 ≡ true → {r : Reply} → Misnames f me r → Step (call x n a c d) m r m
+misnamed-step {f} {me} {m} K x n a c d w e {r} M = go (ℤ-discrete (f .code) (pos 0))
   where
-    go : Dec (f .code ≡ pos 0) → Step (call x n a c d) b m r b m
-    go (yes s) = subst (λ (q : Reply). Step (call x n a c d) b m q b m) (sym (M .0 s)) (let A = K .0 .0 s in call-misnamed A (K .1 A) x n a c d w e refl)
-    go (no s) = let z : Accepted b m → ⊥ = λ A. s (K .0 .1 A) in unsound-step (call x n a c d) b m r w z (M .1 s ∙ K .2 z)
+    go : Dec (f .code ≡ pos 0) → Step (call x n a c d) m r m
+    go (yes s) = subst (λ (q : Reply). Step (call x n a c d) m q m) (sym (M .0 s)) (let A = K .0 .0 s in call-misnamed A (K .1 A) x n a c d w e refl)
+    go (no s) = let z : SoundIn m → ⊥ = λ A. s (K .0 .1 A) in unsound-step (call x n a c d) m r w z (M .1 s ∙ K .2 z)
 
 -- from a context, as an event of five words
 pub named-kind : (x n a b c : ℤ) → above x 1 ≡ false → eventOf x n a b c ≡ call x n a b c
@@ -171,16 +170,16 @@ kind-call (negsuc k) n a b c x y z = refl
 
 -- ---- the tick, entry and return
 
-module _ {f : Breach} {me : ℕ} {b m : List ℕ} (K : Known f me b m) (s : f .code ≡ pos 0) {b′ : List ℕ} {o : Outcome} {r : ℕ} (runs : r ≡ runningOf b′) where
-  pub tick-done : DoesOnWords Anything ticked o b b′ → Step tick b m (replied o r) b′ m
+module _ {f : Breach} {me : ℕ} {b m : List ℕ} (K : Known f me (memory b m)) (s : f .code ≡ pos 0) {b′ : List ℕ} {o : Outcome} {r : ℕ} (runs : r ≡ runningOf b′) where
+  pub tick-done : DoesOnWords Anything ticked o b b′ → Step tick (memory b m) (replied o r) (memory b′ m)
   unfolding judge
   tick-done D = let A = K .0 .0 s in done-step tick b m b′ m A tt (D m A tt) (λ A′. runs ∙ running-law b′ m A′)
 
-  pub enter-done : DoesOnWords (Runs me) entered o b b′ → Step enter b m (replied o r) b′ m
+  pub enter-done : DoesOnWords (Runs me) entered o b b′ → Step enter (memory b m) (replied o r) (memory b′ m)
   unfolding judge
   enter-done D = let A = K .0 .0 s in done-step enter b m b′ m A tt (D m A (K .1 A)) (λ A′. runs ∙ running-law b′ m A′)
 
-  pub leave-done : DoesOnWords Anything exited o b b′ → Step exit b m (replied o r) b′ m
+  pub leave-done : DoesOnWords Anything exited o b b′ → Step exit (memory b m) (replied o r) (memory b′ m)
   unfolding judge
   leave-done D = let A = K .0 .0 s in done-step exit b m b′ m A tt (D m A tt) (λ A′. runs ∙ running-law b′ m A′)
 
@@ -199,39 +198,37 @@ answer-runs : (v : View) (e : Event) → served v e .answer .runs ≡ running (s
 unfolding served answer
 answer-runs v e = refl
 
-module _ {f : Breach} {me : ℕ} {b m : List ℕ} (K : Known f me b m) where
-  pub not-sound : f .code ≢ pos 0 → Accepted b m → ⊥
+module _ {f : Breach} {me : ℕ} {old : Memory} (K : Known f me old) where
+  pub not-sound : f .code ≢ pos 0 → SoundIn old → ⊥
   not-sound n A = n (K .0 .1 A)
 
-  module _ {e : Event} {r : Reply} {b′ m′ : List ℕ} (S : Step e b m r b′ m′) where
+  module _ {e : Event} {r : Reply} {new : Memory} (S : Step e old r new) where
     -- a memory that is not accepted stays as it is
-    same : (Accepted b m → ⊥) → (b′ ≡ b) × (m′ ≡ m)
-    same n = S .kept (ap (λ (x : Reply). negative (x .code)) (S .refuses n) ∙ breach-negative (viewShown b m))
+    same : (SoundIn old → ⊥) → new ≡ old
+    same n = S .kept (ap (λ (x : Reply). negative (x .code)) (S .refuses n) ∙ breach-negative (viewIn old))
 
-    back : Dec (f .code ≡ pos 0) → Accepted b′ m′ → f .code ≡ pos 0
+    back : Dec (f .code ≡ pos 0) → SoundIn new → f .code ≡ pos 0
     back (yes q) A = q
-    back (no q) A =
-        let k = same (not-sound q) in
-        absurd (not-sound q (subst (λ (x : List ℕ). Accepted b x) (k .1) (subst (λ (x : List ℕ). Accepted x m′) (k .0) A)))
+    back (no q) A = absurd (not-sound q (subst SoundIn (same (not-sound q)) A))
 
     -- what is broken stays broken
-    tells : Dec (f .code ≡ pos 0) → (Accepted b′ m′ → ⊥) → reply (f .code) (f .id) 0 0 0 ≡ unsound b′ m′
+    tells : Dec (f .code ≡ pos 0) → (SoundIn new → ⊥) → reply (f .code) (f .id) 0 0 0 ≡ unsound new
     tells (yes q) n = absurd (n (S .accepted (K .0 .0 q)))
-    tells (no q) n = let k = same (not-sound q) in K .2 (not-sound q) ∙ (λ z. unsound (sym (k .0) z) (sym (k .1) z))
+    tells (no q) n = K .2 (not-sound q) ∙ ap unsound (sym (same (not-sound q)))
 
     -- the same is known after the event
     sound? : Dec (f .code ≡ pos 0)
     sound? = ℤ-discrete (f .code) (pos 0)
 
-    pub known-on : Known f (r .runs) b′ m′
+    pub known-on : Known f (r .runs) new
     known-on = ((λ q. S .accepted (K .0 .0 q), back sound?), λ A′. runs (K .0 .0 (back sound? A′)), tells sound?)
       where
-        runs : Accepted b m → r .runs ≡ running (viewShown b′ m′)
+        runs : SoundIn old → r .runs ≡ running (viewIn new)
         runs A =
-            let v : View = viewShown b m in
+            let v : View = viewIn old in
             let u : event v e ≡ served v e = event-served v e (A .sound) in
             ap (λ (x : Reply). x .runs) (S .answers A) ∙ ap (λ (o : Kernel.Outcome). o .answer .runs) u ∙ answer-runs v e ∙ ap (λ (o : Kernel.Outcome). running (o .next)) (sym u) ∙ ap running (sym (S .shows A))
 
 -- the first check tells whether the state is sound, and what is broken if it is not
-pub known-first : (b m : List ℕ) {f : Breach} {me : ℕ} → Judged b m (f .code) (f .id) → me ≡ runningOf b → Known f me b m
+pub known-first : (b m : List ℕ) {f : Breach} {me : ℕ} → Judged b m (f .code) (f .id) → me ≡ runningOf b → Known f me (memory b m)
 known-first b m J e = (J .exactly, (λ A. e ∙ running-law b m A), λ n. (λ z. reply (J .damaged n .0 z) (J .damaged n .1 z) 0 0 0))

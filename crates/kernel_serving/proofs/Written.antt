@@ -8,7 +8,7 @@ use lib.ListN.{length, drop, getD, set, length-append, length-map, drop-of-lengt
 use Rattle.rules.specs.Events.{Event, tick, eventOf, eventsOf}
 use Rattle.check_damage.specs.declared.Breach.{Breach}
 use Rattle.kernel_steps.specs.Serving.{Known}
-use Rattle.kernel_steps.specs.Steps.{Reply, reply, Step, Link, Chain, lastWords, lastMarks}
+use Rattle.kernel_steps.specs.Steps.{Memory, Reply, reply, Step, Link, Chain, lastMemory}
 use Rattle.kernel_steps.specs.Written.{Lent, over, codesOf, wordsOf, answered, eventAt, EventRan, RanThrough, Room}
 use Rattle.kernel_serving.proofs.Served.{known-on}
 
@@ -41,17 +41,13 @@ module _ {A : Type 0} where
 -- ---- chains
 
 module _ (k : Link) where
-  pub more-chain : (b m : List ℕ) (l : List Link) → Chain b m l → Step (k .event) (lastWords b l) (lastMarks m l) (k .reply) (k .words) (k .marks) → Chain b m (l ++ (k ∷ []))
-  more-chain b m [] C S = (S, tt)
-  more-chain b m (j ∷ l) C S = (C .0, more-chain (j .words) (j .marks) l (C .1) S)
+  pub more-chain : (m : Memory) (l : List Link) → Chain m l → Step (k .event) (lastMemory m l) (k .reply) (k .left) → Chain m (l ++ (k ∷ []))
+  more-chain m [] C S = (S, tt)
+  more-chain m (j ∷ l) C S = (C .0, more-chain (j .left) l (C .1) S)
 
-  pub more-words : (b : List ℕ) (l : List Link) → lastWords b (l ++ (k ∷ [])) ≡ k .words
-  more-words b [] = refl
-  more-words b (j ∷ l) = more-words (j .words) l
-
-  pub more-marks : (m : List ℕ) (l : List Link) → lastMarks m (l ++ (k ∷ [])) ≡ k .marks
-  more-marks m [] = refl
-  more-marks m (j ∷ l) = more-marks (j .marks) l
+  pub more-left : (m : Memory) (l : List Link) → lastMemory m (l ++ (k ∷ [])) ≡ k .left
+  more-left m [] = refl
+  more-left m (j ∷ l) = more-left (j .left) l
 
   pub more-mapped : {B : Type 0} (f : Link → B) (l : List Link) → map f (l ++ (k ∷ [])) ≡ map f l ++ (f k ∷ [])
   more-mapped f [] = refl
@@ -90,11 +86,10 @@ five i g h =
 -- i events have run
 pub record SoFar (given : List ℤ) (i : ℕ) (old new : Lent) : Type 0 where
   pub links : List Link
-  pub chain : Chain (old .words) (old .marks) links
+  pub chain : Chain (old .memory) links
   pub count : length links ≡ i
   pub events : map (λ k. k .event) links ++ eventsOf (drop (5 * i) given) ≡ eventsOf given
-  pub words : new .words ≡ lastWords (old .words) links
-  pub marks : new .marks ≡ lastMarks (old .marks) links
+  pub left : new .memory ≡ lastMemory (old .memory) links
   pub codes : new .codes ≡ over (codesOf links) (old .codes)
   pub answers : new .answers ≡ over (wordsOf links) (old .answers)
 
@@ -104,8 +99,7 @@ none-yet given old = record {
   chain = tt;
   count = refl;
   events = refl;
-  words = refl;
-  marks = refl;
+  left = refl;
   codes = sym (over-none (old .codes));
   answers = sym (over-none (old .answers));
 }
@@ -116,8 +110,7 @@ all-run given i old new h S = record {
   links = S .links;
   chain = S .chain;
   events = sym (append-nil _) ∙ ap (λ (l : List ℤ). map (λ k. k .event) (S .links) ++ eventsOf l) (sym (drop-of-length-le given h)) ∙ S .events;
-  words = S .words;
-  marks = S .marks;
+  left = S .left;
   codes = S .codes;
   answers = S .answers;
 }
@@ -140,16 +133,15 @@ answers-more l k old {i} e h =
 module _ (given : List ℤ) (i : ℕ) (old new : Lent) (S : SoFar given i old new) (e5 : 5 * i + 5 ≤ length given) (c1 : i < length (old .codes)) (a4 : 4 * i + 4 ≤ length (old .answers)) where
   pub one-more : (later : Lent) {now : ℕ} → EventRan given i new later now → SoFar given (suc i) old later
   one-more later R =
-      let k : Link = record { event = eventAt given i; reply = R .reply; words = later .words; marks = later .marks } in
+      let k : Link = record { event = eventAt given i; reply = R .reply; left = later .memory } in
       let l : List Link = S .links in
       let r : Reply = R .reply in
       record {
         links = l ++ (k ∷ []);
-        chain = more-chain k (old .words) (old .marks) l (S .chain) (subst (λ (x : List ℕ). Step (eventAt given i) x (lastMarks (old .marks) l) r (later .words) (later .marks)) (S .words) (subst (λ (x : List ℕ). Step (eventAt given i) (new .words) x r (later .words) (later .marks)) (S .marks) (R .step)));
+        chain = more-chain k (old .memory) l (S .chain) (subst (λ (x : Memory). Step (eventAt given i) x r (later .memory)) (S .left) (R .step));
         count = length-append l (k ∷ []) ∙ omega (arith, S .count);
         events = ap (λ (x : List Event). x ++ eventsOf (drop (5 * suc i) given)) (more-mapped k (λ j. j .event) l) ∙ append-assoc (map (λ j. j .event) l) (eventAt given i ∷ []) _ ∙ ap (λ (x : List Event). map (λ j. j .event) l ++ x) (sym (five i given e5)) ∙ S .events;
-        words = sym (more-words k (old .words) l);
-        marks = sym (more-marks k (old .marks) l);
+        left = sym (more-left k (old .memory) l);
         codes = R .codes ∙ ap (λ (x : List ℤ). set x i (r .code)) (S .codes) ∙ over-more (codesOf l) (old .codes) (r .code) (length-map l (λ j. j .reply .code) ∙ S .count) c1 ∙ ap (λ (x : List ℤ). over x (old .codes)) (sym (more-mapped k (λ j. j .reply .code) l));
         answers = R .answers ∙ ap (answered i (r .w1) (r .w2) (r .runs) (r .released)) (S .answers) ∙ answers-more l k (old .answers) (S .count) a4;
       }
@@ -159,15 +151,15 @@ module _ (given : List ℤ) (i : ℕ) (old new : Lent) (S : SoFar given i old ne
 -- what holds where i events have run: so much is done, and it is known whether the state is sound and who runs
 pub record Running (given : List ℤ) (f : Breach) (me i : ℕ) (old new : Lent) : Type 0 where
   pub so-far : SoFar given i old new
-  pub known : Known f me (new .words) (new .marks)
+  pub known : Known f me (new .memory)
 
-pub begins : (given : List ℤ) (old : Lent) {f : Breach} {me : ℕ} → Known f me (old .words) (old .marks) → Running given f me 0 old old
+pub begins : (given : List ℤ) (old : Lent) {f : Breach} {me : ℕ} → Known f me (old .memory) → Running given f me 0 old old
 begins given old K = record { so-far = none-yet given old; known = K }
 
 pub goes-on : {given : List ℤ} {f : Breach} {me i now : ℕ} {old new later : Lent} → Room given old → i < length given / 5 → Running given f me i old new → EventRan given i new later now → Running given f now (i + 1) old later
 goes-on {given} {f} {me} {i} {now} {old} {new} {later} P h R E = let e : suc i ≡ i + 1 = omega arith in subst (λ (k : ℕ). Running given f now k old later) e (record {
   so-far = one-more given i old new (R .so-far) (omega (arith, h)) (omega (arith, h, P .codes)) (omega (arith, h, P .answers)) later E;
-  known = subst (λ (x : ℕ). Known f x (later .words) (later .marks)) (sym (E .runs)) (known-on (R .known) (E .step));
+  known = subst (λ (x : ℕ). Known f x (later .memory)) (sym (E .runs)) (known-on (R .known) (E .step));
 })
 
 pub ends : {given : List ℤ} {f : Breach} {me i : ℕ} {old new : Lent} → Room given old → length given / 5 ≤ i → Running given f me i old new → RanThrough given old new
@@ -175,7 +167,7 @@ ends {given} {i = i} {old = old} {new = new} P h R = all-run given i old new (om
 
 -- in the loop: the same, for who knows what is known before the first and that there is room; and the lent places keep their lengths
 pub record Turning (given : List ℤ) (f : Breach) (me now i : ℕ) (old new : Lent) : Type 0 where
-  pub running : Known f me (old .words) (old .marks) → Room given old → Running given f now i old new
+  pub running : Known f me (old .memory) → Room given old → Running given f now i old new
   pub codes : length (new .codes) ≡ length (old .codes)
   pub answers : length (new .answers) ≡ length (old .answers)
 
@@ -183,13 +175,13 @@ pub record Turning (given : List ℤ) (f : Breach) (me now i : ℕ) (old new : L
 
 -- a batch of one is a step, and its answer is what was written
 pub one-ran : {k n a b c : ℤ} {old new : Lent} → RanThrough (k ∷ n ∷ a ∷ b ∷ c ∷ []) old new
-    → Step (eventOf k n a b c) (old .words) (old .marks) (reply (getD (new .codes) 0 (pos 0)) (getD (new .answers) 0 0) (getD (new .answers) 1 0) (getD (new .answers) 2 0) (getD (new .answers) 3 0)) (new .words) (new .marks)
+    → Step (eventOf k n a b c) (old .memory) (reply (getD (new .codes) 0 (pos 0)) (getD (new .answers) 0 0) (getD (new .answers) 1 0) (getD (new .answers) 2 0) (getD (new .answers) 3 0)) (new .memory)
 unfolding over
-one-ran {k} {n} {a} {b} {c} {old} {new} R = go (R .links) (R .chain) (R .events) (R .words) (R .marks) (R .codes) (R .answers)
+one-ran {k} {n} {a} {b} {c} {old} {new} R = go (R .links) (R .chain) (R .events) (R .left) (R .codes) (R .answers)
   where
-    go : (l : List Link) → Chain (old .words) (old .marks) l → map (λ j. j .event) l ≡ eventOf k n a b c ∷ [] → new .words ≡ lastWords (old .words) l → new .marks ≡ lastMarks (old .marks) l
+    go : (l : List Link) → Chain (old .memory) l → map (λ j. j .event) l ≡ eventOf k n a b c ∷ [] → new .memory ≡ lastMemory (old .memory) l
         → new .codes ≡ over (codesOf l) (old .codes) → new .answers ≡ over (wordsOf l) (old .answers)
-        → Step (eventOf k n a b c) (old .words) (old .marks) (reply (getD (new .codes) 0 (pos 0)) (getD (new .answers) 0 0) (getD (new .answers) 1 0) (getD (new .answers) 2 0) (getD (new .answers) 3 0)) (new .words) (new .marks)
-    go [] C e w m x y = let z : _≡_ {A = ℕ} 0 1 = ap length e in absurd (omega (arith, z))
-    go (j ∷ []) C e w m x y = rw (w, m, x, y) (subst (λ (o : Event). Step o (old .words) (old .marks) (j .reply) (j .words) (j .marks)) (ap (λ (q : List Event). getD q 0 tick) e) (C .0))
-    go (j ∷ h ∷ l) C e w m x y = let z : suc (suc (length (map (λ (i : Link). i .event) l))) ≡ 1 = ap length e in absurd (omega (arith, z))
+        → Step (eventOf k n a b c) (old .memory) (reply (getD (new .codes) 0 (pos 0)) (getD (new .answers) 0 0) (getD (new .answers) 1 0) (getD (new .answers) 2 0) (getD (new .answers) 3 0)) (new .memory)
+    go [] C e m x y = let z : _≡_ {A = ℕ} 0 1 = ap length e in absurd (omega (arith, z))
+    go (j ∷ []) C e m x y = rw (m, x, y) (subst (λ (o : Event). Step o (old .memory) (j .reply) (j .left)) (ap (λ (q : List Event). getD q 0 tick) e) (C .0))
+    go (j ∷ h ∷ l) C e m x y = let z : suc (suc (length (map (λ (i : Link). i .event) l))) ≡ 1 = ap length e in absurd (omega (arith, z))

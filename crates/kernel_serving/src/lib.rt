@@ -19,7 +19,7 @@ ghost use Prim.Native.Nat.{suc, _+_, _*_, _/_, _≤_};
 ghost use lib.ListN.{length, set};
 ghost use Rattle.rules.specs.Events as Events;
 ghost use Rattle.rules.specs.Events.{eventOf};
-ghost use Rattle.kernel_steps.specs.Steps.{replyOf};
+ghost use Rattle.kernel_steps.specs.Steps.{memory, replyOf};
 ghost use Rattle.kernel_steps.specs.Serving.{Serves, ServesCall};
 ghost use Rattle.kernel_steps.specs.Written.{lent, answered, ServesAt, ServesAll};
 
@@ -43,8 +43,8 @@ fn serve_call(
     b: i32,
     c: i32,
 ) -> Answer
-    ensures { λ r. ⌜ ServesCall context number a b c me (now (words .entry)) (now (messages .entry))
-        (replyOf r) (now (words .exit)) (now (messages .exit)) ⌝ }
+    ensures { λ r. ⌜ ServesCall context number a b c me (memory (now (words .entry)) (now (messages .entry)))
+        (replyOf r) (memory (now (words .exit)) (now (messages .exit))) ⌝ }
 {
     let handler = named(context) == HANDLER;
     let n = named(number);
@@ -62,8 +62,8 @@ pub fn serve_tick(
     found: Breach,
     me: u32,
 ) -> Answer
-    ensures { λ r. ⌜ Serves Events.tick found me (now (words .entry)) (now (messages .entry))
-        (replyOf r) (now (words .exit)) (now (messages .entry)) ⌝ }
+    ensures { λ r. ⌜ Serves Events.tick found me (memory (now (words .entry)) (now (messages .entry)))
+        (replyOf r) (memory (now (words .exit)) (now (messages .entry))) ⌝ }
 {
     if found.code != SOUND {
         return damaged(found);
@@ -80,8 +80,8 @@ pub fn serve_enter(
     found: Breach,
     me: u32,
 ) -> Answer
-    ensures { λ r. ⌜ Serves Events.enter found me (now (words .entry)) (now (messages .entry))
-        (replyOf r) (now (words .exit)) (now (messages .entry)) ⌝ }
+    ensures { λ r. ⌜ Serves Events.enter found me (memory (now (words .entry)) (now (messages .entry)))
+        (replyOf r) (memory (now (words .exit)) (now (messages .entry))) ⌝ }
 {
     if found.code != SOUND {
         return damaged(found);
@@ -98,8 +98,8 @@ pub fn serve_leave(
     found: Breach,
     me: u32,
 ) -> Answer
-    ensures { λ r. ⌜ Serves Events.exit found me (now (words .entry)) (now (messages .entry))
-        (replyOf r) (now (words .exit)) (now (messages .entry)) ⌝ }
+    ensures { λ r. ⌜ Serves Events.exit found me (memory (now (words .entry)) (now (messages .entry)))
+        (replyOf r) (memory (now (words .exit)) (now (messages .entry))) ⌝ }
 {
     if found.code != SOUND {
         return damaged(found);
@@ -121,8 +121,8 @@ fn serve_event(
     b: i32,
     c: i32,
 ) -> Answer
-    ensures { λ r. ⌜ Serves (eventOf kind number a b c) found me (now (words .entry)) (now (messages .entry))
-        (replyOf r) (now (words .exit)) (now (messages .exit)) ⌝ }
+    ensures { λ r. ⌜ Serves (eventOf kind number a b c) found me (memory (now (words .entry)) (now (messages .entry)))
+        (replyOf r) (memory (now (words .exit)) (now (messages .exit))) ⌝ }
 {
     if found.code != SOUND {
         return damaged(found);
@@ -173,8 +173,8 @@ fn serve_one(
 ) -> u32
     requires { ⌜ (5 * i + 5 ≤ length (now events)) × (suc i ≤ length (now codes)) × (4 * i + 4 ≤ length (now answers)) ⌝ }
     ensures { λ r. ⌜ ServesAt (now (events .entry)) i found me
-        (lent (now (words .entry)) (now (messages .entry)) (now (codes .entry)) (now (answers .entry)))
-        (lent (now (words .exit)) (now (messages .exit)) (now (codes .exit)) (now (answers .exit))) r ⌝ }
+        (lent (memory (now (words .entry)) (now (messages .entry))) (now (codes .entry)) (now (answers .entry)))
+        (lent (memory (now (words .exit)) (now (messages .exit))) (now (codes .exit)) (now (answers .exit))) r ⌝ }
 {
     let at = 5 * i;
     let r = serve_event(
@@ -221,8 +221,8 @@ pub fn serve_all(
     answers: &mut [u32],
 )
     ensures { λ _. ⌜ ServesAll (now (events .entry)) found me
-        (lent (now (words .entry)) (now (messages .entry)) (now (codes .entry)) (now (answers .entry)))
-        (lent (now (words .exit)) (now (messages .exit)) (now (codes .exit)) (now (answers .exit))) ⌝ }
+        (lent (memory (now (words .entry)) (now (messages .entry))) (now (codes .entry)) (now (answers .entry)))
+        (lent (memory (now (words .exit)) (now (messages .exit))) (now (codes .exit)) (now (answers .exit))) ⌝ }
 {
     let n = count(events.len(), codes.len(), answers.len());
     let mut runs = me;
@@ -245,8 +245,8 @@ pub fn serve(
     b: i32,
     c: i32,
 ) -> Answer
-    ensures { λ r. ⌜ Serves (eventOf kind number a b c) found me (now (words .entry)) (now (messages .entry))
-        (replyOf r) (now (words .exit)) (now (messages .exit)) ⌝ }
+    ensures { λ r. ⌜ Serves (eventOf kind number a b c) found me (memory (now (words .entry)) (now (messages .entry)))
+        (replyOf r) (memory (now (words .exit)) (now (messages .exit))) ⌝ }
 {
     let event = [kind, number, a, b, c];
     let mut code = [0i32; 1];

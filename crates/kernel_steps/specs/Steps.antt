@@ -8,9 +8,25 @@ use Rattle.rules.specs.Codes.{number, negative}
 use Rattle.rules.specs.Breach.{breach}
 use Rattle.rules.specs.Events.{Event, Words}
 use Rattle.rules.specs.Answers.{Answer}
+use Rattle.rules.specs.View.{View}
 use Rattle.rules.specs.Kernel.{event}
 use Rattle.memory_picture.specs.Picture.{viewShown, Accepted}
 use Rattle.kernel_steps.specs.declared.Answer as Given
+
+-- a lent memory: the words, and the marks of messages
+pub record Memory : Type 0 where
+  pub words : List ℕ
+  pub marks : List ℕ
+
+abbrev pub memory : List ℕ → List ℕ → Memory
+memory b m = record { words = b; marks = m }
+
+-- what it shows, and that it is accepted
+abbrev pub viewIn : Memory → View
+viewIn m = viewShown (m .words) (m .marks)
+
+abbrev pub SoundIn : Memory → Type 0
+SoundIn m = Accepted (m .words) (m .marks)
 
 -- the five numbers that come back of an event
 pub record Reply : Type 0 where
@@ -33,27 +49,19 @@ told a = reply (number (a .code)) (a .w1) (a .w2) (a .runs) (a .released)
 
 -- what comes back where the state is damaged: the first rule broken and, in w1, the smallest id at which it is, by the view shown; zeros, the
 -- running task given as 0
-abbrev pub unsound : List ℕ → List ℕ → Reply
-unsound b m = reply (number (breach (viewShown b m) .code)) (breach (viewShown b m) .id) 0 0 0
+abbrev pub unsound : Memory → Reply
+unsound m = reply (number (breach (viewIn m) .code)) (breach (viewIn m) .id) 0 0 0
 
 -- The event's words have 32 bits, as the functions' types say. A sound state: the rules' answer, and a memory that shows the rules' next state
 -- and is accepted again. A damaged one: what is broken, and the memory as it was. A negative code leaves the memory as it was, whatever it
 -- holds.
-pub record Step (e : Event) (b m : List ℕ) (r : Reply) (b′ m′ : List ℕ) : Type 0 where
+pub record Step (e : Event) (old : Memory) (r : Reply) (new : Memory) : Type 0 where
   pub words : Words e
-  pub answers : Accepted b m → r ≡ told (event (viewShown b m) e .answer)
-  pub accepted : Accepted b m → Accepted b′ m′
-  pub shows : Accepted b m → viewShown b′ m′ ≡ event (viewShown b m) e .next
-  pub refuses : (Accepted b m → ⊥) → r ≡ unsound b m
-  pub kept : negative (r .code) ≡ true → (b′ ≡ b) × (m′ ≡ m)
-
--- a lent memory: the words, and the marks of messages
-pub record Memory : Type 0 where
-  pub words : List ℕ
-  pub marks : List ℕ
-
-abbrev pub memory : List ℕ → List ℕ → Memory
-memory b m = record { words = b; marks = m }
+  pub answers : SoundIn old → r ≡ told (event (viewIn old) e .answer)
+  pub accepted : SoundIn old → SoundIn new
+  pub shows : SoundIn old → viewIn new ≡ event (viewIn old) e .next
+  pub refuses : (SoundIn old → ⊥) → r ≡ unsound old
+  pub kept : negative (r .code) ≡ true → new ≡ old
 
 -- ---- runs
 
@@ -61,19 +69,14 @@ memory b m = record { words = b; marks = m }
 pub record Link : Type 0 where
   pub event : Event
   pub reply : Reply
-  pub words : List ℕ
-  pub marks : List ℕ
+  pub left : Memory
 
--- steps, each from the memory that the last one left; the first from b and m
-abbrev pub Chain : List ℕ → List ℕ → List Link → Type 0
-Chain b m [] = Unit {0}
-Chain b m (k ∷ l) = Step (k .event) b m (k .reply) (k .words) (k .marks) × Chain (k .words) (k .marks) l
+-- steps, each from the memory that the last one left; the first from m
+abbrev pub Chain : Memory → List Link → Type 0
+Chain m [] = Unit {0}
+Chain m (k ∷ l) = Step (k .event) m (k .reply) (k .left) × Chain (k .left) l
 
 -- the memory behind the last one
-abbrev pub lastWords : List ℕ → List Link → List ℕ
-lastWords b [] = b
-lastWords b (k ∷ l) = lastWords (k .words) l
-
-abbrev pub lastMarks : List ℕ → List Link → List ℕ
-lastMarks m [] = m
-lastMarks m (k ∷ l) = lastMarks (k .marks) l
+abbrev pub lastMemory : Memory → List Link → Memory
+lastMemory m [] = m
+lastMemory m (k ∷ l) = lastMemory (k .left) l

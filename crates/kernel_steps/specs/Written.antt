@@ -7,19 +7,18 @@ use lib.ListN.{length, drop, getD, set}
 use Rattle.rules.specs.Events.{Event, eventOf, eventsOf}
 use Rattle.check_damage.specs.declared.Breach.{Breach}
 use Rattle.kernel_steps.specs.Serving.{Known}
-use Rattle.kernel_steps.specs.Steps.{Reply, Step, Link, Chain, lastWords, lastMarks}
+use Rattle.kernel_steps.specs.Steps.{Memory, Reply, Step, Link, Chain, lastMemory}
 
 -- ---- what was lent
 
 -- the memory, and the places for codes and for words
 pub record Lent : Type 0 where
-  pub words : List ℕ
-  pub marks : List ℕ
+  pub memory : Memory
   pub codes : List ℤ
   pub answers : List ℕ
 
-abbrev pub lent : List ℕ → List ℕ → List ℤ → List ℕ → Lent
-lent b m c a = record { words = b; marks = m; codes = c; answers = a }
+abbrev pub lent : Memory → List ℤ → List ℕ → Lent
+lent m c a = record { memory = m; codes = c; answers = a }
 
 -- new entries at the front, all behind them as it was
 unfoldable pub over : {A : Type 0} → List A → List A → List A
@@ -44,23 +43,22 @@ eventAt given i = eventOf (getD given (5 * i) (pos 0)) (getD given (5 * i + 1) (
 -- event i ran: a step, whose answer was written in its place; and this task runs now
 pub record EventRan (given : List ℤ) (i : ℕ) (old new : Lent) (now : ℕ) : Type 0 where
   pub reply : Reply
-  pub step : Step (eventAt given i) (old .words) (old .marks) reply (new .words) (new .marks)
+  pub step : Step (eventAt given i) (old .memory) reply (new .memory)
   pub codes : new .codes ≡ set (old .codes) i (reply .code)
   pub answers : new .answers ≡ answered i (reply .w1) (reply .w2) (reply .runs) (reply .released) (old .answers)
   pub runs : now ≡ reply .runs
 
 -- for who knows whether the state is sound, who runs, and what is broken
 abbrev pub ServesAt : List ℤ → ℕ → Breach → ℕ → Lent → Lent → ℕ → Type 0
-ServesAt given i f me old new now = Known f me (old .words) (old .marks) → EventRan given i old new now
+ServesAt given i f me old new now = Known f me (old .memory) → EventRan given i old new now
 
 -- The events ran one after the other: there is a chain of just these events, from the memory before to the memory after, and its codes and words
 -- are what was written.
 pub record RanThrough (given : List ℤ) (old new : Lent) : Type 0 where
   pub links : List Link
-  pub chain : Chain (old .words) (old .marks) links
+  pub chain : Chain (old .memory) links
   pub events : map (λ k. k .event) links ≡ eventsOf given
-  pub words : new .words ≡ lastWords (old .words) links
-  pub marks : new .marks ≡ lastMarks (old .marks) links
+  pub left : new .memory ≡ lastMemory (old .memory) links
   pub codes : new .codes ≡ over (codesOf links) (old .codes)
   pub answers : new .answers ≡ over (wordsOf links) (old .answers)
 
@@ -72,4 +70,4 @@ pub record Room (given : List ℤ) (old : Lent) : Type 0 where
 
 -- the same of all events, where there is room
 abbrev pub ServesAll : List ℤ → Breach → ℕ → Lent → Lent → Type 0
-ServesAll given f me old new = Known f me (old .words) (old .marks) → Room given old → RanThrough given old new
+ServesAll given f me old new = Known f me (old .memory) → Room given old → RanThrough given old new

@@ -77,8 +77,8 @@ pub extern "C" fn okrozumba_call(
     b: i32,
     c: i32,
 ) -> Answer
-    ensures { λ r. ⌜ Step (Events.call context number a b c) (now (words .entry)) (now (messages .entry))
-        (replyOf r) (now (words .exit)) (now (messages .exit)) ⌝ }
+    ensures { λ r. ⌜ Step (Events.call context number a b c) (memory (now (words .entry)) (now (messages .entry)))
+        (replyOf r) (memory (now (words .exit)) (now (messages .exit))) ⌝ }
 {
     kernel_events::call(words, messages, context, number, a, b, c)
 }
@@ -86,8 +86,8 @@ pub extern "C" fn okrozumba_call(
 // A tick.
 #[no_mangle]
 pub extern "C" fn okrozumba_tick(words: &mut [u32; STATE_WORDS], messages: &[u32; 256]) -> Answer
-    ensures { λ r. ⌜ Step Events.tick (now (words .entry)) (now (messages .entry))
-        (replyOf r) (now (words .exit)) (now (messages .entry)) ⌝ }
+    ensures { λ r. ⌜ Step Events.tick (memory (now (words .entry)) (now (messages .entry)))
+        (replyOf r) (memory (now (words .exit)) (now (messages .entry))) ⌝ }
 {
     kernel_events::tick(words, messages)
 }
@@ -95,8 +95,8 @@ pub extern "C" fn okrozumba_tick(words: &mut [u32; STATE_WORDS], messages: &[u32
 // The entry of a handler.
 #[no_mangle]
 pub extern "C" fn okrozumba_enter(words: &mut [u32; STATE_WORDS], messages: &[u32; 256]) -> Answer
-    ensures { λ r. ⌜ Step Events.enter (now (words .entry)) (now (messages .entry))
-        (replyOf r) (now (words .exit)) (now (messages .entry)) ⌝ }
+    ensures { λ r. ⌜ Step Events.enter (memory (now (words .entry)) (now (messages .entry)))
+        (replyOf r) (memory (now (words .exit)) (now (messages .entry))) ⌝ }
 {
     kernel_events::enter(words, messages)
 }
@@ -104,8 +104,8 @@ pub extern "C" fn okrozumba_enter(words: &mut [u32; STATE_WORDS], messages: &[u3
 // The return of a handler.
 #[no_mangle]
 pub extern "C" fn okrozumba_leave(words: &mut [u32; STATE_WORDS], messages: &[u32; 256]) -> Answer
-    ensures { λ r. ⌜ Step Events.exit (now (words .entry)) (now (messages .entry))
-        (replyOf r) (now (words .exit)) (now (messages .entry)) ⌝ }
+    ensures { λ r. ⌜ Step Events.exit (memory (now (words .entry)) (now (messages .entry)))
+        (replyOf r) (memory (now (words .exit)) (now (messages .entry))) ⌝ }
 {
     kernel_events::leave(words, messages)
 }
@@ -157,8 +157,8 @@ pub extern "C" fn okrozumba_events(
     answers: &mut [u32],
 ) -> u32
     ensures { λ r. ⌜ BatchedTold (now (events .entry)) r
-        (lent (now (words .entry)) (now (messages .entry)) (now (codes .entry)) (now (answers .entry)))
-        (lent (now (words .exit)) (now (messages .exit)) (now (codes .exit)) (now (answers .exit))) ⌝ }
+        (lent (memory (now (words .entry)) (now (messages .entry))) (now (codes .entry)) (now (answers .entry)))
+        (lent (memory (now (words .exit)) (now (messages .exit))) (now (codes .exit)) (now (answers .exit))) ⌝ }
 {
     batch_number(kernel_batches::events(words, messages, events, codes, answers))
 }
@@ -195,8 +195,8 @@ pub extern "C" fn okrozumba_run(
     answers: &mut [u32],
 ) -> Outcome
     ensures { λ r. ⌜ RunsTold (now (setup .entry)) (now (events .entry)) (r .number) (r .place)
-        (lent (now (words .entry)) (now (messages .entry)) (now (codes .entry)) (now (answers .entry)))
-        (lent (now (words .exit)) (now (messages .exit)) (now (codes .exit)) (now (answers .exit))) ⌝ }
+        (lent (memory (now (words .entry)) (now (messages .entry))) (now (codes .entry)) (now (answers .entry)))
+        (lent (memory (now (words .exit)) (now (messages .exit))) (now (codes .exit)) (now (answers .exit))) ⌝ }
 {
     run_outcome(kernel_batches::run(setup, words, messages, events, codes, answers))
 }
@@ -222,8 +222,8 @@ pub extern "C" fn okrozumba_part(
     text: &mut [u8],
 ) -> Parted
     ensures { λ r. ⌜ Parts (now (bytes .entry))
-        (Recording.lent (now (numbers .entry)) (now (held .entry)) (now (words .entry)) (now (messages .entry)))
-        (Recording.lent (now (numbers .exit)) (now (held .exit)) (now (words .exit)) (now (messages .exit)))
+        (Recording.lent (now (numbers .entry)) (now (held .entry)) (memory (now (words .entry)) (now (messages .entry))))
+        (Recording.lent (now (numbers .exit)) (now (held .exit)) (memory (now (words .exit)) (now (messages .exit))))
         (now (text .entry)) (now (text .exit)) r ⌝ }
 {
     run_recorder::part(numbers, held, words, messages, bytes, text)
@@ -331,8 +331,8 @@ pub extern "C" fn okrozumba_light_receive(
     light: Light,
     mailbox: i32,
 ) -> Display
-    ensures { λ r. ⌜ Displayed (λ s. Receives curve (now (slots .entry)) light mailbox (now (words .entry))
-        (now (messages .entry)) s (now (words .exit)) (now (messages .exit))) r ⌝ }
+    ensures { λ r. ⌜ Displayed (λ s. Receives curve (now (slots .entry)) light mailbox
+        (memory (now (words .entry)) (now (messages .entry))) s (memory (now (words .exit)) (now (messages .exit)))) r ⌝ }
 {
     shown_told(brightness::receive(words, messages, curve, slots, light, mailbox))
 }
@@ -347,7 +347,7 @@ pub extern "C" fn okrozumba_light_resumed(
     light: Light,
 ) -> Display
     ensures { λ r. ⌜ Displayed
-        (λ s. Resumes curve (now (slots .entry)) light (now (words .entry)) (now (messages .entry)) s) r ⌝ }
+        (λ s. Resumes curve (now (slots .entry)) light (memory (now (words .entry)) (now (messages .entry))) s) r ⌝ }
 {
     shown_told(brightness::resumed(words, messages, curve, slots, light))
 }

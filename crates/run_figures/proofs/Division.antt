@@ -15,7 +15,7 @@ use Rattle.rules.specs.Kernel.{fresh, event}
 use Rattle.rules.specs.Writing.{joined}
 use Rattle.memory_picture.specs.Picture.{viewShown, tasksShown}
 use Rattle.kernel_start.specs.Starting.{Holds}
-use Rattle.kernel_steps.specs.Steps.{Reply, Step, Link, Memory, memory}
+use Rattle.kernel_steps.specs.Steps.{Reply, Step, Link, Memory}
 use Rattle.call_words.proofs.Tasks.{tasks-count}
 use Rattle.call_reading.specs.Reading.{numberAt}
 use Rattle.call_reading.proofs.Readings.{number-read}
@@ -90,8 +90,8 @@ Ordered unstarted (occurs n e ∷ l) = ⊥
 Ordered (at v) (occurs n e ∷ l) = Ordered (at (event v e .next)) l
 Ordered x (refuses f p ∷ l) = Ordered x l
 
-step-holds : (e : Event) (v : View) (b m : List ℕ) (r : Reply) (b′ m′ : List ℕ) → Holds b m v → Step e b m r b′ m′ → Holds b′ m′ (event v e .next) × (r .code ≡ number (event v e .answer .code))
-step-holds e v b m r b′ m′ H S = (
+step-holds : (e : Event) (v : View) (old : Memory) (r : Reply) (new : Memory) → Holds (old .words) (old .marks) v → Step e old r new → Holds (new .words) (new .marks) (event v e .next) × (r .code ≡ number (event v e .answer .code))
+step-holds e v old r new H S = (
   record { accepted = S .accepted (H .accepted); view = S .shows (H .accepted) ∙ ap (λ (x : View). event x e .next) (H .view) },
   ap (λ (x : Reply). x .code) (S .answers (H .accepted)) ∙ ap (λ (x : View). number (event x e .answer .code)) (H .view),
 )
@@ -105,10 +105,10 @@ seen-law (begins h ∷ l) (at v) old new k w s o f = seen-law l (at (fresh (h .s
 seen-law (occurs n e ∷ l) unstarted old new k w s o f = absurd o
 seen-law (occurs n e ∷ l) (at v) old new k w s o f =
     let a : Link = w .0 in
-    let q = step-holds e v (old .words) (old .marks) (a .reply) (a .words) (a .marks) s (w .4) in
+    let q = step-holds e v old (a .reply) (a .left) s (w .4) in
     ap (λ (z : List Link). countedAll f (map seenLink z)) (w .2)
-    ∙ ap (λ (g : Figures). countedAll g (map seenLink (w .1))) (seen-alike (a .words) (a .marks) (event v e .next) (q .0) (a .reply .code) (number (event v e .answer .code)) (q .1) f)
-    ∙ seen-law l (at (event v e .next)) (memory (a .words) (a .marks)) new (w .1) (w .5) (q .0) o (counted f (seenBehind (number (event v e .answer .code)) (event v e .next)))
+    ∙ ap (λ (g : Figures). countedAll g (map seenLink (w .1))) (seen-alike (a .left .words) (a .left .marks) (event v e .next) (q .0) (a .reply .code) (number (event v e .answer .code)) (q .1) f)
+    ∙ seen-law l (at (event v e .next)) (a .left) new (w .1) (w .5) (q .0) o (counted f (seenBehind (number (event v e .answer .code)) (event v e .next)))
 seen-law (refuses g p ∷ l) unstarted old new k w s o f = seen-law l unstarted old new k w s o f
 seen-law (refuses g p ∷ l) (at v) old new k w s o f = seen-law l (at v) old new k w s o f
 

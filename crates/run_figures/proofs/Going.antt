@@ -16,8 +16,8 @@ use Rattle.check_damage.specs.declared.Breach.{Breach}
 use Rattle.check_damage.specs.Judged.{Judged}
 use Rattle.kernel_start.specs.Starting.{Starts, Holds}
 use Rattle.kernel_start.specs.declared.Started.{Started}
-use Rattle.kernel_steps.specs.Steps.{Reply, Step, Link, Memory, memory}
-use Rattle.kernel_steps.specs.Serving.{Known}
+use Rattle.kernel_steps.specs.Steps.{Reply, Link, Memory, memory}
+use Rattle.kernel_steps.specs.Serving.{Known, Serves}
 use Rattle.kernel_serving.proofs.Served.{known-on, known-first}
 use Rattle.call_reading.specs.Reading.{numberAt}
 use Rattle.run_reading.specs.Recorded.{Item, begins, occurs, refuses, eventIn, eventBytes}
@@ -66,7 +66,7 @@ pub went-append : (a b : List Item) (old mid new : Memory) (k l : List Link) →
 went-append [] b old mid new k l w v = rw (w .0) (subst (λ (m : Memory). Went b m l new) (w .1) v)
 went-append (begins h ∷ a) b old mid new k l w v = (w .0, w .1, went-append a b (w .0) mid new k l (w .2) v)
 went-append (occurs n e ∷ a) b old mid new k l w v =
-    (w .0, w .1 ++ l, ap (λ (x : List Link). x ++ l) (w .2), w .3, w .4, went-append a b (memory (w .0 .words) (w .0 .marks)) mid new (w .1) l (w .5) v)
+    (w .0, w .1 ++ l, ap (λ (x : List Link). x ++ l) (w .2), w .3, w .4, went-append a b (w .0 .left) mid new (w .1) l (w .5) v)
 went-append (refuses f p ∷ a) b old mid new k l w v = went-append a b old mid new k l w v
 
 refusal-append : (s : Said) (a b : List Item) → refusalFrom s (a ++ b) ≡ refusalFrom (refusalFrom s a) b
@@ -109,15 +109,15 @@ module _ (t : Turn) (old : Memory) (f : Figures) where
     }
 
   -- an event
-  module _ (h : List ℕ) (i : ℕ) {r : Reply} {b m : List ℕ} (S : Known (t .found) (t .me) (old .words) (old .marks) → Step (eventIn (take eventBytes h)) (old .words) (old .marks) r b m)
-      {f′ : Figures} (c : f′ ≡ counted f (seenIn (r .code) b)) where
-    pub told-occurs : CountsTold (Occurs i) h t old (memory b m) f f′ (record { found = t .found; me = r .runs; number = t .number; place = t .place })
+  module _ (h : List ℕ) (i : ℕ) {r : Reply} {new : Memory} (S : Serves (eventIn (take eventBytes h)) (t .found) (t .me) old r new)
+      {f′ : Figures} (c : f′ ≡ counted f (seenIn (r .code) (new .words))) where
+    pub told-occurs : CountsTold (Occurs i) h t old new f f′ (record { found = t .found; me = r .runs; number = t .number; place = t .place })
     unfolding countedAll
     told-occurs l T K =
-        let k : Link = record { event = eventIn (take eventBytes h); reply = r; words = b; marks = m } in
+        let k : Link = record { event = eventIn (take eventBytes h); reply = r; left = new } in
         record {
           links = k ∷ [];
-          went = subst (λ (x : List Item). Went x old (k ∷ []) (memory b m)) (sym T) (k, [], refl, refl, S K, (refl, refl));
+          went = subst (λ (x : List Item). Went x old (k ∷ []) new) (sym T) (k, [], refl, refl, S K, (refl, refl));
           counts = c;
           known = known-on K (S K);
           says = ap (refusalFrom (said (t .number) (t .place))) (sym T);
@@ -142,11 +142,11 @@ pub record Reached (start : Lent) (s : Said) (done : List ℕ) (r : Recorder) (n
   pub links : List Link
   pub went : Went (items (start .recorder) done) (start .memory) links now
   pub counts : f ≡ countedAll (start .figures) (map seenLink links)
-  pub known : Known (t .found) (t .me) (now .words) (now .marks)
+  pub known : Known (t .found) (t .me) now
   pub says : said (t .number) (t .place) ≡ refusalFrom s (items (start .recorder) done)
 
 module _ (start : Lent) (s : Said) where
-  pub reached-none : (t : Turn) → Known (t .found) (t .me) (start .memory .words) (start .memory .marks) → said (t .number) (t .place) ≡ s → Reached start s [] (start .recorder) (start .memory) (start .figures) t
+  pub reached-none : (t : Turn) → Known (t .found) (t .me) (start .memory) → said (t .number) (t .place) ≡ s → Reached start s [] (start .recorder) (start .memory) (start .figures) t
   unfolding items after countedAll
   reached-none t K e = record { recorder = refl; links = []; went = (refl, refl); counts = refl; known = K; says = e }
 

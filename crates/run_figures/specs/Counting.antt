@@ -11,7 +11,7 @@ use Rattle.rules.specs.Kernel.{fresh}
 use Rattle.memory_picture.specs.Picture.{tasksShown}
 use Rattle.call_reading.specs.Reading.{numberAt}
 use Rattle.kernel_start.specs.Starting.{Holds}
-use Rattle.kernel_steps.specs.Steps.{Step, Link, Memory, memory}
+use Rattle.kernel_steps.specs.Steps.{Step, Link, Memory}
 use Rattle.kernel_steps.specs.Serving.{Known}
 use Rattle.run_reading.specs.Recorded.{Item, begins, occurs, refuses}
 use Rattle.run_reading.specs.Recorder.{Recorder, closed, items, after}
@@ -38,14 +38,13 @@ abbrev pub seenIn : ℤ → List ℕ → Seen
 seenIn c b = record { code = c; tasks = tasksShown b; state = λ i. numberAt b (suc i) }
 
 abbrev pub seenLink : Link → Seen
-seenLink k = seenIn (k .reply .code) (k .words)
+seenLink k = seenIn (k .reply .code) (k .left .words)
 
 -- items in turn: a setup leaves its fresh state, whatever the memory held; each event makes a step, which is a link; a refusal leaves the memory as it was
 abbrev pub Went : List Item → Memory → List Link → Memory → Type 0
 Went [] old l new = (l ≡ []) × (new ≡ old)
 Went (begins h ∷ i) old l new = (m : Memory) × Holds (m .words) (m .marks) (fresh (h .setup)) × Went i m l new
-Went (occurs n e ∷ i) old l new =
-    (k : Link) × (r : List Link) × (l ≡ k ∷ r) × (k .event ≡ e) × Step e (old .words) (old .marks) (k .reply) (k .words) (k .marks) × Went i (memory (k .words) (k .marks)) r new
+Went (occurs n e ∷ i) old l new = (k : Link) × (r : List Link) × (l ≡ k ∷ r) × (k .event ≡ e) × Step e old (k .reply) (k .left) × Went i (k .left) r new
 Went (refuses f place ∷ i) old l new = Went i old l new
 
 -- ---- what is said
@@ -83,8 +82,8 @@ pub record Goes (l : List Item) (old new : Memory) (f f′ : Figures) (t t′ : 
   pub links : List Link
   pub went : Went l old links new
   pub counts : f′ ≡ countedAll f (map seenLink links)
-  pub known : Known (t′ .found) (t′ .me) (new .words) (new .marks)
+  pub known : Known (t′ .found) (t′ .me) new
   pub says : said (t′ .number) (t′ .place) ≡ refusalFrom (said (t .number) (t .place)) l
 
 abbrev pub CountsTold : Completed → List ℕ → Turn → Memory → Memory → Figures → Figures → Turn → Type 0
-CountsTold c h t old new f f′ t′ = (l : List Item) → Tells c h l → Known (t .found) (t .me) (old .words) (old .marks) → Goes l old new f f′ t t′
+CountsTold c h t old new f f′ t′ = (l : List Item) → Tells c h l → Known (t .found) (t .me) old → Goes l old new f f′ t t′

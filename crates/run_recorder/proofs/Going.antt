@@ -26,7 +26,7 @@ use Rattle.run_text.proofs.Laid.{laid-over}
 use Rattle.run_recorder.specs.declared.Turn.{Turn}
 use Rattle.run_recorder.specs.Running.{Ran}
 use Rattle.run_stream.specs.Lent.{Said, said}
-use Rattle.run_recorder.specs.Recording.{Lent, recorderIn, memoryIn, taken, S5, full, refusalIn, Admits, Parts, Plays, Eats}
+use Rattle.run_recorder.specs.Recording.{Lent, recorderIn, taken, S5, full, refusalIn, Admits, Parts, Plays, Eats}
 
 -- ---- lists
 
@@ -173,11 +173,11 @@ module _ (bytes : List ℕ) (old : Lent) (text : List ℕ) where
     pub few : i ≤ length bytes
     pub recorder : recorderIn new ≡ after (recorderIn old) (take i bytes)
     pub lines : List ℕ
-    pub ran : Ran (so-far i) (memoryIn old) lines (memoryIn new)
+    pub ran : Ran (so-far i) (old .memory) lines (new .memory)
     pub count : at ≡ length lines
     pub fits : at ≤ length text
     pub holds : text′ ≡ over lines text
-    pub each : closed (recorderIn old) ≡ false → (k : ℕ) → k < i → Admits (recorderIn old) (memoryIn old) (take k bytes) lines (length text)
+    pub each : closed (recorderIn old) ≡ false → (k : ℕ) → k < i → Admits (recorderIn old) (old .memory) (take k bytes) lines (length text)
 
   pub taken-length : {i at : ℕ} {new : Lent} {text′ : List ℕ} → Taken i at new text′ → length text′ ≡ length text
   taken-length T = ap length (T .holds) ∙ length-append (T .lines) (drop (length (T .lines)) text) ∙ omega (arith, length-drop (length (T .lines)) text, T .count, T .fits)
@@ -187,16 +187,16 @@ module _ (bytes : List ℕ) (old : Lent) (text : List ℕ) where
     pub done : Taken i at new text′
     pub quiet : Quiet (so-far i)
     pub isOpen : closed (recorderIn old) ≡ false → closed (recorderIn new) ≡ false
-    pub known : Known f me (new .words) (new .marks)
+    pub known : Known f me (new .memory)
     pub kept : i ≡ 0 → (new ≡ old) × (text′ ≡ text)
 
-  pub going-first : {f : Breach} {me : ℕ} → Judged (old .words) (old .marks) (f .code) (f .id) → me ≡ runningOf (old .words) → Going f me 0 0 old text
+  pub going-first : {f : Breach} {me : ℕ} → Judged (old .memory .words) (old .memory .marks) (f .code) (f .id) → me ≡ runningOf (old .memory .words) → Going f me 0 0 old text
   unfolding items after
   going-first Q e = record {
     done = record { few = omega arith; recorder = refl; lines = []; ran = (refl, refl); count = refl; fits = omega arith; holds = refl; each = λ o k h. absurd (omega (arith, h)) };
     quiet = λ d. refl;
     isOpen = λ o. o;
-    known = known-first (old .words) (old .marks) Q e;
+    known = known-first (old .memory .words) (old .memory .marks) Q e;
     kept = λ z. (refl, refl);
   }
 
@@ -219,17 +219,17 @@ module _ (bytes : List ℕ) (old : Lent) (text : List ℕ) where
       within : at ≤ length text′
       within = omega (arith, G .done .fits, same-text)
 
-      played : Plays (eat (recorderIn new) (getD bytes i 0) .items) (memoryIn new) (memoryIn later) (drop at text′) tail t
-      played = subst (λ (x : List ℕ). Plays (eat (recorderIn new) (getD bytes i 0) .items) (memoryIn new) (memoryIn later) x tail t) (mid-all text′ at within) (E .plays (G .known))
+      played : Plays (eat (recorderIn new) (getD bytes i 0) .items) (new .memory) (later .memory) (drop at text′) tail t
+      played = subst (λ (x : List ℕ). Plays (eat (recorderIn new) (getD bytes i 0) .items) (new .memory) (later .memory) x tail t) (mid-all text′ at within) (E .plays (G .known))
 
       -- it is taken where there is room, as those before it
-      each-more : closed (recorderIn old) ≡ false → (k : ℕ) → k < i + 1 → Admits (recorderIn old) (memoryIn old) (take k bytes) (G .done .lines ++ played .line) (length text)
+      each-more : closed (recorderIn old) ≡ false → (k : ℕ) → k < i + 1 → Admits (recorderIn old) (old .memory) (take k bytes) (G .done .lines ++ played .line) (length text)
       each-more o k h = elim (ℕ-discrete k i) [
         | yes e ↦ rw e
             (record {
               isOpen = ap closed (sym (G .done .recorder)) ∙ G .isOpen o;
               before = G .done .lines;
-              left = memoryIn new;
+              left = new .memory;
               more = played .line;
               ran = G .done .ran;
               joins = refl;
@@ -247,7 +247,7 @@ module _ (bytes : List ℕ) (old : Lent) (text : List ℕ) where
             few = omega (arith, more);
             recorder = E .next ∙ sym (n .1);
             lines = D .lines ++ P .line;
-            ran = subst (λ (l : List Item). Ran l (memoryIn old) (D .lines ++ P .line) (memoryIn later)) (sym (n .0)) (ran-append (so-far i) (eat (recorderIn new) (getD bytes i 0) .items) (memoryIn old) (memoryIn new) (memoryIn later) (D .lines) (P .line) (D .ran) (P .ran));
+            ran = subst (λ (l : List Item). Ran l (old .memory) (D .lines ++ P .line) (later .memory)) (sym (n .0)) (ran-append (so-far i) (eat (recorderIn new) (getD bytes i 0) .items) (old .memory) (new .memory) (later .memory) (D .lines) (P .line) (D .ran) (P .ran));
             count = omega (arith, D .count, P .wrote .next, length-append (D .lines) (P .line));
             fits = omega (arith, D .fits, P .short, room, same-text);
             holds = put-all text′ tail at within ∙ over-next (D .lines) (P .line) text (D .holds) (D .count) (D .fits) (P .wrote) (omega (arith, P .short, room, same-text));

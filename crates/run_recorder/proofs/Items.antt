@@ -45,7 +45,7 @@ module _ (h : List ℕ) (f : Breach) (me : ℕ) (old : Memory) (text : List ℕ)
       → {text′ : List ℕ} {w : ℕ} → Wrote (startLine runs) 0 text text′ w × (w ≤ longestLine) → PlaysTold (Begins end) h f me old (memory b m) text text′ (turnOf g runs w 0 0)
   plays-begins end r {b} {m} S {g} Q {runs} e {text′} {w} W l t K =
       let x = t .0 in
-      let H : Holds b m (fresh (x .setup)) = start-holds (take end h) (x .setup) end (t .2) r (old .words) (old .marks) b m S in
+      let H : Holds b m (fresh (x .setup)) = start-holds (take end h) (x .setup) end (t .2) r old (memory b m) S in
       let q : runs ≡ running (fresh (x .setup)) = e ∙ running-law b m (H .accepted) ∙ ap running (H .view) in
       rw (t .1)
       (record {
@@ -57,9 +57,9 @@ module _ (h : List ℕ) (f : Breach) (me : ℕ) (old : Memory) (text : List ℕ)
         says = refl;
       })
 
-  pub plays-occurs : (i : ℕ) {r : Reply} {b m : List ℕ} → Serves (eventIn (take 20 h)) f me (old .words) (old .marks) r b m
-      → {text′ : List ℕ} {w : ℕ} → Wrote (eventLine i (figures r)) 0 text text′ w × (w ≤ longestLine) → PlaysTold (Occurs i) h f me old (memory b m) text text′ (turnOf f (r .runs) w 0 0)
-  plays-occurs i {r} {b} {m} S {text′} {w} W l t K =
+  pub plays-occurs : (i : ℕ) {r : Reply} {new : Memory} → Serves (eventIn (take 20 h)) f me old r new
+      → {text′ : List ℕ} {w : ℕ} → Wrote (eventLine i (figures r)) 0 text text′ w × (w ≤ longestLine) → PlaysTold (Occurs i) h f me old new text text′ (turnOf f (r .runs) w 0 0)
+  plays-occurs i {r} {new} S {text′} {w} W l t K =
       rw t
       (record {
         line = eventLine i (figures r);

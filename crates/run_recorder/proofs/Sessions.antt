@@ -22,7 +22,7 @@ use Rattle.run_text.specs.Output.{over}
 use Rattle.run_stream.specs.Lent.{recorderOf, Is, Said, said}
 use Rattle.run_recorder.specs.declared.Parted.{Parted}
 use Rattle.run_recorder.specs.Running.{Does, Ran}
-use Rattle.run_recorder.specs.Recording.{Lent, lent, recorderIn, memoryIn, taken, S5, full, refusalIn, partSays, Says, Parts, Ends}
+use Rattle.run_recorder.specs.Recording.{Lent, lent, recorderIn, taken, S5, full, refusalIn, partSays, Says, Parts, Ends}
 use Rattle.run_recorder.specs.Sessions.{Shows, Recorded, isRefusal, Handed, Division, lastLeft, bytesTaken, textWritten, firstSaid, Whole}
 use Rattle.run_recorder.proofs.Going.{take-front}
 
@@ -143,25 +143,25 @@ stage-next s c = ap (stageFrom queues unstarted) (items-append begun s c) ∙ st
 stage-fits : (s : List ℕ) → Fit (after begun s) (stage s)
 stage-fits s = fits begun unstarted s tt .1
 
-pub begin-recorded : (n h b m : List ℕ) → Is n begun → Recorded [] (lent n h b m)
+pub begin-recorded : (n h : List ℕ) (m : Memory) → Is n begun → Recorded [] (lent n h m)
 unfolding items after stageFrom
-begin-recorded n h b m I = record { recorder = I h; shows = tt }
+begin-recorded n h m I = record { recorder = I h; shows = tt }
 
 -- what ran from there wrote the rules' lines
-ran-recorded : (s c t : List ℕ) (m : Memory) {x : Lent} → Recorded s x → Ran (items (recorderIn x) c) (memoryIn x) t m
+ran-recorded : (s c t : List ℕ) (m : Memory) {x : Lent} → Recorded s x → Ran (items (recorderIn x) c) (x .memory) t m
     → (t ≡ linesFrom queues (stage s) (items (after begun s) c)) × Shows (stageFrom queues (stage s) (items (after begun s) c)) m
 ran-recorded s c t m {x} R run =
     let f = fits (after begun s) (stage s) c (stage-fits s) in
-    ran-lines (stage s) (items (after begun s) c) (memoryIn x) t m (f .0) (R .shows) (subst (λ (r : Recorder). Ran (items r c) (memoryIn x) t m) (R .recorder) run)
+    ran-lines (stage s) (items (after begun s) c) (x .memory) t m (f .0) (R .shows) (subst (λ (r : Recorder). Ran (items r c) (x .memory) t m) (R .recorder) run)
 
 pub part-recorded : (s : List ℕ) {x y : Lent} {bytes text text′ : List ℕ} {a : Parted} → Recorded s x → Parts bytes x y text text′ a
     → Recorded (s ++ take (a .taken) bytes) y × (take (a .written) text′ ≡ linesFrom queues (stage s) (items (after begun s) (take (a .taken) bytes)))
 part-recorded s {x} {y} {bytes} {text} {text′} {a} R P =
     let c : List ℕ = take (a .taken) bytes in
-    let g = ran-recorded s c (P .lines) (memoryIn y) R (P .ran) in (
+    let g = ran-recorded s c (P .lines) (y .memory) R (P .ran) in (
       record {
         recorder = P .recorder ∙ ap (λ (r : Recorder). after r c) (R .recorder) ∙ sym (after-append begun s c);
-        shows = subst (λ (z : Stage View). Shows z (memoryIn y)) (sym (stage-next s c)) (g .1);
+        shows = subst (λ (z : Stage View). Shows z (y .memory)) (sym (stage-next s c)) (g .1);
       },
       written-front (P .lines) text (P .written) (P .holds) ∙ g .0,
     )
@@ -196,18 +196,18 @@ unfolding textOf
 end-lines s {x} R {n′} {text} {text′} {a} E h =
     let d = E .done h in
     let r : Recorder = after begun s in
-    let run = subst (λ (r : Recorder). Ran (atEnd r) (memoryIn x) (E .lines) (memoryIn x)) (R .recorder) (E .ran (memoryIn x)) in
-    let g = ran-lines (stage s) (atEnd r) (memoryIn x) (E .lines) (memoryIn x) (end-stage r (stage s) .0) (R .shows) run in
+    let run = subst (λ (r : Recorder). Ran (atEnd r) (x .memory) (E .lines) (x .memory)) (R .recorder) (E .ran (x .memory)) in
+    let g = ran-lines (stage s) (atEnd r) (x .memory) (E .lines) (x .memory) (end-stage r (stage s) .0) (R .shows) run in
     let t : take (a .written) text′ ≡ E .lines = rw (d .2, d .1) (take-front (E .lines) (drop (length (E .lines)) text)) in
     ap (λ (l : List ℕ). linesFrom queues unstarted (items begun s) ++ l) (t ∙ g .0)
     ∙ sym (lines-append unstarted (items begun s) (atEnd r))
     ∙ ap (linesFrom queues unstarted) (whole s)
 
-pub end-state : (s : List ℕ) {x : Lent} → Recorded s x → Shows (stateOf s) (memoryIn x)
+pub end-state : (s : List ℕ) {x : Lent} → Recorded s x → Shows (stateOf s) (x .memory)
 unfolding stateOf
 end-state s {x} R =
     let e : stateOf s ≡ stage s = ap (stageFrom queues unstarted) (sym (whole s)) ∙ stage-append unstarted (items begun s) (atEnd (after begun s)) ∙ end-stage (after begun s) (stage s) .1 in
-    subst (λ (z : Stage View). Shows z (memoryIn x)) (sym e) (R .shows)
+    subst (λ (z : Stage View). Shows z (x .memory)) (sym e) (R .shows)
 
 -- ---- what was said
 
@@ -318,7 +318,7 @@ module _ (s : List ℕ) {x : Lent} (R : Recorded s x) {bytes text : List ℕ} wh
       let o : closed (recorderIn x) ≡ false = open-before (recorderIn x) front (T .isOpen) in
       let short : leb (length bytes) (a .taken) ≡ false = lt-leb (length bytes) (a .taken) (omega (arith, h, Q .few)) in
       let six : partSays (recorderIn x) bytes (a .taken) .number ≡ 6 = rw (o, short) (ap (λ (v : Said). v .number) (open-quiet (recorderIn x) front (T .isOpen) full)) in
-      let e : length (T .before) ≡ length (P .lines) = ap length (ran-recorded s front (T .before) (T .left) R (T .ran) .0 ∙ sym (ran-recorded s front (P .lines) (memoryIn y) R (P .ran) .0)) in
+      let e : length (T .before) ≡ length (P .lines) = ap length (ran-recorded s front (T .before) (T .left) R (T .ran) .0 ∙ sym (ran-recorded s front (P .lines) (y .memory) R (P .ran) .0)) in
       omega (arith, P .full (P .says .0 ∙ six), P .written, T .space, e)
 
   at-least : {y z : Lent} {t u : List ℕ} {a b : Parted} → Parts bytes x y text t a → Parts bytes x z text u b → b .taken ≤ a .taken
@@ -335,9 +335,9 @@ module _ (s : List ℕ) {x : Lent} (R : Recorded s x) {bytes text : List ℕ} wh
       let n : a .taken ≡ b .taken = omega (arith, at-least P Q, at-least Q P) in
       let v : partSays (recorderIn x) bytes (a .taken) ≡ partSays (recorderIn x) bytes (b .taken) = ap (partSays (recorderIn x) bytes) n in
       let l : P .lines ≡ Q .lines =
-      ran-recorded s (take (a .taken) bytes) (P .lines) (memoryIn y) R (P .ran) .0
+      ran-recorded s (take (a .taken) bytes) (P .lines) (y .memory) R (P .ran) .0
       ∙ ap (λ (k : ℕ). linesFrom queues (stage s) (items (after begun s) (take k bytes))) n
-      ∙ sym (ran-recorded s (take (b .taken) bytes) (Q .lines) (memoryIn z) R (Q .ran) .0) in (
+      ∙ sym (ran-recorded s (take (b .taken) bytes) (Q .lines) (z .memory) R (Q .ran) .0) in (
         n,
         P .written ∙ ap length l ∙ sym (Q .written),
         (P .says .0 ∙ ap (λ (w : Said). w .number) v ∙ sym (Q .says .0), P .says .1 ∙ ap (λ (w : Said). w .place) v ∙ sym (Q .says .1)),

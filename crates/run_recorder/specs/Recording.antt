@@ -16,7 +16,7 @@ use Rattle.run_text.specs.Lines.{refusal, longestLine}
 use Rattle.run_text.specs.Output.{over, Wrote}
 use Rattle.run_recorder.specs.declared.Parted.{Parted}
 use Rattle.run_recorder.specs.declared.Turn.{Turn}
-use Rattle.kernel_steps.specs.Steps.{Memory, memory}
+use Rattle.kernel_steps.specs.Steps.{Memory}
 use Rattle.run_recorder.specs.Running.{Ran}
 
 -- ---- what is lent
@@ -24,17 +24,13 @@ use Rattle.run_recorder.specs.Running.{Ran}
 pub record Lent : Type 0 where
   pub numbers : List ℕ
   pub held : List ℕ
-  pub words : List ℕ
-  pub marks : List ℕ
+  pub memory : Memory
 
-abbrev pub lent : List ℕ → List ℕ → List ℕ → List ℕ → Lent
-lent n h b m = record { numbers = n; held = h; words = b; marks = m }
+abbrev pub lent : List ℕ → List ℕ → Memory → Lent
+lent n h m = record { numbers = n; held = h; memory = m }
 
 abbrev pub recorderIn : Lent → Recorder
 recorderIn x = recorderOf (x .numbers) (x .held)
-
-abbrev pub memoryIn : Lent → Memory
-memoryIn x = memory (x .words) (x .marks)
 
 -- ---- what is said
 
@@ -83,8 +79,8 @@ pub record Parts (bytes : List ℕ) (old new : Lent) (text text′ : List ℕ) (
   pub few : a .taken ≤ length bytes
   pub recorder : recorderIn new ≡ after (recorderIn old) (take (a .taken) bytes)
   pub lines : List ℕ
-  pub ran : Ran (items (recorderIn old) (take (a .taken) bytes)) (memoryIn old) lines (memoryIn new)
-  pub each : (k : ℕ) → k < a .taken → Admits (recorderIn old) (memoryIn old) (take k bytes) lines (length text)
+  pub ran : Ran (items (recorderIn old) (take (a .taken) bytes)) (old .memory) lines (new .memory)
+  pub each : (k : ℕ) → k < a .taken → Admits (recorderIn old) (old .memory) (take k bytes) lines (length text)
   pub written : a .written ≡ length lines
   pub fits : a .written ≤ length text
   pub holds : text′ ≡ over lines text
@@ -113,16 +109,16 @@ pub record Plays (l : List Item) (old new : Memory) (text text′ : List ℕ) (t
   pub ran : Ran l old line new
   pub wrote : Wrote line 0 text text′ (t .written)
   pub short : t .written ≤ longestLine
-  pub known : Known (t .found) (t .me) (new .words) (new .marks)
+  pub known : Known (t .found) (t .me) new
   pub says : said (t .number) (t .place) ≡ refusalIn l taken
 
 abbrev pub PlaysTold : Completed → List ℕ → Breach → ℕ → Memory → Memory → List ℕ → List ℕ → Turn → Type 0
-PlaysTold c h f me old new text text′ t = (l : List Item) → Tells c h l → Known f me (old .words) (old .marks) → Plays l old new text text′ t
+PlaysTold c h f me old new text text′ t = (l : List Item) → Tells c h l → Known f me old → Plays l old new text text′ t
 
 -- a byte
 pub record Eats (b : ℕ) (f : Breach) (me : ℕ) (old new : Lent) (text text′ : List ℕ) (t : Turn) : Type 0 where
   pub next : recorderIn new ≡ eat (recorderIn old) b .next
-  pub plays : Known f me (old .words) (old .marks) → Plays (eat (recorderIn old) b .items) (memoryIn old) (memoryIn new) text text′ t
+  pub plays : Known f me (old .memory) → Plays (eat (recorderIn old) b .items) (old .memory) (new .memory) text text′ t
 
 -- a part of a recorder that is not closed
 abbrev pub PartsOpen : List ℕ → Lent → Lent → List ℕ → List ℕ → Parted → Type 0

@@ -16,7 +16,7 @@ use Rattle.run_text.specs.Lines.{startLine, eventLine, refusal, longestLine}
 -- an event makes a step; its line has the reply
 pub record Answered (number : ℕ) (e : Event) (old : Memory) (text : List ℕ) (new : Memory) : Type 0 where
   pub reply : Reply
-  pub step : Step e (old .words) (old .marks) reply (new .words) (new .marks)
+  pub step : Step e old reply new
   pub line : text ≡ eventLine number (figures reply)
 
 -- A setup leaves its fresh state, whatever the memory held; a refusal leaves the memory as it was.

@@ -14,7 +14,7 @@ use Rattle.run_text.specs.Text.{Stage, unstarted, at, stageFrom, queues, textOf
 use Rattle.run_recorder.specs.declared.Parted.{Parted}
 use Rattle.kernel_steps.specs.Steps.{Memory}
 use Rattle.run_stream.specs.Lent.{Said, said}
-use Rattle.run_recorder.specs.Recording.{Lent, recorderIn, memoryIn, taken, refusalIn, Parts, Ends}
+use Rattle.run_recorder.specs.Recording.{Lent, recorderIn, taken, refusalIn, Parts, Ends}
 
 -- the memory shows where the run stands; before the start line it may hold anything
 abbrev pub Shows : Stage View → Memory → Type 0
@@ -24,7 +24,7 @@ Shows (at v) m = Holds (m .words) (m .marks) v
 -- the memory after the bytes s
 pub record Recorded (s : List ℕ) (x : Lent) : Type 0 where
   pub recorder : recorderIn x ≡ after begun s
-  pub shows : Shows (stageFrom queues unstarted (items begun s)) (memoryIn x)
+  pub shows : Shows (stageFrom queues unstarted (items begun s)) (x .memory)
 
 abbrev pub isRefusal : ℕ → Bool
 isRefusal n = leb 1 n && leb n 4
@@ -63,4 +63,4 @@ pub record Whole (x : Lent) (l : List Handed) : Type 0 where
   pub recorded : Recorded (bytesTaken l) (lastLeft x l)
   pub ends : (n′ output output′ : List ℕ) (a : Parted) → Ends (lastLeft x l .numbers) (lastLeft x l .held) n′ output output′ a → a .number < 5
       → (textWritten l ++ take (a .written) output′ ≡ textOf (bytesTaken l)) × (firstSaid (map (λ k. k .answer) l ++ (a ∷ [])) ≡ refusalIn (itemsOf (bytesTaken l)) taken)
-  pub state : Shows (stateOf (bytesTaken l)) (memoryIn (lastLeft x l))
+  pub state : Shows (stateOf (bytesTaken l)) (lastLeft x l .memory)

@@ -162,8 +162,8 @@ fn step(
     text: &mut [u8],
 ) -> Turn
     ensures { λ r. ⌜ Eats b found me
-        (lent (now (numbers .entry)) (now (held .entry)) (now (words .entry)) (now (messages .entry)))
-        (lent (now (numbers .exit)) (now (held .exit)) (now (words .exit)) (now (messages .exit))) (now (text .entry))
+        (lent (now (numbers .entry)) (now (held .entry)) (memory (now (words .entry)) (now (messages .entry))))
+        (lent (now (numbers .exit)) (now (held .exit)) (memory (now (words .exit)) (now (messages .exit)))) (now (text .entry))
         (now (text .exit)) r ⌝ }
 {
     let item = take_byte(numbers, held, b);
@@ -180,8 +180,8 @@ fn take_part(
     text: &mut [u8],
 ) -> Parted
     ensures { λ r. ⌜ PartsOpen (now (bytes .entry))
-        (lent (now (numbers .entry)) (now (held .entry)) (now (words .entry)) (now (messages .entry)))
-        (lent (now (numbers .exit)) (now (held .exit)) (now (words .exit)) (now (messages .exit))) (now (text .entry))
+        (lent (now (numbers .entry)) (now (held .entry)) (memory (now (words .entry)) (now (messages .entry))))
+        (lent (now (numbers .exit)) (now (held .exit)) (memory (now (words .exit)) (now (messages .exit)))) (now (text .entry))
         (now (text .exit)) r ⌝ }
 {
     let mut found = judged(words, messages);
@@ -240,8 +240,8 @@ pub fn part(
     text: &mut [u8],
 ) -> Parted
     ensures { λ r. ⌜ Parts (now (bytes .entry))
-        (lent (now (numbers .entry)) (now (held .entry)) (now (words .entry)) (now (messages .entry)))
-        (lent (now (numbers .exit)) (now (held .exit)) (now (words .exit)) (now (messages .exit))) (now (text .entry))
+        (lent (now (numbers .entry)) (now (held .entry)) (memory (now (words .entry)) (now (messages .entry))))
+        (lent (now (numbers .exit)) (now (held .exit)) (memory (now (words .exit)) (now (messages .exit)))) (now (text .entry))
         (now (text .exit)) r ⌝ }
 {
     if bytes.len() == 0 {

@@ -10,7 +10,7 @@ use run_reading::HEAD;
 use run_reading::signed;
 use setup_sections::word;
 ghost use lib.ListN.{take};
-ghost use Rattle.kernel_steps.specs.Steps.{replyOf};
+ghost use Rattle.kernel_steps.specs.Steps.{memory, replyOf};
 ghost use Rattle.kernel_steps.specs.Serving.{Serves};
 ghost use Rattle.run_reading.specs.Recorded.{eventBytes, eventIn};
 
@@ -22,8 +22,8 @@ pub fn serve_held(
     found: Breach,
     me: u32,
 ) -> Answer
-    ensures { λ r. ⌜ Serves (eventIn (take eventBytes (now (held .entry)))) found me (now (words .entry))
-        (now (messages .entry)) (replyOf r) (now (words .exit)) (now (messages .exit)) ⌝ }
+    ensures { λ r. ⌜ Serves (eventIn (take eventBytes (now (held .entry)))) found me
+        (memory (now (words .entry)) (now (messages .entry))) (replyOf r) (memory (now (words .exit)) (now (messages .exit))) ⌝ }
 {
     let all = &held[..];
     let event = &all[..EVENT];

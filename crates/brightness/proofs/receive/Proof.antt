@@ -7,7 +7,7 @@ use Rattle.brightness.proofs.receive.Statement.{statement}
 use Rattle.brightness.proofs.receive.Tie as tie
 
 returns : tie.Need-returns
-returns c = let at-point = c .before in refused _ _ _ (at-point .before .before .judge .ensures) (at-point .point .given .1) _ _ _
+returns c = let at-point = c .before in refused _ _ _ (at-point .before .before .judge .ensures) (at-point .point .given .1) _ _
 
 returns-2 : tie.Need-returns-2
 returns-2 c =

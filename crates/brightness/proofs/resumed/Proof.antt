@@ -6,7 +6,7 @@ use Rattle.brightness.proofs.resumed.Statement.{statement}
 use Rattle.brightness.proofs.resumed.Tie as tie
 
 returns : tie.Need-returns
-returns c = let at-point = c .before in refused-again _ _ _ (at-point .before .before .judge .ensures) (at-point .point .given .1) _ _
+returns c = let at-point = c .before in refused-again _ _ _ (at-point .before .before .judge .ensures) (at-point .point .given .1) _
 
 returns-2 : tie.Need-returns-2
 returns-2 c =

@@ -1,6 +1,7 @@
 -- `kernel_batches::events` meets its contract: by whether the batch fits. Assumes nothing.
 use mathlib.Core.Path.{refl, sym, _∙_}
 use denote.Ref.{now}
+use Rattle.kernel_steps.specs.Steps.{memory}
 use Rattle.kernel_batches.specs.declared.Batch.the-variants.{Ragged, FewCodes, FewWords}
 use Rattle.kernel_batches.specs.Batches.{lent}
 use Rattle.kernel_batches.proofs.Batches.{isDone, batch-done, batch-none}
@@ -17,28 +18,28 @@ returns c =
     let e = s .before .before .before .before .before in
     let f = e .before .before in
     let g = f .before .before in
-    batch-done (now (g .args .events)) (lent (now (g .args .words)) (now (g .args .messages)) (now (g .args .codes)) (now (g .args .answers))) (f .fit .ensures) _ (e .enum-told .given .1) (s .run-all .ensures)
+    batch-done (now (g .args .events)) (lent (memory (now (g .args .words)) (now (g .args .messages))) (now (g .args .codes)) (now (g .args .answers))) (f .fit .ensures) _ (e .enum-told .given .1) (s .run-all .ensures)
 
 returns-2 : tie.Need-returns-2
 unfolding isDone
 returns-2 c =
     let f = c .before .before in
     let g = f .before .before in
-    batch-none (now (g .args .events)) (lent (now (g .args .words)) (now (g .args .messages)) (now (g .args .codes)) (now (g .args .answers))) (f .fit .ensures) Ragged refl (c .enum-told2 .given .1)
+    batch-none (now (g .args .events)) (lent (memory (now (g .args .words)) (now (g .args .messages))) (now (g .args .codes)) (now (g .args .answers))) (f .fit .ensures) Ragged refl (c .enum-told2 .given .1)
 
 returns-3 : tie.Need-returns-3
 unfolding isDone
 returns-3 c =
     let f = c .before .before in
     let g = f .before .before in
-    batch-none (now (g .args .events)) (lent (now (g .args .words)) (now (g .args .messages)) (now (g .args .codes)) (now (g .args .answers))) (f .fit .ensures) FewCodes refl (c .enum-told3 .given .1)
+    batch-none (now (g .args .events)) (lent (memory (now (g .args .words)) (now (g .args .messages))) (now (g .args .codes)) (now (g .args .answers))) (f .fit .ensures) FewCodes refl (c .enum-told3 .given .1)
 
 returns-4 : tie.Need-returns-4
 unfolding isDone
 returns-4 c =
     let f = c .before .before in
     let g = f .before .before in
-    batch-none (now (g .args .events)) (lent (now (g .args .words)) (now (g .args .messages)) (now (g .args .codes)) (now (g .args .answers))) (f .fit .ensures) FewWords refl (c .enum-told4 .given .1)
+    batch-none (now (g .args .events)) (lent (memory (now (g .args .words)) (now (g .args .messages))) (now (g .args .codes)) (now (g .args .answers))) (f .fit .ensures) FewWords refl (c .enum-told4 .given .1)
 
 pub events-spec : {M : Type 1} → statement M
 events-spec =

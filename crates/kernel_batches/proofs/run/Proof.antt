@@ -1,6 +1,7 @@
 -- `kernel_batches::run` meets its contract: by whether the batch fits, and the start. Assumes nothing.
 use mathlib.Core.Path.{refl, sym, _∙_}
 use denote.Ref.{now}
+use Rattle.kernel_steps.specs.Steps.{memory}
 use Rattle.kernel_batches.specs.declared.Batch.the-variants.{Ragged, FewCodes, FewWords}
 use Rattle.kernel_batches.specs.Batches.{lent}
 use Rattle.kernel_batches.proofs.Batches.{isDone, run-done, run-refused, run-none}
@@ -19,7 +20,7 @@ returns c =
     let e = b .before .before .before in
     let f = e .before .before in
     let g = f .before .before .before in
-    run-done (now (g .args .events)) (lent (now (g .args .words)) (now (g .args .messages)) (now (g .args .codes)) (now (g .args .answers))) (f .fit .ensures) (e .enum-told .given .1) (now (g .args .setup)) _ _ _ (b .start .ensures) _ (t .enum-told2 .given .1) (s .run-all .ensures)
+    run-done (now (g .args .events)) (lent (memory (now (g .args .words)) (now (g .args .messages))) (now (g .args .codes)) (now (g .args .answers))) (f .fit .ensures) (e .enum-told .given .1) (now (g .args .setup)) _ _ (b .start .ensures) _ (t .enum-told2 .given .1) (s .run-all .ensures)
 
 returns-2 : tie.Need-returns-2
 returns-2 c =
@@ -27,28 +28,28 @@ returns-2 c =
     let e = b .before .before .before in
     let f = e .before .before in
     let g = f .before .before .before in
-    run-refused (now (g .args .events)) (lent (now (g .args .words)) (now (g .args .messages)) (now (g .args .codes)) (now (g .args .answers))) (f .fit .ensures) (e .enum-told .given .1) (now (g .args .setup)) _ _ _ (b .start .ensures) _ _ (c .before .d .given .1)
+    run-refused (now (g .args .events)) (lent (memory (now (g .args .words)) (now (g .args .messages))) (now (g .args .codes)) (now (g .args .answers))) (f .fit .ensures) (e .enum-told .given .1) (now (g .args .setup)) _ _ (b .start .ensures) _ _ (c .before .d .given .1)
 
 returns-3 : tie.Need-returns-3
 unfolding isDone
 returns-3 c =
     let f = c .before .before in
     let g = f .before .before .before in
-    run-none (now (g .args .events)) (lent (now (g .args .words)) (now (g .args .messages)) (now (g .args .codes)) (now (g .args .answers))) (f .fit .ensures) (now (g .args .setup)) Ragged refl (c .enum-told3 .given .1)
+    run-none (now (g .args .events)) (lent (memory (now (g .args .words)) (now (g .args .messages))) (now (g .args .codes)) (now (g .args .answers))) (f .fit .ensures) (now (g .args .setup)) Ragged refl (c .enum-told3 .given .1)
 
 returns-4 : tie.Need-returns-4
 unfolding isDone
 returns-4 c =
     let f = c .before .before in
     let g = f .before .before .before in
-    run-none (now (g .args .events)) (lent (now (g .args .words)) (now (g .args .messages)) (now (g .args .codes)) (now (g .args .answers))) (f .fit .ensures) (now (g .args .setup)) FewCodes refl (c .enum-told4 .given .1)
+    run-none (now (g .args .events)) (lent (memory (now (g .args .words)) (now (g .args .messages))) (now (g .args .codes)) (now (g .args .answers))) (f .fit .ensures) (now (g .args .setup)) FewCodes refl (c .enum-told4 .given .1)
 
 returns-5 : tie.Need-returns-5
 unfolding isDone
 returns-5 c =
     let f = c .before .before in
     let g = f .before .before .before in
-    run-none (now (g .args .events)) (lent (now (g .args .words)) (now (g .args .messages)) (now (g .args .codes)) (now (g .args .answers))) (f .fit .ensures) (now (g .args .setup)) FewWords refl (c .enum-told5 .given .1)
+    run-none (now (g .args .events)) (lent (memory (now (g .args .words)) (now (g .args .messages))) (now (g .args .codes)) (now (g .args .answers))) (f .fit .ensures) (now (g .args .setup)) FewWords refl (c .enum-told5 .given .1)
 
 pub run-spec : {M : Type 1} → statement M
 run-spec =

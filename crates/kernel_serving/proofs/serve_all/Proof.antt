@@ -3,6 +3,7 @@ use mathlib.Core.Path.{refl}
 use Prim.Native.Nat.{_-_}
 use native.Mathlib.Omega.{arith}
 use borrow.Author.Needs.{needs}
+use Rattle.kernel_steps.specs.Steps.{memory}
 use Rattle.kernel_steps.specs.Written.{lent}
 use Rattle.kernel_serving.proofs.Written.{Turning, begins, goes-on, ends}
 use Rattle.kernel_serving.proofs.serve_all.Statement.{statement}
@@ -10,7 +11,7 @@ use Rattle.kernel_serving.proofs.serve_all.Tie as tie
 
 abbrev Inv-loop : tie.InvT-loop
 Inv-loop words₀ messages₀ found me events codes₀ answers₀ n runs₀ i₀ words messages codes answers runs i =
-    Turning events found me runs i (lent words₀ messages₀ codes₀ answers₀) (lent words messages codes answers)
+    Turning events found me runs i (lent (memory words₀ messages₀) codes₀ answers₀) (lent (memory words messages) codes answers)
 
 abbrev μ-loop : tie.MeasureT-loop
 μ-loop words₀ messages₀ found me events codes₀ answers₀ n runs₀ i₀ words messages codes answers runs i = n - i

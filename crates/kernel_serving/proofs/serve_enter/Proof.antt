@@ -9,7 +9,7 @@ use Rattle.kernel_serving.proofs.serve_enter.Tie as tie
 returns : tie.Need-returns
 returns c =
     let first = c .before in
-    λ K. unsound-step _ _ _ _ tt (not-sound K (word-damaged _ (first .if1 .taken))) (c .damaged .ensures ∙ K .2 (not-sound K (word-damaged _ (first .if1 .taken))))
+    λ K. unsound-step _ _ _ tt (not-sound K (word-damaged _ (first .if1 .taken))) (c .damaged .ensures ∙ K .2 (not-sound K (word-damaged _ (first .if1 .taken))))
 
 returns-2 : tie.Need-returns-2
 returns-2 c =

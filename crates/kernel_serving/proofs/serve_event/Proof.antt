@@ -16,7 +16,7 @@ returns : tie.Need-returns
 returns c =
     let first = c .before in
     let g = first .before .before .before in
-    λ K. let n = not-sound K (word-damaged _ (first .if1 .taken)) in unsound-step _ _ _ _ (event-words (g .args .kind) (g .args .number) (g .args .a) (g .args .b) (g .args .c) (words-fit g)) n (c .damaged .ensures ∙ K .2 n)
+    λ K. let n = not-sound K (word-damaged _ (first .if1 .taken)) in unsound-step _ _ _ (event-words (g .args .kind) (g .args .number) (g .args .a) (g .args .b) (g .args .c) (words-fit g)) n (c .damaged .ensures ∙ K .2 n)
 
 returns-2 : tie.Need-returns-2
 returns-2 c =

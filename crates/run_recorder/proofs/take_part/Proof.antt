@@ -3,6 +3,7 @@ use Prim.Native.Nat.{_+_, _-_, _<_, _^_}
 use native.Mathlib.Omega.{arith}
 use lib.ListN.{length}
 use borrow.Author.Needs.{needs}
+use Rattle.kernel_steps.specs.Steps.{memory}
 use Rattle.run_recorder.specs.Recording.{lent}
 use Rattle.run_recorder.proofs.Going.{Going, taken-length, going-first, goes-on, one-more, part-refused, part-full, part-taken}
 use Rattle.run_recorder.proofs.take_part.Statement.{statement}
@@ -10,7 +11,7 @@ use Rattle.run_recorder.proofs.take_part.Tie as tie
 
 abbrev Inv-loop : tie.InvT-loop
 Inv-loop numbers₀ held₀ words₀ messages₀ bytes text₀ found₀ me₀ i₀ at₀ numbers held words messages text found me i at =
-    Going bytes (lent numbers₀ held₀ words₀ messages₀) text₀ found me i at (lent numbers held words messages) text
+    Going bytes (lent numbers₀ held₀ (memory words₀ messages₀)) text₀ found me i at (lent numbers held (memory words messages)) text
 
 abbrev μ-loop : tie.MeasureT-loop
 μ-loop numbers₀ held₀ words₀ messages₀ bytes text₀ found₀ me₀ i₀ at₀ numbers held words messages text found me i at = length bytes - i
