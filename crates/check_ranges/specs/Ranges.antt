@@ -78,9 +78,9 @@ flagOk b i = leb (entry Layout.flag b i) 4294967295
 unfoldable pub poolOk : List ℕ → ℕ → Bool
 poolOk b i = within (entry Layout.size b i) maxBlocks && eqb (entry Layout.free b i / 2 ^ entry Layout.size b i) 0
 
--- entry i of a sort, which the place of its count names
-unfoldable pub entryOk : List ℕ → ℕ → ℕ → Bool
-entryOk b sort i = cond (eqb sort Layout.tasks) (taskOk b i) (cond (eqb sort Layout.semaphores) (semaphoreOk b i) (cond (eqb sort Layout.pools) (poolOk b i) (flagOk b i)))
+-- object i of a kind, which the place of its count names
+unfoldable pub objectOk : List ℕ → ℕ → ℕ → Bool
+objectOk b kind i = cond (eqb kind Layout.semaphores) (semaphoreOk b i) (cond (eqb kind Layout.flags) (flagOk b i) (poolOk b i))
 
 abbrev pub messageOk : List ℕ → List ℕ → ℕ → Bool
 messageOk b msgs j = leb (of msgs j 0) (many b Layout.mailboxes)

@@ -260,27 +260,42 @@ fn pool_ok(words: &[u32; STATE_WORDS], p: u32) -> bool
     k == MAX_BLOCKS
 }
 
-// Entry i of a sort, which the place of its count names. Patterns are words of 32 bits.
-fn entry_ok(words: &[u32; STATE_WORDS], sort: u32, i: u32) -> bool
-    ensures { λ r. ⌜ r ≡ Ranges.entryOk (now (words .entry)) sort i ⌝ }
-{
-    match sort {
-        TASKS => task_ok(words, i),
-        SEMAPHORES => semaphore(words, i) <= 65535,
-        POOLS => pool_ok(words, i),
-        _ => flag(words, i) <= 4294967295,
-    }
-}
-
-// All n of a sort.
-fn entries_ok(words: &[u32; STATE_WORDS], sort: u32, n: u32) -> bool
+fn tasks_ok(words: &[u32; STATE_WORDS], n: u32) -> bool
     requires { ⌜ n ≤ maxMessages ⌝ }
-    ensures { λ r. ⌜ r ≡ every n 1 (Ranges.entryOk (now (words .entry)) sort) ⌝ }
+    ensures { λ r. ⌜ r ≡ every n 1 (Ranges.taskOk (now (words .entry))) ⌝ }
 {
     let mut i: u32 = 1;
     let mut left = n;
     while 0 < left {
-        if !entry_ok(words, sort, i) {
+        if !task_ok(words, i) {
+            return false;
+        }
+        i += 1;
+        left -= 1;
+    }
+    true
+}
+
+// Object i of a kind: a count, a pattern, which is a word of 32 bits, or a pool.
+fn object_ok(words: &[u32; STATE_WORDS], kind: u32, i: u32) -> bool
+    ensures { λ r. ⌜ r ≡ Ranges.objectOk (now (words .entry)) kind i ⌝ }
+{
+    match kind {
+        SEMAPHORES => semaphore(words, i) <= 65535,
+        FLAGS => flag(words, i) <= 4294967295,
+        _ => pool_ok(words, i),
+    }
+}
+
+// All n of a kind.
+fn objects_ok(words: &[u32; STATE_WORDS], kind: u32, n: u32) -> bool
+    requires { ⌜ n ≤ maxMessages ⌝ }
+    ensures { λ r. ⌜ r ≡ every n 1 (Ranges.objectOk (now (words .entry)) kind) ⌝ }
+{
+    let mut i: u32 = 1;
+    let mut left = n;
+    while 0 < left {
+        if !object_ok(words, kind, i) {
             return false;
         }
         i += 1;
@@ -420,20 +435,20 @@ pub fn ranges_ok(words: &[u32; STATE_WORDS], messages: &[u32; MESSAGE_WORDS]) ->
     if !sizes_ok(words) {
         return false;
     }
-    if !entries_ok(words, TASKS, at_most(system(words, TASKS), MAX_TASKS)) {
+    if !tasks_ok(words, at_most(system(words, TASKS), MAX_TASKS)) {
         return false;
     }
-    if !entries_ok(
+    if !objects_ok(
         words,
         SEMAPHORES,
         at_most(system(words, SEMAPHORES), MAX_OBJECTS),
     ) {
         return false;
     }
-    if !entries_ok(words, FLAGS, at_most(system(words, FLAGS), MAX_OBJECTS)) {
+    if !objects_ok(words, FLAGS, at_most(system(words, FLAGS), MAX_OBJECTS)) {
         return false;
     }
-    if !entries_ok(words, POOLS, at_most(system(words, POOLS), MAX_POOLS)) {
+    if !objects_ok(words, POOLS, at_most(system(words, POOLS), MAX_POOLS)) {
         return false;
     }
     if !messages_ok(

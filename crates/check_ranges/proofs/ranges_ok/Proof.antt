@@ -2,7 +2,7 @@
 use mathlib.Core.Bool.{and-false}
 use Rattle.check_ranges.proofs.Steps.{failed, passed, also, few}
 use Rattle.check_ranges.proofs.Loops.{loop-is, loop-fails}
-use Rattle.check_ranges.specs.Ranges.{taskOk, poolOk, entryOk, rangesOk}
+use Rattle.check_ranges.specs.Ranges.{poolOk, objectOk, rangesOk}
 use borrow.Author.Needs.{needs}
 use Rattle.check_ranges.proofs.ranges_ok.Statement.{statement}
 use Rattle.check_ranges.proofs.ranges_ok.Tie as tie
@@ -12,20 +12,20 @@ unfolding rangesOk
 returns c = simp (failed (c .before .sizes-ok .ensures) (c .if1 .taken))
 
 returns-2 : tie.Need-returns-2
-unfolding entryOk rangesOk
-returns-2 c = let a = c .before .before in simp (loop-fails (taskOk _) (a .before .system .ensures) (a .at-most .ensures) (c .before .entries-ok .ensures) (c .if2 .taken), and-false)
+unfolding rangesOk
+returns-2 c = let a = c .before .before in simp (loop-fails _ (a .before .system .ensures) (a .at-most .ensures) (c .before .tasks-ok .ensures) (c .if2 .taken), and-false)
 
 returns-3 : tie.Need-returns-3
-unfolding entryOk rangesOk
-returns-3 c = let a = c .before .before in simp (loop-fails _ (a .before .system2 .ensures) (a .at-most2 .ensures) (c .before .entries-ok2 .ensures) (c .if3 .taken), and-false)
+unfolding objectOk rangesOk
+returns-3 c = let a = c .before .before in simp (loop-fails _ (a .before .system2 .ensures) (a .at-most2 .ensures) (c .before .objects-ok .ensures) (c .if3 .taken), and-false)
 
 returns-4 : tie.Need-returns-4
-unfolding entryOk rangesOk
-returns-4 c = let a = c .before .before in simp (loop-fails _ (a .before .system3 .ensures) (a .at-most3 .ensures) (c .before .entries-ok3 .ensures) (c .if4 .taken), and-false)
+unfolding objectOk rangesOk
+returns-4 c = let a = c .before .before in simp (loop-fails _ (a .before .system3 .ensures) (a .at-most3 .ensures) (c .before .objects-ok2 .ensures) (c .if4 .taken), and-false)
 
 returns-5 : tie.Need-returns-5
-unfolding entryOk rangesOk
-returns-5 c = let a = c .before .before in simp (loop-fails (poolOk _) (a .before .system4 .ensures) (a .at-most4 .ensures) (c .before .entries-ok4 .ensures) (c .if5 .taken), and-false)
+unfolding objectOk rangesOk
+returns-5 c = let a = c .before .before in simp (loop-fails (poolOk _) (a .before .system4 .ensures) (a .at-most4 .ensures) (c .before .objects-ok3 .ensures) (c .if5 .taken), and-false)
 
 returns-6 : tie.Need-returns-6
 unfolding rangesOk
@@ -36,7 +36,7 @@ unfolding rangesOk
 returns-7 c = simp (failed (c .before .handling-ok .ensures) (c .if7 .taken), and-false)
 
 returns-8 : tie.Need-returns-8
-unfolding entryOk rangesOk
+unfolding objectOk rangesOk
 returns-8 c =
     let i7 = c .before in
     let i6 = i7 .before .before in
@@ -53,10 +53,10 @@ returns-8 c =
     let s = passed (i1 .before .sizes-ok .ensures) (i1 .if1 .left) in
     let f = few _ s in
     also s
-    (also (passed (loop-is _ (a1 .before .system .ensures) (a1 .at-most .ensures) (i2 .before .entries-ok .ensures) (f .tasks)) (i2 .if2 .left))
-    (also (passed (loop-is _ (a2 .before .system2 .ensures) (a2 .at-most2 .ensures) (i3 .before .entries-ok2 .ensures) (f .semaphores)) (i3 .if3 .left))
-    (also (passed (loop-is _ (a3 .before .system3 .ensures) (a3 .at-most3 .ensures) (i4 .before .entries-ok3 .ensures) (f .flags)) (i4 .if4 .left))
-    (also (passed (loop-is _ (a4 .before .system4 .ensures) (a4 .at-most4 .ensures) (i5 .before .entries-ok4 .ensures) (f .pools)) (i5 .if5 .left))
+    (also (passed (loop-is _ (a1 .before .system .ensures) (a1 .at-most .ensures) (i2 .before .tasks-ok .ensures) (f .tasks)) (i2 .if2 .left))
+    (also (passed (loop-is _ (a2 .before .system2 .ensures) (a2 .at-most2 .ensures) (i3 .before .objects-ok .ensures) (f .semaphores)) (i3 .if3 .left))
+    (also (passed (loop-is _ (a3 .before .system3 .ensures) (a3 .at-most3 .ensures) (i4 .before .objects-ok2 .ensures) (f .flags)) (i4 .if4 .left))
+    (also (passed (loop-is _ (a4 .before .system4 .ensures) (a4 .at-most4 .ensures) (i5 .before .objects-ok3 .ensures) (f .pools)) (i5 .if5 .left))
     (also (passed (loop-is _ (a5 .before .system5 .ensures) (a5 .at-most5 .ensures) (i6 .before .messages-ok .ensures) (f .messages)) (i6 .if6 .left))
     (also (passed (i7 .before .handling-ok .ensures) (i7 .if7 .left)) (c .counter-ok .ensures)))))))
 
