@@ -10,7 +10,7 @@ use Rattle.rules.specs.Objects.{met, clears}
 use Rattle.memory_columns.specs.Layout as Layout
 use Rattle.memory_columns.specs.Layout.{entry}
 use Rattle.memory_queues.specs.Moves.{waitAnchor}
-use Rattle.memory_tasks.specs.Moves.{released}
+use Rattle.memory_waits.specs.Waits.{released}
 use Rattle.memory_columns.specs.Layout.{atMost}
 use Rattle.call_flags.specs.Serving.{Walk, made, metAt, lookedAt, walked, served}
 

@@ -37,7 +37,7 @@ use Rattle.memory_columns.specs.declared.Rings.the-variants.{Tasks}
 use Rattle.memory_columns.specs.Layout as Layout
 use Rattle.memory_columns.specs.Layout.{words}
 use Rattle.memory_columns.specs.Layout.{entry}
-use Rattle.memory_tasks.specs.Moves.{released}
+use Rattle.memory_waits.specs.Waits.{released}
 use Rattle.memory_picture.specs.Picture.{waitShown, stateShown, taskShown, tasksShown, storeShown, Used, anchor, lineShown, viewShown, Accepted}
 use Rattle.memory_picture.proofs.Done.{used-at}
 use Rattle.memory_picture.specs.Perform.{performed, performedMarks}

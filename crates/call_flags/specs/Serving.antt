@@ -8,7 +8,7 @@ use Rattle.rules.specs.Objects.{met, clears}
 use Rattle.memory_columns.specs.Layout as Layout
 use Rattle.memory_columns.specs.Layout.{entry}
 use Rattle.memory_queues.specs.Moves.{waitAnchor}
-use Rattle.memory_tasks.specs.Moves.{released}
+use Rattle.memory_waits.specs.Waits.{released}
 use Rattle.memory_columns.specs.Layout.{atMost}
 
 -- what it has made so far: the words, how many it has released, at how many it has looked, and whether the last one cleared the pattern

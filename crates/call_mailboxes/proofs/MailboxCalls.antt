@@ -16,7 +16,7 @@ use Rattle.rules.specs.Objects.{laid, snd-msg, take-msg}
 use Rattle.rules.proofs.Ids.{of-ids, length-ids}
 use Rattle.memory_columns.specs.declared.Rings.the-variants.{Messages}
 use Rattle.memory_queues.specs.Moves.{mailAnchor, linked, unlinked}
-use Rattle.memory_tasks.specs.Moves.{released}
+use Rattle.memory_waits.specs.Waits.{released}
 use Rattle.memory_picture.specs.Perform.{performed, performedMarks}
 use Rattle.memory_picture.specs.Picture.{messageShown, storeShown, bodyShown, viewShown, anchor, Accepted}
 use Rattle.memory_running.proofs.Lowest.{HeadOf}

@@ -7,7 +7,7 @@ use Rattle.rules.specs.Codes.{number, H-POLL}
 use Rattle.rules.specs.State.{Kind, on}
 use Rattle.rules.specs.Verdicts.{waits}
 use Rattle.rules.specs.Objects.{polls}
-use Rattle.memory_tasks.specs.Moves.{waited}
+use Rattle.memory_waits.specs.Waits.{waited}
 use Rattle.memory_picture.specs.Perform.{put-to-wait, performed}
 use Rattle.memory_picture.specs.Picture.{kindNumber}
 use Rattle.call_words.specs.declared.Outcome.{Outcome}

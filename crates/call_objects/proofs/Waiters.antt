@@ -17,7 +17,7 @@ use Rattle.memory_rings.specs.Links.{firstOf}
 use Rattle.memory_columns.specs.Layout as Layout
 use Rattle.memory_columns.specs.Layout.{words, entry}
 use Rattle.memory_queues.specs.Moves.{waitAnchor}
-use Rattle.memory_tasks.specs.Moves.{released}
+use Rattle.memory_waits.specs.Waits.{released}
 use Rattle.memory_picture.specs.Picture.{kindNumber, storeShown, bodyShown, anchor, lineShown, viewShown, Accepted}
 use Rattle.memory_picture.specs.Perform.{performed, performedMarks}
 use Rattle.memory_running.proofs.Lowest.{HeadOf}

@@ -13,7 +13,7 @@ use Rattle.rules.specs.Objects.{countOf, sig-sem, take-sem}
 use Rattle.rules.proofs.Ids.{of-ids}
 use Rattle.memory_columns.specs.Layout as Layout
 use Rattle.memory_columns.specs.Layout.{entry}
-use Rattle.memory_tasks.specs.Moves.{released}
+use Rattle.memory_waits.specs.Waits.{released}
 use Rattle.memory_picture.specs.Perform.{performed, performedMarks}
 use Rattle.memory_picture.specs.Picture.{storeShown, bodyShown, viewShown, Accepted}
 use Rattle.call_words.specs.declared.Outcome.{Outcome}

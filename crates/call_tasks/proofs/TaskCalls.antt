@@ -11,7 +11,8 @@ use Rattle.rules.specs.Tasks.{starting, ext-tsk, chg-pri, rot-rdq, rel-wai, sus
 use Rattle.rules.specs.Time.{get-tim}
 use Rattle.memory_columns.specs.Layout as Layout
 use Rattle.memory_columns.specs.Layout.{entry}
-use Rattle.memory_tasks.specs.Moves.{started, retired, created, deleted, rotated, regraded, released, halted, resumed}
+use Rattle.memory_tasks.specs.Moves.{started, retired, created, deleted, rotated, regraded}
+use Rattle.memory_waits.specs.Waits.{released, halted, resumed}
 use Rattle.memory_picture.specs.Picture.{storeShown, bodyShown, viewShown}
 use Rattle.memory_picture.specs.Perform.{performed, performedMarks}
 use Rattle.memory_running.specs.Running.{runningOf}

@@ -27,7 +27,8 @@ use Rattle.memory_rings.specs.Columns.{col, store}
 use Rattle.memory_columns.specs.Layout as Layout
 use Rattle.memory_columns.specs.Layout.{Column, stateWords, maxTasks, maxAlarms, entry, atMost}
 use Rattle.memory_queues.specs.Moves.{queued, unqueued}
-use Rattle.memory_tasks.specs.Moves.{rotated, readied, released}
+use Rattle.memory_tasks.specs.Moves.{rotated, readied}
+use Rattle.memory_waits.specs.Waits.{released}
 use Rattle.memory_time.specs.Elapsing.{aged, agedFrom, agedAll, clocked, counted, elapsed}
 use Rattle.memory_picture.specs.Picture.{noWait, waitShown, stateShown, taskShown, bodyShown, viewShown, Accepted}
 use Rattle.memory_picture.specs.Perform.{performed}

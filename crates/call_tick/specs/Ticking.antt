@@ -7,7 +7,7 @@ use lib.Dec.{eqb}
 use Rattle.rules.specs.Ids.{once}
 use Rattle.memory_columns.specs.Layout as Layout
 use Rattle.memory_columns.specs.Layout.{maxTasks, entry, atMost}
-use Rattle.memory_tasks.specs.Moves.{released}
+use Rattle.memory_waits.specs.Waits.{released}
 
 -- a timed wait, suspended or not
 abbrev pub isTimed : ℕ → ℕ → Bool

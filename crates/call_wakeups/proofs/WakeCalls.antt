@@ -16,7 +16,7 @@ use Rattle.rules.specs.Verdicts.{Verdict, refuse, waits}
 use Rattle.rules.specs.Tasks.{take-wakeup, slp-tsk, wai-for, wai-tsk, waking, can-wup}
 use Rattle.memory_columns.specs.Layout as Layout
 use Rattle.memory_columns.specs.Layout.{entry}
-use Rattle.memory_tasks.specs.Moves.{released, slept}
+use Rattle.memory_waits.specs.Waits.{released, slept}
 use Rattle.memory_picture.specs.Perform.{put-to-wait, performed, performedMarks}
 use Rattle.memory_picture.specs.Picture.{viewShown}
 use Rattle.call_words.specs.declared.Outcome.{Outcome}

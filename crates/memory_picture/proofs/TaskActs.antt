@@ -22,7 +22,8 @@ use Rattle.memory_rings.proofs.Columns.{col-store}
 use Rattle.memory_columns.specs.Layout as Layout
 use Rattle.memory_columns.specs.Layout.{stateWords}
 use Rattle.memory_columns.specs.Layout.{entry}
-use Rattle.memory_tasks.specs.Moves.{awaiting, rotated, started, readied, retired, ranked, created, deleted, regraded, halted, resumed, released, slept, waited}
+use Rattle.memory_tasks.specs.Moves.{rotated, started, readied, retired, ranked, created, deleted, regraded}
+use Rattle.memory_waits.specs.Waits.{awaiting, halted, resumed, released, slept, waited}
 use Rattle.memory_picture.specs.Picture.{codeOf, noWait, waitShown, stateShown, taskShown, storeShown, bodyShown, kindNumber, Accepted}
 use Rattle.memory_picture.specs.Perform.{codeKept, put-to-wait}
 use Rattle.memory_queues.proofs.Relinks.{put-at}

@@ -15,7 +15,8 @@ use Rattle.rules.specs.Sound.{WaitNumbers}
 use Rattle.memory_columns.specs.Layout as Layout
 use Rattle.memory_columns.specs.declared.Rings.the-variants.{Messages}
 use Rattle.memory_queues.specs.Moves.{mailAnchor, linked, unlinked}
-use Rattle.memory_tasks.specs.Moves.{rotated, started, retired, created, deleted, regraded, halted, resumed, released, slept, waited}
+use Rattle.memory_tasks.specs.Moves.{rotated, started, retired, created, deleted, regraded}
+use Rattle.memory_waits.specs.Waits.{halted, resumed, released, slept, waited}
 use Rattle.memory_objects.specs.Moves.{marked, nested, alarmed}
 use Rattle.memory_time.specs.Elapsing.{elapsed}
 use Rattle.memory_picture.specs.Picture.{codeOf, keptOf, kindNumber}

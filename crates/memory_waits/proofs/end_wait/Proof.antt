@@ -1,7 +1,7 @@
 use mathlib.Core.Path.{_∙_}
 use borrow.Author.Needs.{needs}
-use Rattle.memory_tasks.proofs.end_wait.Statement.{statement}
-use Rattle.memory_tasks.proofs.end_wait.Tie as tie
+use Rattle.memory_waits.proofs.end_wait.Statement.{statement}
+use Rattle.memory_waits.proofs.end_wait.Tie as tie
 
 returns : tie.Need-returns
 returns c = c .set-ticks .ensures ∙ rw (c .before .before .write-cell .ensures)

@@ -1,8 +1,8 @@
 use mathlib.Core.Path.{_∙_}
 use borrow.Author.Needs.{needs}
-use Rattle.memory_tasks.specs.Moves.{waited}
-use Rattle.memory_tasks.proofs.wait.Statement.{statement}
-use Rattle.memory_tasks.proofs.wait.Tie as tie
+use Rattle.memory_waits.specs.Waits.{waited}
+use Rattle.memory_waits.proofs.wait.Statement.{statement}
+use Rattle.memory_waits.proofs.wait.Tie as tie
 
 returns : tie.Need-returns
 unfolding waited

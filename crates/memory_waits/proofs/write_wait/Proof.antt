@@ -1,8 +1,8 @@
 use mathlib.Core.Path.{_∙_}
 use borrow.Author.Needs.{needs}
-use Rattle.memory_tasks.specs.Moves.{awaiting}
-use Rattle.memory_tasks.proofs.write_wait.Statement.{statement}
-use Rattle.memory_tasks.proofs.write_wait.Tie as tie
+use Rattle.memory_waits.specs.Waits.{awaiting}
+use Rattle.memory_waits.proofs.write_wait.Statement.{statement}
+use Rattle.memory_waits.proofs.write_wait.Tie as tie
 
 returns : tie.Need-returns
 unfolding awaiting

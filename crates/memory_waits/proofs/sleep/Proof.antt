@@ -1,8 +1,8 @@
 use mathlib.Core.Path.{_∙_}
 use borrow.Author.Needs.{needs}
-use Rattle.memory_tasks.specs.Moves.{slept}
-use Rattle.memory_tasks.proofs.sleep.Statement.{statement}
-use Rattle.memory_tasks.proofs.sleep.Tie as tie
+use Rattle.memory_waits.specs.Waits.{slept}
+use Rattle.memory_waits.proofs.sleep.Statement.{statement}
+use Rattle.memory_waits.proofs.sleep.Tie as tie
 
 returns : tie.Need-returns
 unfolding slept

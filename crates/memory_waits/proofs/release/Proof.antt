@@ -1,9 +1,9 @@
 use mathlib.Core.Path.{_∙_}
 use borrow.Author.Tests.{eq-eqb, ne-eqb}
 use borrow.Author.Needs.{needs}
-use Rattle.memory_tasks.specs.Moves.{released}
-use Rattle.memory_tasks.proofs.release.Statement.{statement}
-use Rattle.memory_tasks.proofs.release.Tie as tie
+use Rattle.memory_waits.specs.Waits.{released}
+use Rattle.memory_waits.proofs.release.Statement.{statement}
+use Rattle.memory_waits.proofs.release.Tie as tie
 
 returns : tie.Need-returns
 unfolding released

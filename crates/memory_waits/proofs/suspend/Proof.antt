@@ -1,9 +1,9 @@
 use mathlib.Core.Path.{_∙_}
 use borrow.Author.Tests.{eq-eqb, ne-eqb}
 use borrow.Author.Needs.{needs}
-use Rattle.memory_tasks.specs.Moves.{halted}
-use Rattle.memory_tasks.proofs.suspend.Statement.{statement}
-use Rattle.memory_tasks.proofs.suspend.Tie as tie
+use Rattle.memory_waits.specs.Waits.{halted}
+use Rattle.memory_waits.proofs.suspend.Statement.{statement}
+use Rattle.memory_waits.proofs.suspend.Tie as tie
 
 returns : tie.Need-returns
 unfolding halted

@@ -1,8 +1,8 @@
 use borrow.Author.Tests.{eq-eqb, ne-eqb}
 use borrow.Author.Needs.{needs}
-use Rattle.memory_tasks.specs.Moves.{resumed}
-use Rattle.memory_tasks.proofs.resume.Statement.{statement}
-use Rattle.memory_tasks.proofs.resume.Tie as tie
+use Rattle.memory_waits.specs.Waits.{resumed}
+use Rattle.memory_waits.proofs.resume.Statement.{statement}
+use Rattle.memory_waits.proofs.resume.Tie as tie
 
 returns : tie.Need-returns
 unfolding resumed

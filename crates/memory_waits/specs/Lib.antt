@@ -1,0 +1,2 @@
+-- What the acts on tasks write.
+pub mod Waits
