@@ -17,7 +17,8 @@ use Rattle.rules.specs.Broken.{isFresh, Unless}
 use Rattle.rules.proofs.Breach.{breach-tells}
 use Rattle.rules.proofs.Broken.{read-kept, read-there}
 use Rattle.rules.proofs.Events.{event-next}
-use Rattle.kernel_steps.specs.Steps.{Memory, viewIn, SoundIn, Reply, Link, Step, Chain}
+use Rattle.memory_picture.specs.Picture.{Memory, viewIn, SoundIn}
+use Rattle.kernel_steps.specs.Steps.{Reply, Link, Step, Chain}
 use Rattle.kernel_cells.specs.Promises.{Reads}
 use Rattle.brightness.specs.DarkRoom.{stateIn, UntilFreed}
 
@@ -45,7 +46,7 @@ holds-on {t} {m = m} k n H S f =
 
 -- whatever `cell` reads of task t is this
 abbrev pub CellIs : ℕ → Cell → Memory → Type 0
-CellIs t x m = (code : ℤ) (word : ℕ) → Reads (m .words) (m .marks) (pos t) code word → (code ≡ number (x .code)) × (word ≡ x .word)
+CellIs t x m = (code : ℤ) (word : ℕ) → Reads m (pos t) code word → (code ≡ number (x .code)) × (word ≡ x .word)
 
 cell-is : {t : ℕ} {x : Cell} {m : Memory} → Holds t x m → CellIs t x m
 cell-is H code word R =

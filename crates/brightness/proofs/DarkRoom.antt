@@ -18,7 +18,8 @@ use Rattle.rules.specs.Kernel.{Outcome, next, served, event, cell}
 use Rattle.rules.proofs.Broken.{stays-broken, broken-read}
 use Rattle.rules.specs.Table.{judge}
 use Rattle.rules.proofs.Events.{cell-reads, event-served, event-next}
-use Rattle.kernel_steps.specs.Steps.{Memory, viewIn, SoundIn, Reply, told, Link, Step, Chain}
+use Rattle.memory_picture.specs.Picture.{Memory, viewIn, SoundIn}
+use Rattle.kernel_steps.specs.Steps.{Reply, told, Link, Step, Chain}
 use Rattle.brightness_curve.specs.declared.Curve.{Curve}
 use Rattle.brightness_curve.specs.declared.Judged.{Judged}
 use Rattle.brightness_curve.specs.declared.Judged.the-variants.{Good, BadPoint}

@@ -4,7 +4,7 @@ use mathlib.Core.Path.{_≡_, refl, sym, _∙_}
 use Prim.Native.Nat.{ℕ}
 use native.Mathlib.Omega.{arith}
 use lib.IntN.{ℤ}
-use Rattle.kernel_steps.specs.Steps.{Memory}
+use Rattle.memory_picture.specs.Picture.{Memory}
 use Rattle.brightness_curve.specs.declared.Curve.{Curve}
 use Rattle.brightness_curve.specs.declared.Judged.{Judged}
 use Rattle.brightness_curve.specs.declared.Judged.the-variants.{Good, BadPoint}

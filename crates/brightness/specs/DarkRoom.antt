@@ -8,7 +8,8 @@ use Rattle.rules.specs.Places.{waiters, mail}
 use Rattle.rules.specs.Events.{nat}
 use Rattle.rules.specs.View.{line}
 use Rattle.rules.specs.Broken.{isFresh, Unless, BreaksOff}
-use Rattle.kernel_steps.specs.Steps.{Memory, viewIn, Link}
+use Rattle.memory_picture.specs.Picture.{Memory, viewIn}
+use Rattle.kernel_steps.specs.Steps.{Link}
 use Rattle.brightness_curve.specs.declared.Curve.{Curve}
 use Rattle.brightness_curve.specs.declared.Judged.the-variants.{Good}
 use Rattle.brightness_curve.specs.Curves.{judgedOf}

@@ -6,7 +6,8 @@ use Prim.Native.Nat.{ℕ}
 use lib.Dec.{leb}
 use lib.IntN.{ℤ, pos}
 use Rattle.rules.specs.Events.{call}
-use Rattle.kernel_steps.specs.Steps.{Memory, Reply, Step}
+use Rattle.memory_picture.specs.Picture.{Memory}
+use Rattle.kernel_steps.specs.Steps.{Reply, Step}
 use Rattle.kernel_cells.specs.Promises.{Reads, Runs}
 use Rattle.brightness_curve.specs.declared.Curve.{Curve}
 use Rattle.brightness_curve.specs.declared.Judged.the-variants.{Good, BadPoint}
@@ -21,7 +22,7 @@ use Rattle.brightness_light.specs.Lights.{shown, heardOf, wokenOf}
 -- The caller is the running task; rcv_msg was called, and its code and w1 are what the light has heard.
 pub record Received (c : Curve) (s : List ℕ) (l : Light) (a : ℤ) (old : Memory) (r : Shown) (new : Memory) : Type 0 where
   pub caller : ℕ
-  pub runs : Runs (old .words) (old .marks) caller
+  pub runs : Runs old caller
   pub reply : Reply
   pub step : Step (call (pos 0) (pos 21) a (pos 0) (pos 0)) old reply new
   pub shows : r ≡ heardOf c s l caller (reply .code) (reply .w1)
@@ -40,10 +41,10 @@ taskWord t = cond (leb t 2147483647) (pos t) (pos 0)
 -- Code and word are what the running task's cell reads.
 pub record Resumed (c : Curve) (s : List ℕ) (l : Light) (m : Memory) (r : Shown) : Type 0 where
   pub task : ℕ
-  pub runs : Runs (m .words) (m .marks) task
+  pub runs : Runs m task
   pub code : ℤ
   pub word : ℕ
-  pub reads : Reads (m .words) (m .marks) (taskWord task) code word
+  pub reads : Reads m (taskWord task) code word
   pub shows : r ≡ wokenOf c s l task code word
 
 -- A bad curve is refused with its first bad point.

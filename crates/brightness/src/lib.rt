@@ -4,8 +4,9 @@
 // The kernel is used only through what its calls promise: `Step` of `call`, `Reads` of `cell` and `Runs` of `running`.
 // A reader sees it in two places. crates.txt names, of the kernel, `rules`, `kernel_events` and `kernel_cells`, which
 // promise, `kernel_steps`, which has the words of the promise, and besides `memory_columns` for the memory's size in the
-// functions' types. And `grep -rho 'Rattle·[a-z_]*' crates/brightness/specs crates/brightness/proofs | sort -u` lists
-// every crate that a statement or a proof here cites.
+// functions' types and `memory_picture` for `Memory`, `viewIn` and `SoundIn`, in which a promise speaks of a memory. And
+// `grep -rho 'Rattle·[a-z_]*' crates/brightness/specs crates/brightness/proofs | sort -u` lists every crate that a
+// statement or a proof here cites.
 use brightness_curve::Curve;
 use brightness_curve::Judged;
 use brightness_curve::judge;
@@ -19,7 +20,7 @@ use kernel_cells::running;
 use kernel_events::call;
 use memory_columns::STATE_WORDS;
 ghost use mathlib.Core.Path.{_≡_};
-ghost use Rattle.kernel_steps.specs.Steps.{memory};
+ghost use Rattle.memory_picture.specs.Picture.{memory};
 ghost use Rattle.brightness.specs.Readings.{taskWord, Receives, Resumes};
 
 // The context of a task's call, the call, and the words that it ignores.

@@ -8,10 +8,10 @@ use lib.IntN.{ℤ}
 use borrow.Author.Tests.{eqb-true, leb-true}
 use lib.ListN.{length}
 use Rattle.rules.specs.Setup.{Read, got, refused, Setup, setup}
+use Rattle.memory_picture.specs.Picture.{Memory}
 use Rattle.kernel_start.specs.Starting.{StartsAs, Starts}
 use Rattle.kernel_start.specs.declared.Started.{Started}
 use Rattle.kernel_start.specs.declared.Started.the-variants.{Fresh, Refused}
-use Rattle.kernel_steps.specs.Steps.{Memory, memory}
 use Rattle.kernel_steps.specs.Written.{Lent, lent, RanThrough, Room}
 use Rattle.kernel_batches.specs.declared.Batch.{Batch}
 use Rattle.kernel_batches.specs.declared.Batch.the-variants.{Done, Ragged, FewCodes, FewWords}
@@ -77,12 +77,12 @@ module _ (given : List ℤ) (old : Lent) {r : Batch} (e : r ≡ fitted given old
       go FewCodes z = (refl, refl)
       go FewWords z = (refl, refl)
 
-  module _ (d : r ≡ Done) (s : List ℕ) (m : Memory) (t : Started) (S : Starts s t (old .memory .words) (old .memory .marks) (m .words) (m .marks)) where
+  module _ (d : r ≡ Done) (s : List ℕ) (m : Memory) (t : Started) (S : Starts s t (old .memory) m) where
     pub run-done : (new : Lent) → t ≡ Fresh → RanThrough given (lent m (old .codes) (old .answers)) new → RunsFrom s given Ran.Done old new
     unfolding RunsFrom Starts isFresh
     run-done new h R = let f : fitted given old ≡ Done = sym e ∙ d in rw f (go (setup s) refl (rw h at S))
       where
-        go : (u : Read Setup) → setup s ≡ u → StartsAs u Fresh (old .memory .words) (old .memory .marks) (m .words) (m .marks) → RunsAs Done u s given Ran.Done old new
+        go : (u : Read Setup) → setup s ≡ u → StartsAs u Fresh (old .memory) m → RunsAs Done u s given Ran.Done old new
         go (got u i) q S = (refl, record { started = m; starts = rw q S; ran = R })
         go (refused f place) q S = absurd (false≢true (ap isFresh (sym (S .0))))
 
@@ -90,6 +90,6 @@ module _ (given : List ℤ) (old : Lent) {r : Batch} (e : r ≡ fitted given old
     unfolding RunsFrom Starts isFresh toRan
     run-refused n i h = let f : fitted given old ≡ Done = sym e ∙ d in rw f (go (setup s) (rw h at S))
       where
-        go : (u : Read Setup) → StartsAs u (Refused n i) (old .memory .words) (old .memory .marks) (m .words) (m .marks) → RunsAs Done u s given (Ran.Refused n i) old (lent m (old .codes) (old .answers))
+        go : (u : Read Setup) → StartsAs u (Refused n i) (old .memory) m → RunsAs Done u s given (Ran.Refused n i) old (lent m (old .codes) (old .answers))
         go (got u j) S = absurd (false≢true (ap isFresh (S .0)))
-        go (refused f place) S = (ap toRan (S .0), λ z. lent (memory (S .1 z) (S .2 z)) (old .codes) (old .answers))
+        go (refused f place) S = (ap toRan (S .0), ap (λ (x : Memory). lent x (old .codes) (old .answers)) (S .1))

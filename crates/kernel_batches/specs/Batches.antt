@@ -7,13 +7,13 @@ use lib.Dec.{eqb, leb}
 use lib.IntN.{ℤ}
 use lib.ListN.{length}
 use Rattle.rules.specs.Setup.{Read, got, refused, digit, Setup, setup}
+use Rattle.memory_picture.specs.Picture.{Memory}
 use Rattle.kernel_start.specs.declared.Started.the-variants.{Fresh}
 use Rattle.kernel_start.specs.Starting.{Starts}
 use Rattle.kernel_batches.specs.declared.Batch.{Batch}
 use Rattle.kernel_batches.specs.declared.Batch.the-variants as Batch
 use Rattle.kernel_batches.specs.declared.Ran.{Ran}
 use Rattle.kernel_batches.specs.declared.Ran.the-variants as Ran
-use Rattle.kernel_steps.specs.Steps.{Memory}
 pub use Rattle.kernel_steps.specs.Written.{Lent, lent, codesOf, wordsOf, RanThrough}
 unfoldable pub use Rattle.kernel_steps.specs.Written.{over}
 
@@ -50,7 +50,7 @@ Batched events r old new = (r ≡ fitted events old) × BatchedAs (fitted events
 -- from the memory that `start` leaves
 pub record RanFresh (s : List ℕ) (given : List ℤ) (old new : Lent) : Type 0 where
   pub started : Memory
-  pub starts : Starts s Fresh (old .memory .words) (old .memory .marks) (started .words) (started .marks)
+  pub starts : Starts s Fresh (old .memory) started
   pub ran : RanThrough given (lent started (old .codes) (old .answers)) new
 
 abbrev pub RunsAs : Batch → Read Setup → List ℕ → List ℤ → Ran → Lent → Lent → Type 0

@@ -6,7 +6,7 @@ use memory_columns::STATE_WORDS;
 use memory_running::running_task;
 ghost use mathlib.Core.Path.{_≡_};
 ghost use lib.ListN.{length};
-ghost use Rattle.kernel_steps.specs.Steps.{memory};
+ghost use Rattle.memory_picture.specs.Picture.{memory};
 ghost use Rattle.kernel_batches.specs.Batches.{fitOf, lent, RanThrough, Batched, RunsFrom};
 ghost use Rattle.kernel_batches.specs.declared.Batch.the-variants as Batch;
 

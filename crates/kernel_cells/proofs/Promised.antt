@@ -23,7 +23,7 @@ use Rattle.rules.proofs.Ids.{of-ids, length-ids}
 use Rattle.rules.proofs.Waits.{in-by}
 use Rattle.memory_columns.specs.Layout as Layout
 use Rattle.memory_columns.specs.Layout.{entry}
-use Rattle.memory_picture.specs.Picture.{taskShown, tasksShown, bodyShown, viewShown, Accepted}
+use Rattle.memory_picture.specs.Picture.{taskShown, tasksShown, bodyShown, viewShown, Accepted, memory}
 use Rattle.memory_running.specs.Running.{runningOf}
 use Rattle.check_damage.specs.Judged.{Judged}
 use Rattle.call_words.proofs.Signed.{signed}
@@ -39,7 +39,7 @@ module _ {b msgs : List ℕ} {r : Bool} (law : (r ≡ true) ↔ Accepted b msgs)
 
   -- ---- cells
 
-  pub unreadable : (a : ℤ) → r ≡ false → {c : ℤ} → ((Accepted b msgs → ⊥) → c ≡ number (breach (viewShown b msgs) .code)) → Reads b msgs a c 0
+  pub unreadable : (a : ℤ) → r ≡ false → {c : ℤ} → ((Accepted b msgs → ⊥) → c ≡ number (breach (viewShown b msgs) .code)) → Reads (memory b msgs) a c 0
   unreadable a e f = record { sound = λ h. absurd (refuted e h); damaged = λ h. (f h, refl) }
 
   module _ (y : r ≡ true) (a : ℤ) {n : ℕ} (en : n ≡ tasksShown b) where
@@ -49,7 +49,7 @@ module _ {b msgs : List ℕ} {r : Bool} (law : (r ≡ true) ↔ Accepted b msgs)
 
     -- t: the id is no task's
     module _ {t : Bool} (et : t ≡ outside a n) where
-      pub foreign : t ≡ true → Reads b msgs a (number E-NOEXS) 0
+      pub foreign : t ≡ true → Reads (memory b msgs) a (number E-NOEXS) 0
       unfolding readCell
       foreign e = record { sound = λ h. rw (count, sym et ∙ e) (refl, refl); damaged = λ h. absurd (h (law .0 y)) }
 
@@ -63,14 +63,14 @@ module _ {b msgs : List ℕ} {r : Bool} (law : (r ≡ true) ↔ Accepted b msgs)
           whether : isAbsent (task (viewShown b msgs .body) (nat a) .state) ≡ eqb (entry Layout.status b (nat a)) 6
           whether = absent-read b msgs (nat a) (rw en at (in-by a n (sym et ∙ e)))
 
-          pub absent : s ≡ 6 → Reads b msgs a (number E-NOEXS) 0
+          pub absent : s ≡ 6 → Reads (memory b msgs) a (number E-NOEXS) 0
           unfolding readCell
           absent z = record { sound = λ h. rw (count, sym et ∙ e, whether, eq-eqb _ 6 (sym es ∙ z)) (refl, refl); damaged = λ h. absurd (h (law .0 y)) }
 
           present : (s ≡ 6 → ⊥) → isAbsent (taskShown b (nat a) .state) ≡ false
           present z = ap (λ (x : Task). isAbsent (x .state)) (sym at-id) ∙ whether ∙ ne-eqb _ 6 (λ d. z (es ∙ d))
 
-        pub readable : {s : ℕ} → s ≡ entry Layout.status b (nat a) → (s ≡ 6 → ⊥) → {k w : ℕ} {c : ℤ} → k ≡ entry Layout.code b (nat a) → c ≡ kept k → w ≡ entry Layout.word b (nat a) → Reads b msgs a c w
+        pub readable : {s : ℕ} → s ≡ entry Layout.status b (nat a) → (s ≡ 6 → ⊥) → {k w : ℕ} {c : ℤ} → k ≡ entry Layout.code b (nat a) → c ≡ kept k → w ≡ entry Layout.word b (nat a) → Reads (memory b msgs) a c w
         unfolding readCell taskShown
         readable es z ek ec ew = record {
           sound = λ h. rw (count, sym et ∙ e, at-id, present es z) (rw (← ek) ec, ew);
@@ -79,16 +79,16 @@ module _ {b msgs : List ℕ} {r : Bool} (law : (r ≡ true) ↔ Accepted b msgs)
 
   -- ---- the running task
 
-  pub runs : {t : ℕ} → r ≡ true → t ≡ runningOf b → Runs b msgs t
+  pub runs : {t : ℕ} → r ≡ true → t ≡ runningOf b → Runs (memory b msgs) t
   runs y e = record { sound = λ h. e ∙ running-law b msgs h; damaged = λ h. absurd (h (law .0 y)) }
 
-  pub idle : r ≡ false → Runs b msgs 0
+  pub idle : r ≡ false → Runs (memory b msgs) 0
   idle e = record { sound = λ h. absurd (refuted e h); damaged = λ h. refl }
 
 -- ---- the states of all tasks
 
 module _ {b msgs : List ℕ} {code : ℤ} {id : ℕ} (J : Judged b msgs code id) where
-  pub unlisted : (s : List ℕ) → ofZ w32 code ≢ 0 → {c : ℤ} → c ≡ code → Lists b msgs c 0 s s
+  pub unlisted : (s : List ℕ) → ofZ w32 code ≢ 0 → {c : ℤ} → c ≡ code → Lists (memory b msgs) c 0 s s
   unlisted s n e = record { sound = λ h. absurd (n (ap (ofZ w32) (J .exactly .1 h))); damaged = λ h. (e ∙ J .damaged h .0, refl, refl) }
 
   module _ (f : mag code < 2 ^ 31) (z : ofZ w32 code ≡ 0) {n : ℕ} (en : n ≡ tasksShown b) where
@@ -103,7 +103,7 @@ module _ {b msgs : List ℕ} {code : ℤ} {id : ℕ} (J : Judged b msgs code id)
     unfolding tsk-sts
     shown t h = sym (number-read b msgs t (omega (arith, h .0), omega (arith, h .1, en, tasks-count b msgs)) accepted)
 
-    pub listed : {old new : List ℕ} → Listed (numberAt b) n old new → Lists b msgs (number OK) n old new
+    pub listed : {old new : List ℕ} → Listed (numberAt b) n old new → Lists (memory b msgs) (number OK) n old new
     listed L = record {
       sound = λ h. (refl, record { count = en ∙ sym (tasks-count b msgs); states = record { each = λ t k. L .each t k ∙ shown t k; rest = L .rest } });
       damaged = λ h. absurd (h accepted);

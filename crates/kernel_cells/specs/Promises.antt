@@ -10,21 +10,21 @@ use Rattle.rules.specs.Breach.{breach}
 use Rattle.rules.specs.Answers.{readCell}
 use Rattle.rules.specs.Tasks.{tsk-sts}
 use Rattle.rules.specs.View.{View, running}
-use Rattle.memory_picture.specs.Picture.{codeOf, viewShown, Accepted}
+use Rattle.memory_picture.specs.Picture.{codeOf, Memory, viewIn, SoundIn}
 
 -- the number of the code that a cell keeps by a small number
 abbrev pub kept : ℕ → ℤ
 kept c = number (codeOf c)
 
 -- A cell is read by task id: the code of what is broken, then E_NOEXS for a bad id, each with word 0.
-pub record Reads (b msgs : List ℕ) (a : ℤ) (code : ℤ) (word : ℕ) : Type 0 where
-  pub sound : Accepted b msgs → (code ≡ number (readCell (viewShown b msgs .body) a .code)) × (word ≡ readCell (viewShown b msgs .body) a .word)
-  pub damaged : (Accepted b msgs → ⊥) → (code ≡ number (breach (viewShown b msgs) .code)) × (word ≡ 0)
+pub record Reads (m : Memory) (a : ℤ) (code : ℤ) (word : ℕ) : Type 0 where
+  pub sound : SoundIn m → (code ≡ number (readCell (viewIn m .body) a .code)) × (word ≡ readCell (viewIn m .body) a .word)
+  pub damaged : (SoundIn m → ⊥) → (code ≡ number (breach (viewIn m) .code)) × (word ≡ 0)
 
 -- the running rule's task, 0 if the state is damaged
-pub record Runs (b msgs : List ℕ) (task : ℕ) : Type 0 where
-  pub sound : Accepted b msgs → task ≡ running (viewShown b msgs)
-  pub damaged : (Accepted b msgs → ⊥) → task ≡ 0
+pub record Runs (m : Memory) (task : ℕ) : Type 0 where
+  pub sound : SoundIn m → task ≡ running (viewIn m)
+  pub damaged : (SoundIn m → ⊥) → task ≡ 0
 
 -- a table read by id: f of each id up to n, and at higher ids what stood there
 pub record Listed (f : ℕ → ℕ) (n : ℕ) (old new : List ℕ) : Type 0 where
@@ -37,6 +37,6 @@ pub record StatesOf (v : View) (tasks : ℕ) (old new : List ℕ) : Type 0 where
   pub states : Listed (λ t. tsk-sts v (pos t) .w1) tasks old new
 
 -- On a damaged state: the code of what is broken, no task, and all as it was.
-pub record Lists (b msgs : List ℕ) (code : ℤ) (tasks : ℕ) (old new : List ℕ) : Type 0 where
-  pub sound : Accepted b msgs → (code ≡ number OK) × StatesOf (viewShown b msgs) tasks old new
-  pub damaged : (Accepted b msgs → ⊥) → (code ≡ number (breach (viewShown b msgs) .code)) × (tasks ≡ 0) × (new ≡ old)
+pub record Lists (m : Memory) (code : ℤ) (tasks : ℕ) (old new : List ℕ) : Type 0 where
+  pub sound : SoundIn m → (code ≡ number OK) × StatesOf (viewIn m) tasks old new
+  pub damaged : (SoundIn m → ⊥) → (code ≡ number (breach (viewIn m) .code)) × (tasks ≡ 0) × (new ≡ old)

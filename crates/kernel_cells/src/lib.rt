@@ -25,6 +25,7 @@ use memory_running::running_task;
 ghost use mathlib.Core.Path.{_≡_};
 ghost use Prim.Native.Nat.{_≤_};
 ghost use lib.ListN.{length};
+ghost use Rattle.memory_picture.specs.Picture.{memory};
 ghost use Rattle.call_reading.specs.Reading.{numberAt};
 ghost use Rattle.kernel_cells.specs.Promises as Promises;
 ghost use Rattle.kernel_cells.specs.Promises.{Reads, Runs, Listed, Lists};
@@ -54,7 +55,7 @@ fn code_of(kept: u32) -> i32
 // The cell of a task: the code of what is broken if the state is damaged, then E_NOEXS for a bad id or a task that is
 // not there, each with word 0.
 pub fn cell(words: &[u32; STATE_WORDS], messages: &[u32; 256], task: i32) -> Reading
-    ensures { λ r. ⌜ Reads (now (words .entry)) (now (messages .entry)) task (r .code) (r .word) ⌝ }
+    ensures { λ r. ⌜ Reads (memory (now (words .entry)) (now (messages .entry))) task (r .code) (r .word) ⌝ }
 {
     if !accepts(words, messages) {
         let broken = first_breach(words, messages);
@@ -84,7 +85,7 @@ pub fn cell(words: &[u32; STATE_WORDS], messages: &[u32; 256], task: i32) -> Rea
 
 // The running task, 0 if there is none or the state is damaged.
 pub fn running(words: &[u32; STATE_WORDS], messages: &[u32; 256]) -> u32
-    ensures { λ r. ⌜ Runs (now (words .entry)) (now (messages .entry)) r ⌝ }
+    ensures { λ r. ⌜ Runs (memory (now (words .entry)) (now (messages .entry))) r ⌝ }
 {
     if accepts(words, messages) {
         running_task(words)
@@ -121,7 +122,8 @@ pub fn states(
     messages: &[u32; 256],
     out: &mut [u32; TASK_PLACES],
 ) -> Shown
-    ensures { λ r. ⌜ Lists (now (words .entry)) (now (messages .entry)) (r .code) (r .tasks) (now (out .entry)) (now (out .exit)) ⌝ }
+    ensures { λ r. ⌜ Lists (memory (now (words .entry)) (now (messages .entry))) (r .code) (r .tasks)
+        (now (out .entry)) (now (out .exit)) ⌝ }
 {
     let found = judged(words, messages);
     if found.code != SOUND {

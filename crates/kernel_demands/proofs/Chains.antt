@@ -13,21 +13,22 @@ use Rattle.rules.specs.Answers.{readCell}
 use Rattle.rules.specs.Kernel.{fresh, event, cell}
 use Rattle.rules.specs.Runs.{answers, states}
 use Rattle.rules.proofs.Events.{cell-reads}
+use Rattle.memory_picture.specs.Picture.{Memory, viewIn}
 use Rattle.kernel_start.specs.Starting.{Starts, Holds}
 use Rattle.kernel_start.specs.declared.Started.{Started}
 use Rattle.kernel_cells.specs.Promises.{Runs}
-use Rattle.kernel_steps.specs.Steps.{Memory, viewIn, Reply, told, Step, Link, Chain, lastMemory}
+use Rattle.kernel_steps.specs.Steps.{Reply, told, Step, Link, Chain, lastMemory}
 use Rattle.kernel_demands.specs.Demands.{CellIs}
 
 -- a start leaves the fresh state of its setup
-pub start-holds : (s : List ℕ) (u : Setup) (i : ℕ) → setup s ≡ got u i → (r : Started) (old m : Memory) → Starts s r (old .words) (old .marks) (m .words) (m .marks) → Holds (m .words) (m .marks) (fresh u)
+pub start-holds : (s : List ℕ) (u : Setup) (i : ℕ) → setup s ≡ got u i → (r : Started) (old m : Memory) → Starts s r old m → Holds m (fresh u)
 unfolding Starts
 start-holds s u i e r old m S = let h = rw e at S in record { accepted = h .1; view = h .2 }
 
 -- ---- what is read of such a memory
 
-module _ {m : Memory} {v : View} (H : Holds (m .words) (m .marks) v) where
-  pub runs-is : {r : ℕ} → Runs (m .words) (m .marks) r → r ≡ running v
+module _ {m : Memory} {v : View} (H : Holds m v) where
+  pub runs-is : {r : ℕ} → Runs m r → r ≡ running v
   runs-is R = R .sound (H .accepted) ∙ ap running (H .view)
 
   pub cell-is : (a : ℤ) {c : Cell} → cell v a ≡ c → CellIs m a c
@@ -39,7 +40,7 @@ module _ {m : Memory} {v : View} (H : Holds (m .words) (m .marks) v) where
   -- ---- a step
 
   module _ {e : Event} {r : Reply} {new : Memory} (S : Step e m r new) where
-    pub step-holds : Holds (new .words) (new .marks) (event v e .next)
+    pub step-holds : Holds new (event v e .next)
     step-holds = record { accepted = S .accepted (H .accepted); view = S .shows (H .accepted) ∙ ap (λ (w : View). event w e .next) (H .view) }
 
     pub step-says : r ≡ told (event v e .answer)
@@ -52,13 +53,13 @@ pub chain-words : (m : Memory) (l : List Link) → Chain m l → AllWords (map (
 chain-words m [] C = tt
 chain-words m (k ∷ l) C = (C .0 .words, chain-words (k .left) l (C .1))
 
-pub chain-holds : {m : Memory} {v : View} (l : List Link) → Holds (m .words) (m .marks) v → Chain m l → Holds (lastMemory m l .words) (lastMemory m l .marks) (states v (map (λ k. k .event) l))
+pub chain-holds : {m : Memory} {v : View} (l : List Link) → Holds m v → Chain m l → Holds (lastMemory m l) (states v (map (λ k. k .event) l))
 unfolding states
 chain-holds [] H C = H
 chain-holds (k ∷ l) H C = chain-holds l (step-holds H (C .0)) (C .1)
 
 -- whatever is read of the replies is so of the answers
-pub chain-says : {A : Type 0} (f : Reply → A) {m : Memory} {v : View} (l : List Link) → Holds (m .words) (m .marks) v → Chain m l
+pub chain-says : {A : Type 0} (f : Reply → A) {m : Memory} {v : View} (l : List Link) → Holds m v → Chain m l
     → map (λ k. f (k .reply)) l ≡ map (λ a. f (told a)) (answers v (map (λ k. k .event) l))
 unfolding answers
 chain-says f [] H C = refl

@@ -28,9 +28,10 @@ use Rattle.rules_runs.proofs.Wear.{worn-evenly}
 use Rattle.rules_runs.proofs.Demand3.{demand3}
 use Rattle.rules.proofs.Broken.{stays-broken}
 use Rattle.rules.proofs.OnlyBroken.{only-rel-wai, never-answered}
+use Rattle.memory_picture.specs.Picture.{Memory, viewIn, SoundIn}
 use Rattle.kernel_start.specs.Starting.{Starts, Holds}
 use Rattle.kernel_start.specs.declared.Started.{Started}
-use Rattle.kernel_steps.specs.Steps.{Memory, viewIn, SoundIn, Reply, told, unsound, Step, Link, Chain}
+use Rattle.kernel_steps.specs.Steps.{Reply, told, unsound, Step, Link, Chain}
 use Rattle.kernel_demands.specs.Demands.{Same, seen, Demand3OnCode, Balanced, OutNotGranted, BlocksOnce, seenAll, WornEvenlyOnCode, stateIn, StaysBrokenOnCode, BrokenOnCode, OnlyRelWaiOnCode}
 use Rattle.kernel_demands.proofs.Chains.{start-holds, chain-words, runs-is, cell-is, step-holds, step-says}
 
@@ -41,7 +42,7 @@ now-alike : {past : List Happened} {v : View} {s : Plain} (l : List Event) → D
 now-alike [] D = D
 now-alike (e ∷ l) D = D .0
 
-same-body : {m : Memory} {v : View} {s : Plain} → Holds (m .words) (m .marks) v → Agree v s → viewIn m .body ≡ s .body
+same-body : {m : Memory} {v : View} {s : Plain} → Holds m v → Agree v s → viewIn m .body ≡ s .body
 same-body H A = ap (λ (w : View). w .body) (H .view) ∙ A .body
 
 -- states that agree are one view
@@ -49,7 +50,7 @@ same-view : {v : View} {s : Plain} → Agree v s → v ≡ viewOf s
 unfolding viewOf
 same-view A = λ z. record { body = A .body z; lines = A .lines z }
 
-same : {past : List Happened} {m : Memory} {v : View} {s : Plain} → Holds (m .words) (m .marks) v → Alike past v s → Same past m s
+same : {past : List Happened} {m : Memory} {v : View} {s : Plain} → Holds m v → Alike past v s → Same past m s
 same {past} {s = s} H A = record {
   accepted = H .accepted;
   agree = subst (λ (w : View). Agree w s) (sym (H .view)) (A .agree);
@@ -59,7 +60,7 @@ same {past} {s = s} H A = record {
 }
 
 -- the rules' claim along a chain is the claim of the code
-on-code : (past : List Happened) {m : Memory} {v : View} (s : Plain) (l : List Link) → Holds (m .words) (m .marks) v → Chain m l → Demand3 past v s (map (λ k. k .event) l) → Demand3OnCode past m s l
+on-code : (past : List Happened) {m : Memory} {v : View} (s : Plain) (l : List Link) → Holds m v → Chain m l → Demand3 past v s (map (λ k. k .event) l) → Demand3OnCode past m s l
 unfolding tellsDamage
 on-code past s [] H C D = same H D
 on-code past {m} {v} s (k ∷ l) H C D = (
@@ -70,7 +71,7 @@ on-code past {m} {v} s (k ∷ l) H C D = (
       (on-code (happened s (k .event) ∷ past) (plainNext s (k .event)) l after (C .1) (D .3)),
 )
   where
-    after : Holds (k .left .words) (k .left .marks) (event v (k .event) .next)
+    after : Holds (k .left) (event v (k .event) .next)
     after = step-holds H (C .0)
 
     says : k .reply ≡ told (plainAnswer s (k .event))
@@ -87,7 +88,7 @@ on-code past {m} {v} s (k ∷ l) H C D = (
     }
 
 -- from every start on a setup that is accepted
-pub demand3-on-code : (s : List ℕ) (u : Setup) (i : ℕ) → setup s ≡ got u i → (r : Started) (old m : Memory) → Starts s r (old .words) (old .marks) (m .words) (m .marks)
+pub demand3-on-code : (s : List ℕ) (u : Setup) (i : ℕ) → setup s ≡ got u i → (r : Started) (old m : Memory) → Starts s r old m
     → (l : List Link) → Chain m l → Demand3OnCode [] m (plainFresh u) l
 demand3-on-code s u i e r old m S l C =
     on-code [] (plainFresh u) l (start-holds s u i e r old m S) C (demand3 s u i e (map (λ k. k .event) l) (chain-words m l C))
@@ -122,7 +123,7 @@ chain-block-once m A (k ∷ l) C = (
 -- ---- blocks wear evenly
 
 -- what is seen of a chain is the rules' history
-history-seen : {m : Memory} {v : View} (l : List Link) → Holds (m .words) (m .marks) v → Chain m l → seenAll m l ≡ history v (map (λ k. k .event) l)
+history-seen : {m : Memory} {v : View} (l : List Link) → Holds m v → Chain m l → seenAll m l ≡ history v (map (λ k. k .event) l)
 history-seen [] H C = refl
 history-seen {m} {v} (k ∷ l) H C = λ z. one z ∷ history-seen l (step-holds H (C .0)) (C .1) z
   where
@@ -146,17 +147,17 @@ unless : (t : Bool) {A B : Type 0} → (A → B) → Unless t A → Unless t B
 unless true f h = tt
 unless false f h = f h
 
-broken-on-code : (a : ℤ) {m : Memory} {v : View} (l : List Link) → Holds (m .words) (m .marks) v → Chain m l → StaysBroken a v (map (λ k. k .event) l) → StaysBrokenOnCode a m l
+broken-on-code : (a : ℤ) {m : Memory} {v : View} (l : List Link) → Holds m v → Chain m l → StaysBroken a v (map (λ k. k .event) l) → StaysBrokenOnCode a m l
 broken-on-code a [] H C B = cell-is H a B
 broken-on-code a {m} {v} (k ∷ l) H C B = (
   cell-is H a (B .0),
   rw (shown H, shown after) (unless (isFresh (task (v .body) (nat a) .state) (task (event v (k .event) .next .body) (nat a) .state)) (broken-on-code a l after (C .1)) (B .1)),
 )
   where
-    after : Holds (k .left .words) (k .left .marks) (event v (k .event) .next)
+    after : Holds (k .left) (event v (k .event) .next)
     after = step-holds H (C .0)
 
-    shown : {m : Memory} {v : View} → Holds (m .words) (m .marks) v → stateIn m a ≡ task (v .body) (nat a) .state
+    shown : {m : Memory} {v : View} → Holds m v → stateIn m a ≡ task (v .body) (nat a) .state
     shown H = ap (λ (w : View). task (w .body) (nat a) .state) (H .view)
 
 -- after a rel_wai that is answered with 0
@@ -169,7 +170,7 @@ stays-broken-on-code m A k l C x a y z e c =
     w : AllWords (map (λ k. k .event) (k ∷ l))
     w = chain-words m (k ∷ l) C
 
-    H : Holds (m .words) (m .marks) (viewIn m)
+    H : Holds m (viewIn m)
     H = record { accepted = A; view = refl }
 
 -- after each of them

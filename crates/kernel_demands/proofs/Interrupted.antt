@@ -12,12 +12,13 @@ use Rattle.rules.specs.Sound.{Sound}
 use Rattle.rules.specs.Kernel.{Outcome, event}
 use Rattle.rules_turns.specs.Turns.{Whether}
 use Rattle.rules.proofs.Interrupted.{Interrupts, interrupts-on, head-reported, under, quietly, head-runs, enters}
+use Rattle.memory_picture.specs.Picture.{Memory, viewIn, SoundIn}
 use Rattle.kernel_start.specs.Starting.{Holds}
-use Rattle.kernel_steps.specs.Steps.{Memory, viewIn, SoundIn, Reply, reply, told, Link, Chain}
+use Rattle.kernel_steps.specs.Steps.{Reply, reply, told, Link, Chain}
 use Rattle.kernel_demands.specs.Demands.{openIn, UntilReturn, InterruptedOnCode}
 use Rattle.kernel_demands.proofs.Chains.{step-holds, step-says}
 
-open-is : {m : Memory} {v : View} → Holds (m .words) (m .marks) v → openIn m ≡ isOpen (v .body .handlers)
+open-is : {m : Memory} {v : View} → Holds m v → openIn m ≡ isOpen (v .body .handlers)
 open-is H = ap (λ (w : View). isOpen (w .body .handlers)) (H .view)
 
 none-open : (x : Handlers) → isOpen x ≡ false → x ≡ no-handler
@@ -25,14 +26,14 @@ none-open no-handler e = refl
 none-open (in-handler n i) e = absurd (true≢false e)
 
 -- while task i is the interrupted one
-until-return : (i : ℕ) {m : Memory} {v : View} (l : List Link) → Holds (m .words) (m .marks) v → Interrupts i (v .body .handlers) → Chain m l → UntilReturn i l
+until-return : (i : ℕ) {m : Memory} {v : View} (l : List Link) → Holds m v → Interrupts i (v .body .handlers) → Chain m l → UntilReturn i l
 until-return i [] H h C = tt
 until-return i {m} {v} (k ∷ l) H h C = go (openIn (k .left)) refl (until-return i l after)
   where
     sound : Sound v
     sound = subst Sound (H .view) (H .accepted .sound)
 
-    after : Holds (k .left .words) (k .left .marks) (event v (k .event) .next)
+    after : Holds (k .left) (event v (k .event) .next)
     after = step-holds H (C .0)
 
     runs : k .reply .runs ≡ event v (k .event) .answer .runs

@@ -17,15 +17,15 @@ use Rattle.rules.specs.Runs.{answers, states}
 use Rattle.rules_examples.specs.BenchSheet.{Case, Sheet, Ran, expectedCase, ranCase, at-clock, freshAt, expected, ran, benchSheet}
 use Rattle.rules.proofs.Waits.{both-true}
 use Rattle.rules_examples.proofs.BenchSheet.{bench-sheet-holds}
+use Rattle.memory_picture.specs.Picture.{Memory, memory}
 use Rattle.kernel_start.specs.Starting.{Starts, Holds}
-use Rattle.kernel_steps.specs.Steps.{Memory, memory}
 use Rattle.kernel_demands.specs.Demands.{figures, clockSet, CaseHolds, Every, SheetOnCode}
 use Rattle.kernel_demands.proofs.Chains.{start-holds, runs-is, cell-is, chain-holds, chain-says}
 use Rattle.kernel_demands.proofs.Clocks.{clock-shown, clock-accepted}
 
 -- ---- a case
 
-case-on-code : {m : Memory} (begin : ℕ → View) (c : Case) → Holds (m .words) (m .marks) (begin (c .clock)) → ranCase running answers states cell begin c ≡ expectedCase c → CaseHolds m c
+case-on-code : {m : Memory} (begin : ℕ → View) (c : Case) → Holds m (begin (c .clock)) → ranCase running answers states cell begin c ≡ expectedCase c → CaseHolds m c
 case-on-code begin c H e = record {
   runs = λ r R. runs-is H R ∙ ap (λ (x : Ran). x .runs) e;
   says = λ l C f. chain-says figures l H C ∙ ap (λ (x : List Event). map numbers (answers (begin (c .clock)) x)) f ∙ ap (λ (x : Ran). x .says) e;
@@ -44,8 +44,8 @@ clocks-fit (c ∷ l) = ltb (c .clock) (2 ^ 48) && clocks-fit l
 both : {x y : Ran} {l m : List Ran} → x ∷ l ≡ y ∷ m → (x ≡ y) × (l ≡ m)
 both e = (cc, cc)
 
-module _ {m : Memory} (u : Setup) (H : Holds (m .words) (m .marks) (fresh u)) where
-  clocked : (t : ℕ) → ltb t (2 ^ 48) ≡ true → Holds (clockSet t (m .words)) (m .marks) (freshAt u t)
+module _ {m : Memory} (u : Setup) (H : Holds m (fresh u)) where
+  clocked : (t : ℕ) → ltb t (2 ^ 48) ≡ true → Holds (memory (clockSet t (m .words)) (m .marks)) (freshAt u t)
   clocked t h = record {
     accepted = clock-accepted (H .accepted) t (ltb-true t (2 ^ 48) h);
     view = clock-shown (H .accepted) t ∙ ap (λ (v : View). record { body = at-clock t (v .body); lines = v .lines }) (H .view);

@@ -12,8 +12,9 @@ use Rattle.rules.specs.Kernel.{event}
 use Rattle.rules.specs.Ahead.{waitsAt, ahead}
 use Rattle.rules_turns.specs.Turns.{gave, gifts, Whether, Leaves}
 use Rattle.rules_turns.proofs.Turns.{in-turn}
+use Rattle.memory_picture.specs.Picture.{Memory, viewIn, SoundIn}
 use Rattle.kernel_start.specs.Starting.{Holds}
-use Rattle.kernel_steps.specs.Steps.{Memory, viewIn, SoundIn, Reply, Link, Chain}
+use Rattle.kernel_steps.specs.Steps.{Reply, Link, Chain}
 use Rattle.kernel_demands.specs.Turns.{giftsOnCode, LeavesOnCode, InTurnOnCode}
 use Rattle.kernel_demands.proofs.Chains.{chain-words, cell-is, step-holds, step-says}
 
@@ -23,21 +24,21 @@ whether false f g h = g h
 
 module _ (k : Kind) (o : ℕ) where
   -- the code that came back is the rules'
-  gave-same : {m : Memory} {v : View} (x : Link) (l : List Link) → Holds (m .words) (m .marks) v → Chain m (x ∷ l)
+  gave-same : {m : Memory} {v : View} (x : Link) (l : List Link) → Holds m v → Chain m (x ∷ l)
       → gave k o (x .event) (x .reply .code) ≡ gave k o (x .event) (number (event v (x .event) .answer .code))
   gave-same x l H C = ap (λ (r : Reply). gave k o (x .event) (r .code)) (step-says H (C .0))
 
-  gifts-same : {m : Memory} {v : View} (l : List Link) → Holds (m .words) (m .marks) v → Chain m l → giftsOnCode k o l ≡ gifts k o v (map (λ x. x .event) l)
+  gifts-same : {m : Memory} {v : View} (l : List Link) → Holds m v → Chain m l → giftsOnCode k o l ≡ gifts k o v (map (λ x. x .event) l)
   gifts-same [] H C = refl
   gifts-same (x ∷ l) H C = λ z. once (gave-same x l H C z) + gifts-same l (step-holds H (C .0)) (C .1) z
 
-  leaves-on-code : (i : ℕ) {m : Memory} {v : View} (l : List Link) → Holds (m .words) (m .marks) v → Chain m l → Leaves k o i v (map (λ x. x .event) l) → LeavesOnCode k o i l
+  leaves-on-code : (i : ℕ) {m : Memory} {v : View} (l : List Link) → Holds m v → Chain m l → Leaves k o i v (map (λ x. x .event) l) → LeavesOnCode k o i l
   leaves-on-code i [] H C L = L
   leaves-on-code i {v = v} (x ∷ l) H C L =
       rw (ap (λ (w : View). waitsAt w k o i) (after .view))
       (whether (waitsAt (event v (x .event) .next) k o i) (leaves-on-code i l after (C .1)) (λ f g. cell-is after (pos i) (f (sym (gave-same x l H C) ∙ g))) L)
     where
-      after : Holds (x .left .words) (x .left .marks) (event v (x .event) .next)
+      after : Holds (x .left) (event v (x .event) .next)
       after = step-holds H (C .0)
 
 -- from every accepted memory
@@ -49,5 +50,5 @@ chain-in-turn m A (x ∷ l) C = (
   chain-in-turn (x .left) (C .0 .accepted A) l (C .1),
 )
   where
-    H : Holds (m .words) (m .marks) (viewIn m)
+    H : Holds m (viewIn m)
     H = record { accepted = A; view = refl }

@@ -6,10 +6,11 @@ use mathlib.Core.Path.{_≡_, refl, sym, ap, _∙_, subst}
 use Prim.Native.Nat.{ℕ}
 use lib.IntN.{ℤ}
 use Rattle.rules.specs.Setup.{Read, got, refused, Setup, setup}
+use Rattle.memory_picture.specs.Picture.{Memory, SoundIn}
 use Rattle.kernel_start.specs.Starting.{Starts, StartsAs}
 use Rattle.kernel_start.specs.declared.Started.{Started}
 use Rattle.kernel_start.specs.declared.Started.the-variants.{Fresh, Refused}
-use Rattle.kernel_steps.specs.Steps.{Memory, SoundIn, Link, Chain, lastMemory}
+use Rattle.kernel_steps.specs.Steps.{Link, Chain, lastMemory}
 use Rattle.kernel_batches.specs.declared.Batch.{Batch}
 use Rattle.kernel_batches.specs.declared.Batch.the-variants as Batch
 use Rattle.kernel_batches.specs.declared.Ran.{Ran}
@@ -26,14 +27,14 @@ use Rattle.kernel_demands.proofs.Turns.{chain-in-turn}
 chain-kept : (m : Memory) → SoundIn m → (l : List Link) → Chain m l → Kept m l
 chain-kept m A l C = record { broken = chain-broken m A l C; only = chain-only-rel-wai m A l C; blocks = chain-block-once m A l C; wear = chain-worn-evenly m A l C; interrupted = chain-interrupted m A l C; turns = chain-in-turn m A l C }
 
-chain-demanded : (s : List ℕ) (u : Setup) (i : ℕ) → setup s ≡ got u i → (old m : Memory) → Starts s Fresh (old .words) (old .marks) (m .words) (m .marks) → (l : List Link) → Chain m l → Demanded u m l
+chain-demanded : (s : List ℕ) (u : Setup) (i : ℕ) → setup s ≡ got u i → (old m : Memory) → Starts s Fresh old m → (l : List Link) → Chain m l → Demanded u m l
 chain-demanded s u i e old m S l C = record {
   plain = demand3-on-code s u i e Fresh old m S l C;
   kept = chain-kept m (start-holds s u i e Fresh old m S .accepted) l C;
 }
 
 -- a start that was not refused has read a setup
-start-read : (s : List ℕ) (old m : Memory) → Starts s Fresh (old .words) (old .marks) (m .words) (m .marks) → (u : Setup) × (i : ℕ) × (setup s ≡ got u i)
+start-read : (s : List ℕ) (old m : Memory) → Starts s Fresh old m → (u : Setup) × (i : ℕ) × (setup s ≡ got u i)
 unfolding Starts
 start-read s old m S = go (setup s) refl S
   where
@@ -41,7 +42,7 @@ start-read s old m S = go (setup s) refl S
     isFresh Fresh = true
     isFresh (Refused d p) = false
 
-    go : (r : Read Setup) → setup s ≡ r → StartsAs r Fresh (old .words) (old .marks) (m .words) (m .marks) → (u : Setup) × (i : ℕ) × (setup s ≡ got u i)
+    go : (r : Read Setup) → setup s ≡ r → StartsAs r Fresh old m → (u : Setup) × (i : ℕ) × (setup s ≡ got u i)
     go (got u i) e h = (u, i, e)
     go (refused f p) e h = absurd (false≢true (sym (ap isFresh (h .0))))
 
@@ -109,7 +110,7 @@ pub mix-kept : (m : Memory) → SoundIn m → (t : List Turn) (M : Mix m t) → 
 mix-kept m A t M = chain-kept m A (mixLinks m t M) (mix-chain m t M)
 
 -- after a start
-pub mix-demanded : (s : List ℕ) (old m : Memory) → Starts s Fresh (old .words) (old .marks) (m .words) (m .marks) → (t : List Turn) (M : Mix m t) → MixDemanded s m t M
+pub mix-demanded : (s : List ℕ) (old m : Memory) → Starts s Fresh old m → (t : List Turn) (M : Mix m t) → MixDemanded s m t M
 mix-demanded s old m S t M =
     let r = start-read s old m S in
     record { read = r .0; end = r .1; accepted = r .2; demanded = chain-demanded s (r .0) (r .1) (r .2) old m S (mixLinks m t M) (mix-chain m t M) }

@@ -21,15 +21,16 @@ use Rattle.rules_turns.specs.Turns.{Whether}
 use Rattle.rules_examples.specs.BenchSheet.{Case, Sheet}
 use Rattle.memory_columns.specs.Layout as Layout
 use Rattle.memory_columns.specs.Layout.{put}
+use Rattle.memory_picture.specs.Picture.{Memory, memory, viewIn, SoundIn}
 use Rattle.kernel_start.specs.Starting.{Starts}
 use Rattle.kernel_start.specs.declared.Started.{Started}
 use Rattle.kernel_start.specs.declared.Started.the-variants.{Fresh}
 use Rattle.kernel_cells.specs.Promises.{Reads, Runs}
-use Rattle.kernel_steps.specs.Steps.{Memory, memory, viewIn, SoundIn, Reply, told, Link, Chain, lastMemory}
+use Rattle.kernel_steps.specs.Steps.{Reply, told, Link, Chain, lastMemory}
 
 -- whatever `cell` reads of a task in this memory is this cell
 abbrev pub CellIs : Memory → ℤ → Cell → Type 0
-CellIs m a c = (code : ℤ) (word : ℕ) → Reads (m .words) (m .marks) a code word → (code ≡ number (c .code)) × (word ≡ c .word)
+CellIs m a c = (code : ℤ) (word : ℕ) → Reads m a code word → (code ≡ number (c .code)) × (word ≡ c .word)
 
 -- ---- demand 3
 
@@ -38,7 +39,7 @@ CellIs m a c = (code : ℤ) (word : ℕ) → Reads (m .words) (m .marks) a code 
 pub record Same (past : List Happened) (m : Memory) (s : Plain) : Type 0 where
   pub accepted : SoundIn m
   pub agree : Agree (viewIn m) s
-  pub runs : (r : ℕ) → Runs (m .words) (m .marks) r → r ≡ running (viewOf s)
+  pub runs : (r : ℕ) → Runs m r → r ≡ running (viewOf s)
   pub cells : (a : ℤ) → CellIs m a (readCell (s .body) a)
   pub blocks : AllAccounted past (viewIn m .body)
 
@@ -138,10 +139,10 @@ clockSet t b = put Layout.system 8 (t / 2 ^ 32) (put Layout.system 7 (t % 2 ^ 32
 -- from this memory: `running` names the case's task; every chain over the case's events has the case's answers, and at its end `cell` reads the
 -- case's cell
 pub record CaseHolds (m : Memory) (c : Case) : Type 0 where
-  pub runs : (r : ℕ) → Runs (m .words) (m .marks) r → r ≡ c .runs
+  pub runs : (r : ℕ) → Runs m r → r ≡ c .runs
   pub says : (l : List Link) → Chain m l → map (λ k. k .event) l ≡ map (λ s. s .event) (c .steps) → map (λ k. figures (k .reply)) l ≡ map (λ s. s .says) (c .steps)
   pub cell : (l : List Link) → Chain m l → map (λ k. k .event) l ≡ map (λ s. s .event) (c .steps)
-      → (code : ℤ) (word : ℕ) → Reads (lastMemory m l .words) (lastMemory m l .marks) (pos (c .who)) code word → (code ≡ c .code) × (word ≡ c .word)
+      → (code : ℤ) (word : ℕ) → Reads (lastMemory m l) (pos (c .who)) code word → (code ≡ c .code) × (word ≡ c .word)
 
 -- each of a list of cases
 abbrev pub Every : (Case → Type 0) → List Case → Type 0
@@ -151,5 +152,5 @@ Every P (c ∷ l) = P c × Every P l
 -- the start takes a sheet's bytes, and each case holds of the memory that it leaves, once the case's clock is written
 abbrev pub SheetOnCode : Sheet → Type 0
 SheetOnCode s =
-    (r : Started) (old m : Memory) → Starts (s .bytes) r (old .words) (old .marks) (m .words) (m .marks)
+    (r : Started) (old m : Memory) → Starts (s .bytes) r old m
     → (r ≡ Fresh) × Every (λ c. CaseHolds (memory (clockSet (c .clock) (m .words)) (m .marks)) c) (s .cases)

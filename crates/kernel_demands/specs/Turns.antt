@@ -9,7 +9,8 @@ use Rattle.rules.specs.Ids.{once}
 use Rattle.rules.specs.State.{Kind}
 use Rattle.rules.specs.Ahead.{waitsAt, ahead}
 use Rattle.rules_turns.specs.Turns.{gave, servedCell, Whether}
-use Rattle.kernel_steps.specs.Steps.{Memory, viewIn, Link}
+use Rattle.memory_picture.specs.Picture.{Memory, viewIn}
+use Rattle.kernel_steps.specs.Steps.{Link}
 use Rattle.kernel_demands.specs.Demands.{CellIs}
 
 -- how many links are accepted calls that give to object o of kind k

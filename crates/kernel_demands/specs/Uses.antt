@@ -7,9 +7,10 @@ use lib.IntN.{ℤ}
 use Rattle.rules.specs.Setup.{got, Setup, setup}
 use Rattle.rules.specs.Events.{Event}
 use Rattle.rules.specs.Plain.{plainFresh}
+use Rattle.memory_picture.specs.Picture.{Memory}
 use Rattle.kernel_start.specs.Starting.{Starts}
 use Rattle.kernel_start.specs.declared.Started.the-variants.{Fresh}
-use Rattle.kernel_steps.specs.Steps.{Memory, Reply, Step, Link}
+use Rattle.kernel_steps.specs.Steps.{Reply, Step, Link}
 use Rattle.kernel_batches.specs.declared.Batch.{Batch}
 use Rattle.kernel_batches.specs.declared.Batch.the-variants as Batch
 use Rattle.kernel_batches.specs.Batches.{Lent, lent, RanThrough, fitted, BatchedAs, Batched}
@@ -42,7 +43,7 @@ pub record RunDemanded (s : List ℕ) (given : List ℤ) (old new : Lent) : Type
   pub end : ℕ
   pub accepted : setup s ≡ got read end
   pub started : Memory
-  pub starts : Starts s Fresh (old .memory .words) (old .memory .marks) (started .words) (started .marks)
+  pub starts : Starts s Fresh (old .memory) started
   pub ran : RanThrough given (lent started (old .codes) (old .answers)) new
   pub demanded : Demanded read started (ran .links)
 

@@ -10,7 +10,8 @@ use kernel_steps::misnamed;
 use memory_columns::STATE_WORDS;
 use memory_running::running_task;
 ghost use Rattle.rules.specs.Events as Events;
-ghost use Rattle.kernel_steps.specs.Steps.{memory, replyOf, Step};
+ghost use Rattle.memory_picture.specs.Picture.{memory};
+ghost use Rattle.kernel_steps.specs.Steps.{replyOf, Step};
 
 // The last context of a call: 0 task, 1 handler.
 const HANDLER: u32 = 1;

@@ -25,7 +25,7 @@ use Rattle.rules.specs.Kernel.{event, next, served}
 use Rattle.rules.proofs.Breach.{breach-tells}
 use Rattle.rules.proofs.Events.{event-served}
 use Rattle.rules.proofs.Released.{released-by-acts}
-use Rattle.memory_picture.specs.Picture.{handlersShown, bodyShown, viewShown, Accepted}
+use Rattle.memory_picture.specs.Picture.{handlersShown, bodyShown, viewShown, Accepted, Memory, memory, viewIn, SoundIn}
 use Rattle.memory_running.specs.Running.{runningOf}
 use Rattle.memory_running.proofs.Running.{running-law}
 use Rattle.rules.specs.Time.{ticked}
@@ -39,7 +39,7 @@ use Rattle.call_dispatch.specs.Dispatching.{Dispatches}
 use Rattle.call_dispatch.proofs.Done.{does-law}
 use Rattle.check_damage.specs.declared.Breach.{Breach}
 use Rattle.check_damage.specs.Judged.{Judged}
-use Rattle.kernel_steps.specs.Steps.{Memory, memory, viewIn, SoundIn, Reply, reply, told, unsound, Step}
+use Rattle.kernel_steps.specs.Steps.{Reply, reply, told, unsound, Step}
 use Rattle.kernel_steps.specs.Serving.{replied, Known, Misnames}
 
 -- ---- words

@@ -6,9 +6,10 @@ use native.Mathlib.Omega.{arith}
 use lib.IntN.{ℤ, pos}
 use lib.ListN.{length, drop, getD, set, length-append, length-map, drop-of-length-le}
 use Rattle.rules.specs.Events.{Event, tick, eventOf, eventsOf}
+use Rattle.memory_picture.specs.Picture.{Memory}
 use Rattle.check_damage.specs.declared.Breach.{Breach}
 use Rattle.kernel_steps.specs.Serving.{Known}
-use Rattle.kernel_steps.specs.Steps.{Memory, Reply, reply, Step, Link, Chain, lastMemory}
+use Rattle.kernel_steps.specs.Steps.{Reply, reply, Step, Link, Chain, lastMemory}
 use Rattle.kernel_steps.specs.Written.{Lent, over, codesOf, wordsOf, answered, eventAt, EventRan, RanThrough, Room}
 use Rattle.kernel_serving.proofs.Served.{known-on}
 

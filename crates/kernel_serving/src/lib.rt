@@ -19,7 +19,8 @@ ghost use Prim.Native.Nat.{suc, _+_, _*_, _/_, _≤_};
 ghost use lib.ListN.{length, set};
 ghost use Rattle.rules.specs.Events as Events;
 ghost use Rattle.rules.specs.Events.{eventOf};
-ghost use Rattle.kernel_steps.specs.Steps.{memory, replyOf};
+ghost use Rattle.memory_picture.specs.Picture.{memory};
+ghost use Rattle.kernel_steps.specs.Steps.{replyOf};
 ghost use Rattle.kernel_steps.specs.Serving.{Serves, ServesCall};
 ghost use Rattle.kernel_steps.specs.Written.{lent, answered, ServesAt, ServesAll};
 

@@ -31,7 +31,7 @@ use Rattle.setup_plan.proofs.Plans.{whole-plan-law, plan-fits}
 use Rattle.memory_columns.specs.Layout.{stateWords, maxMessages, maxBlocks, atMost}
 use Rattle.memory_tasks.specs.Moves.{started}
 use Rattle.memory_objects.specs.Moves.{marked}
-use Rattle.memory_picture.specs.Picture.{viewShown, Shows}
+use Rattle.memory_picture.specs.Picture.{viewShown, Shows, Memory, memory}
 use Rattle.memory_picture.specs.Perform.{performed, performedMarks}
 use Rattle.memory_picture.proofs.Perform.{perform-law}
 use Rattle.kernel_fresh.specs.Laying.{inTurn, wordOfId, counted, entered, emptied, laid}
@@ -48,10 +48,10 @@ unfolding inTurn
 turn-one f n i b = refl
 
 module _ (msgs : List ℕ) where
-  holds-as : {b c : List ℕ} {v w : View} → b ≡ c → v ≡ w → Holds c msgs w → Holds b msgs v
-  holds-as {b} {c} {v} {w} e f H = subst (λ (x : List ℕ). Holds x msgs v) (sym e) (subst (λ (y : View). Holds c msgs y) (sym f) H)
+  holds-as : {b c : List ℕ} {v w : View} → b ≡ c → v ≡ w → Holds (memory c msgs) w → Holds (memory b msgs) v
+  holds-as {b} {c} {v} {w} e f H = subst (λ (x : List ℕ). Holds (memory x msgs) v) (sym e) (subst (λ (y : View). Holds (memory c msgs) y) (sym f) H)
 
-  start-holds : (i : ℕ) (b : List ℕ) (v : View) → Holds b msgs v → In i (length (v .body .tasks)) → isAbsent (task (v .body) i .state) ≡ false → Holds (started i b) msgs (act (start i) v)
+  start-holds : (i : ℕ) (b : List ℕ) (v : View) → Holds (memory b msgs) v → In i (length (v .body .tasks)) → isAbsent (task (v .body) i .state) ≡ false → Holds (memory (started i b) msgs) (act (start i) v)
   unfolding performed performedMarks viewShown
   start-holds i b v H h t =
       let S : Shows (started i b) msgs (act (start i) (viewShown b msgs)) = perform-law (start i) b msgs (H .accepted) (rw (← H .view) at h, rw (← H .view) at t) in
@@ -62,7 +62,7 @@ module _ (msgs : List ℕ) where
   abbrev NobodyWaits : View → Type 0
   NobodyWaits v = (q : ℕ) → NoneAt (v .body) pool q
 
-  mark-holds : (p k : ℕ) (b : List ℕ) (v : View) → Holds b msgs v → NobodyWaits v → In p (length (v .body .store .pools)) → In k (length (of (v .body .store .pools) p [])) → Holds (marked p k true b) msgs (act (mark p k true) v)
+  mark-holds : (p k : ℕ) (b : List ℕ) (v : View) → Holds (memory b msgs) v → NobodyWaits v → In p (length (v .body .store .pools)) → In k (length (of (v .body .store .pools) p [])) → Holds (memory (marked p k true b) msgs) (act (mark p k true) v)
   unfolding performed performedMarks viewShown
   mark-holds p k b v H n h g =
       let S : Shows (marked p k true b) msgs (act (mark p k true) (viewShown b msgs)) = perform-law (mark p k true) b msgs (H .accepted) (rw (← H .view) at h, rw (← H .view) at g) in
@@ -84,8 +84,8 @@ module _ (msgs : List ℕ) where
   kept-nobody {v} {w} K n q i = subst (λ (l : List Task). awaits (of l i nobody .state) pool q ≡ false) (sym (K .tasks)) (n q i)
 
   -- n blocks of pool p from k on
-  blocks-hold : (p n k : ℕ) (b : List ℕ) (v : View) → Holds b msgs v → NobodyWaits v → In p (length (v .body .store .pools)) → 1 ≤ k → k + n ≤ suc (length (of (v .body .store .pools) p []))
-      → Holds (inTurn (freed p) n k b) msgs (acts (map (λ j. mark p j true) (from k n)) v) × Kept v (acts (map (λ j. mark p j true) (from k n)) v)
+  blocks-hold : (p n k : ℕ) (b : List ℕ) (v : View) → Holds (memory b msgs) v → NobodyWaits v → In p (length (v .body .store .pools)) → 1 ≤ k → k + n ≤ suc (length (of (v .body .store .pools) p []))
+      → Holds (memory (inTurn (freed p) n k b) msgs) (acts (map (λ j. mark p j true) (from k n)) v) × Kept v (acts (map (λ j. mark p j true) (from k n)) v)
   unfolding inTurn acts
   blocks-hold p zero k b v H w h r e = (H, record { sizes = same-sizes (v .body); tasks = refl })
   blocks-hold p (suc n) k b v H w h r e =
@@ -103,10 +103,10 @@ module _ (msgs : List ℕ) where
   pool-words s at p b n e h = ap (λ (k : ℕ). inTurn (freed p) (atMost k maxBlocks) 1 b) (sym e) ∙ ap (λ (t : Bool). inTurn (freed p) (cond t n 0) 1 b) (le-leb n maxBlocks h)
 
   -- the pools from p on, which have l blocks
-  pools-hold : (s : List ℕ) (at : ℕ) (l : List ℕ) (p : ℕ) (b : List ℕ) (v : View) → Holds b msgs v → NobodyWaits v
+  pools-hold : (s : List ℕ) (at : ℕ) (l : List ℕ) (p : ℕ) (b : List ℕ) (v : View) → Holds (memory b msgs) v → NobodyWaits v
       → ((j : ℕ) → In j (length l) → (of l j 0 ≡ wordOfId s at 4 (p + j - 1)) × (of l j 0 ≤ maxBlocks) × (of l j 0 ≡ length (of (v .body .store .pools) (p + j - 1) [])))
       → 1 ≤ p → p + length l ≡ suc (length (v .body .store .pools))
-      → Holds (inTurn (freedPool s at) (length l) p b) msgs (acts (frees p l) v) × Kept v (acts (frees p l) v)
+      → Holds (memory (inTurn (freedPool s at) (length l) p b) msgs) (acts (frees p l) v) × Kept v (acts (frees p l) v)
   pools-hold s at [] p b v H w f r e = unfold inTurn frees acts in (H, record { sizes = same-sizes (v .body); tasks = refl })
   pools-hold s at (n ∷ l) p b v H w f r e =
       let q : p + 1 - 1 ≡ p = omega arith in
@@ -125,8 +125,8 @@ module _ (msgs : List ℕ) where
           (rw y at (z .0), z .1, rw y at (z .2) ∙ sym (K .sizes .blocks (suc p + suc j - 1)))
 
   -- a task is started or not
-  one-holds : (t : Bool) (i : ℕ) (b : List ℕ) (v : View) → Holds b msgs v → AllThere (v .body) → In i (length (v .body .tasks))
-      → Holds (cond t (started i b) b) msgs (acts (cond t (start i ∷ []) []) v) × (length (acts (cond t (start i ∷ []) []) v .body .tasks) ≡ length (v .body .tasks)) × AllThere (acts (cond t (start i ∷ []) []) v .body)
+  one-holds : (t : Bool) (i : ℕ) (b : List ℕ) (v : View) → Holds (memory b msgs) v → AllThere (v .body) → In i (length (v .body .tasks))
+      → Holds (memory (cond t (started i b) b) msgs) (acts (cond t (start i ∷ []) []) v) × (length (acts (cond t (start i ∷ []) []) v .body .tasks) ≡ length (v .body .tasks)) × AllThere (acts (cond t (start i ∷ []) []) v .body)
   unfolding acts
   one-holds true i b v H a h = (start-holds i b v H h (a i h), rw (body-act (start i) v) (sizes-after (start i) (v .body) .tasks), subst AllThere (sym (body-act (start i) v)) (start-there i (v .body) a))
   one-holds false i b v H a h = (H, refl, a)
@@ -144,9 +144,9 @@ module _ (msgs : List ℕ) where
   begun-is s at i b t e = ap (λ (x : Bool). cond x (started i b) b) (sym e)
 
   -- the tasks from id i on, whose entries are l
-  turns-hold : (s : List ℕ) (at : ℕ) (l : List Entry) (i : ℕ) (b : List ℕ) (v : View) → Holds b msgs v → AllThere (v .body)
+  turns-hold : (s : List ℕ) (at : ℕ) (l : List Entry) (i : ℕ) (b : List ℕ) (v : View) → Holds (memory b msgs) v → AllThere (v .body)
       → ((j : ℕ) (d : Entry) → In j (length l) → of l j d .started ≡ eqb (wordAt s (at + (8 * (i + j - 1 - 1) + 4))) 1)
-      → 1 ≤ i → i + length l ≡ suc (length (v .body .tasks)) → Holds (inTurn (begun s at) (length l) i b) msgs (acts (starts i l) v)
+      → 1 ≤ i → i + length l ≡ suc (length (v .body .tasks)) → Holds (memory (inTurn (begun s at) (length l) i b) msgs) (acts (starts i l) v)
   turns-hold s at [] i b v H a f r e = unfold inTurn starts acts in H
   turns-hold s at (x ∷ l) i b v H a f r e =
       let o = one-holds (x .started) i b v H a (r, omega arith) in
@@ -210,7 +210,7 @@ module _ (s : List ℕ) (u : Setup) (k : ℕ) (e : setup s ≡ got u k) (z : Lis
   abbrev freeWords : List ℕ
   freeWords = inTurn (freedPool s (plan .at .pools)) (plan .pools) 1 unstarted
 
-  fresh-over : Holds (inTurn (begun s (plan .at .tasks)) (plan .tasks) 1 freeWords) marks (fresh u)
+  fresh-over : Holds (memory (inTurn (begun s (plan .at .tasks)) (plan .tasks) 1 freeWords) marks) (fresh u)
   unfolding fresh begins
   fresh-over =
       holds-as marks (ap (λ (n : ℕ). inTurn (begun s (plan .at .tasks)) n 1 freeWords) (S .tasks)) (acts-join (frees 1 (u .pools)) (starts 1 (u .tasks)) rested)
@@ -223,39 +223,39 @@ module _ (s : List ℕ) (u : Setup) (k : ℕ) (e : setup s ≡ got u k) (z : Lis
       G : GoodSetup u
       G = setup-good s u k e
 
-      rests : Holds unstarted marks rested
+      rests : Holds (memory unstarted marks) rested
       rests = record {
         accepted = idle-accepted s u G plan S (plan-fits s 0) z hz blank marks hm unlaid;
         view = idle-shown s u G plan S (plan-fits s 0) z hz blank marks hm unlaid;
       }
 
-      freed-all : Holds freeWords marks (acts (frees 1 (u .pools)) rested) × Kept marks rested (acts (frees 1 (u .pools)) rested)
-      freed-all = subst (λ (n : ℕ). Holds (inTurn (freedPool s (plan .at .pools)) n 1 unstarted) marks (acts (frees 1 (u .pools)) rested) × Kept marks rested (acts (frees 1 (u .pools)) rested)) (sym (S .pools))
+      freed-all : Holds (memory freeWords marks) (acts (frees 1 (u .pools)) rested) × Kept marks rested (acts (frees 1 (u .pools)) rested)
+      freed-all = subst (λ (n : ℕ). Holds (memory (inTurn (freedPool s (plan .at .pools)) n 1 unstarted) marks) (acts (frees 1 (u .pools)) rested) × Kept marks rested (acts (frees 1 (u .pools)) rested)) (sym (S .pools))
           (pools-hold marks s (plan .at .pools) (u .pools) 1 unstarted rested rests (idle-nobody u) (pools-are u G plan S) (omega arith) (omega (arith, idle-pools u)))
 
       there : AllThere (acts (frees 1 (u .pools)) rested .body)
       there i r = subst (λ (l : List Task). isAbsent (of l i nobody .state) ≡ false) (sym (freed-all .1 .tasks)) (all-there u i (subst (λ (l : List Task). In i (length l)) (freed-all .1 .tasks) r))
 
-pub fresh-held : (s : List ℕ) (u : Setup) (k : ℕ) → setup s ≡ got u k → Holds (freshWords s) (replicate maxMessages 0) (fresh u)
+pub fresh-held : (s : List ℕ) (u : Setup) (k : ℕ) → setup s ≡ got u k → Holds (memory (freshWords s) (replicate maxMessages 0)) (fresh u)
 unfolding freshWords laid
 fresh-held s u k e =
     fresh-over s u k e (replicate stateWords 0) (length-replicate {A = ℕ} stateWords 0) zeros-blank (replicate maxMessages 0) (length-replicate {A = ℕ} maxMessages 0) (λ j. of-replicate maxMessages j 0)
 
 -- ---- the contract: what was judged decides
 
-module _ (s : List ℕ) (words marks : List ℕ) {j : Judged} (e : j ≡ judgedOf (setup s)) where
-  pub start-refused : (d i : ℕ) → j ≡ Bad d i → Starts s (Refused d i) words marks words marks
+module _ (s : List ℕ) (old : Memory) {j : Judged} (e : j ≡ judgedOf (setup s)) where
+  pub start-refused : (d i : ℕ) → j ≡ Bad d i → Starts s (Refused d i) old old
   unfolding Starts
   start-refused d i h = go (setup s) e
     where
-      go : (r : Read Setup) → j ≡ judgedOf r → StartsAs r (Refused d i) words marks words marks
+      go : (r : Read Setup) → j ≡ judgedOf r → StartsAs r (Refused d i) old old
       go (got u k) f = absurd (let x : _≡_ {A = ℕ} 0 1 = cc in omega arith)
-      go (refused q k) f = (cc, refl, refl)
+      go (refused q k) f = (cc, refl)
 
-  pub start-fresh : (i : ℕ) {words′ marks′ : List ℕ} → j ≡ Good i → words′ ≡ freshWords s → marks′ ≡ replicate maxMessages 0 → Starts s Fresh words marks words′ marks′
+  pub start-fresh : (i : ℕ) {words′ marks′ : List ℕ} → j ≡ Good i → words′ ≡ freshWords s → marks′ ≡ replicate maxMessages 0 → Starts s Fresh old (memory words′ marks′)
   unfolding Starts
   start-fresh i {words′} {marks′} h w m = go (setup s) refl e
     where
-      go : (r : Read Setup) → setup s ≡ r → j ≡ judgedOf r → StartsAs r Fresh words marks words′ marks′
+      go : (r : Read Setup) → setup s ≡ r → j ≡ judgedOf r → StartsAs r Fresh old (memory words′ marks′)
       go (got u k) q f = let H = fresh-held s u k q in rw (w, m) (refl, H .accepted, H .view)
       go (refused d k) q f = absurd (let x : _≡_ {A = ℕ} 0 1 = cc in omega arith)

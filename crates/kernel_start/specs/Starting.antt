@@ -11,7 +11,7 @@ use Rattle.setup_plan.specs.Layout.{planOf}
 use Rattle.memory_columns.specs.Layout.{maxBlocks, atMost}
 use Rattle.memory_tasks.specs.Moves.{started}
 use Rattle.memory_objects.specs.Moves.{marked}
-use Rattle.memory_picture.specs.Picture.{viewShown, Accepted}
+use Rattle.memory_picture.specs.Picture.{Memory, viewIn, SoundIn}
 use Rattle.kernel_start.specs.declared.Started.{Started}
 use Rattle.kernel_start.specs.declared.Started.the-variants.{Fresh, Refused}
 use Rattle.kernel_fresh.specs.Laying.{inTurn, wordOfId, laid}
@@ -19,20 +19,20 @@ use Rattle.kernel_fresh.specs.Laying.{inTurn, wordOfId, laid}
 -- ---- the contract
 
 -- A setup that is refused: its fault and place, and the memory as it was. One that is read: the memory shows the fresh state and is whole.
-abbrev pub StartsAs : Read Setup → Started → List ℕ → List ℕ → List ℕ → List ℕ → Type 0
-StartsAs (refused f place) r words marks words′ marks′ = (r ≡ Refused (digit f) place) × (words′ ≡ words) × (marks′ ≡ marks)
-StartsAs (got u end) r words marks words′ marks′ = (r ≡ Fresh) × Accepted words′ marks′ × (viewShown words′ marks′ ≡ fresh u)
+abbrev pub StartsAs : Read Setup → Started → Memory → Memory → Type 0
+StartsAs (refused f place) r old new = (r ≡ Refused (digit f) place) × (new ≡ old)
+StartsAs (got u end) r old new = (r ≡ Fresh) × SoundIn new × (viewIn new ≡ fresh u)
 
 -- the bytes, the answer, and the memory before and after
-unfoldable pub Starts : List ℕ → Started → List ℕ → List ℕ → List ℕ → List ℕ → Type 0
-Starts s r words marks words′ marks′ = StartsAs (setup s) r words marks words′ marks′
+unfoldable pub Starts : List ℕ → Started → Memory → Memory → Type 0
+Starts s r old new = StartsAs (setup s) r old new
 
 -- ---- for the contracts above
 
 -- the memory is accepted and shows the view
-pub record Holds (words marks : List ℕ) (v : View) : Type 0 where
-  pub accepted : Accepted words marks
-  pub view : viewShown words marks ≡ v
+pub record Holds (m : Memory) (v : View) : Type 0 where
+  pub accepted : SoundIn m
+  pub view : viewIn m ≡ v
 
 -- ---- what the functions write
 

@@ -13,6 +13,7 @@ ghost use mathlib.Core.Path.{_≡_};
 ghost use Prim.Native.Nat.{_≤_};
 ghost use lib.ListN.{replicate};
 ghost use Rattle.memory_columns.specs.Layout.{maxTasks, maxMessages, maxPools, maxBlocks};
+ghost use Rattle.memory_picture.specs.Picture.{memory};
 ghost use Rattle.kernel_fresh.specs.Laying.{inTurn};
 ghost use Rattle.kernel_start.specs.Starting.{freed, freedPool, begun, freshWords, Starts};
 
@@ -104,8 +105,8 @@ pub fn start(
     words: &mut [u32; STATE_WORDS],
     messages: &mut [u32; MESSAGE_WORDS],
 ) -> Started
-    ensures { λ r. ⌜ Starts (now (bytes .entry)) r (now (words .entry)) (now (messages .entry)) (now (words .exit))
-        (now (messages .exit)) ⌝ }
+    ensures { λ r. ⌜ Starts (now (bytes .entry)) r (memory (now (words .entry)) (now (messages .entry)))
+        (memory (now (words .exit)) (now (messages .exit))) ⌝ }
 {
     match setup::judge_whole(bytes) {
         Judged::Bad(d, i) => Started::Refused(d, i),

@@ -7,9 +7,10 @@ use lib.IntN.{ℤ, pos}
 use Rattle.rules.specs.Codes.{number, H-CALL}
 use Rattle.rules.specs.Events.{Event, call, above}
 use Rattle.rules.specs.View.{running}
+use Rattle.memory_picture.specs.Picture.{Memory, viewIn, SoundIn}
 use Rattle.check_damage.specs.declared.Breach.{Breach}
 use Rattle.call_words.specs.declared.Outcome.{Outcome}
-use Rattle.kernel_steps.specs.Steps.{Memory, viewIn, SoundIn, Reply, reply, unsound, Step}
+use Rattle.kernel_steps.specs.Steps.{Reply, reply, unsound, Step}
 
 -- what an event answered, and who runs after it
 abbrev pub replied : Outcome → ℕ → Reply

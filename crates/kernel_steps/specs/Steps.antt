@@ -8,25 +8,9 @@ use Rattle.rules.specs.Codes.{number, negative}
 use Rattle.rules.specs.Breach.{breach}
 use Rattle.rules.specs.Events.{Event, Words}
 use Rattle.rules.specs.Answers.{Answer}
-use Rattle.rules.specs.View.{View}
 use Rattle.rules.specs.Kernel.{event}
-use Rattle.memory_picture.specs.Picture.{viewShown, Accepted}
+use Rattle.memory_picture.specs.Picture.{Memory, viewIn, SoundIn}
 use Rattle.kernel_steps.specs.declared.Answer as Given
-
--- a lent memory: the words, and the marks of messages
-pub record Memory : Type 0 where
-  pub words : List ℕ
-  pub marks : List ℕ
-
-abbrev pub memory : List ℕ → List ℕ → Memory
-memory b m = record { words = b; marks = m }
-
--- what it shows, and that it is accepted
-abbrev pub viewIn : Memory → View
-viewIn m = viewShown (m .words) (m .marks)
-
-abbrev pub SoundIn : Memory → Type 0
-SoundIn m = Accepted (m .words) (m .marks)
 
 -- the five numbers that come back of an event
 pub record Reply : Type 0 where

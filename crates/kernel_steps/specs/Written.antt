@@ -5,9 +5,10 @@ use Prim.Native.Nat.{ℕ, _+_, _*_, _/_, _%_, _≤_}
 use lib.IntN.{ℤ, pos}
 use lib.ListN.{length, drop, getD, set}
 use Rattle.rules.specs.Events.{Event, eventOf, eventsOf}
+use Rattle.memory_picture.specs.Picture.{Memory}
 use Rattle.check_damage.specs.declared.Breach.{Breach}
 use Rattle.kernel_steps.specs.Serving.{Known}
-use Rattle.kernel_steps.specs.Steps.{Memory, Reply, Step, Link, Chain, lastMemory}
+use Rattle.kernel_steps.specs.Steps.{Reply, Step, Link, Chain, lastMemory}
 
 -- ---- what was lent
 

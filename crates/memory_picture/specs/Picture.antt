@@ -221,3 +221,18 @@ pub record Shows (b msgs : List ℕ) (v : View) : Type 0 where
 pub record Accepted (b msgs : List ℕ) : Type 0 where
   pub whole : Whole b msgs
   pub sound : Sound (viewShown b msgs)
+
+-- a lent memory: the words, and the marks of messages
+pub record Memory : Type 0 where
+  pub words : List ℕ
+  pub marks : List ℕ
+
+abbrev pub memory : List ℕ → List ℕ → Memory
+memory b m = record { words = b; marks = m }
+
+-- what it shows, and that it is accepted
+abbrev pub viewIn : Memory → View
+viewIn m = viewShown (m .words) (m .marks)
+
+abbrev pub SoundIn : Memory → Type 0
+SoundIn m = Accepted (m .words) (m .marks)

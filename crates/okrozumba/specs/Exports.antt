@@ -3,6 +3,7 @@ use mathlib.Core.List.{List}
 use mathlib.Core.Path.{_≡_}
 use Prim.Native.Nat.{ℕ, _+_}
 use lib.IntN.{ℤ}
+use Rattle.memory_picture.specs.Picture.{Memory}
 use Rattle.kernel_start.specs.Starting.{Starts}
 use Rattle.kernel_batches.specs.declared.Ran.{Ran}
 use Rattle.kernel_batches.specs.declared.Ran.the-variants as Ran
@@ -30,8 +31,8 @@ pub record Numbered {A : Type 0} (numberOf : A → ℕ) (P : A → Type 0) (n : 
   pub promised : P answer
   pub number : n ≡ numberOf answer
 
-abbrev pub StartsTold : List ℕ → ℕ → ℕ → List ℕ → List ℕ → List ℕ → List ℕ → Type 0
-StartsTold s n place words marks words′ marks′ = Numbered startNumber (λ r. Starts s r words marks words′ marks′ × (place ≡ startPlace r)) n
+abbrev pub StartsTold : List ℕ → ℕ → ℕ → Memory → Memory → Type 0
+StartsTold s n place old new = Numbered startNumber (λ r. Starts s r old new × (place ≡ startPlace r)) n
 
 abbrev pub BatchedTold : List ℤ → ℕ → Lent → Lent → Type 0
 BatchedTold events n old new = Numbered batchNumber (λ r. Batched events r old new) n

@@ -30,7 +30,8 @@ use run_tally::TASKS;
 ghost use mathlib.Core.Path.{_≡_};
 ghost use Prim.Native.Nat.{_≤_};
 ghost use Rattle.rules.specs.Events as Events;
-ghost use Rattle.kernel_steps.specs.Steps.{replyOf, Step, memory};
+ghost use Rattle.memory_picture.specs.Picture.{memory};
+ghost use Rattle.kernel_steps.specs.Steps.{replyOf, Step};
 ghost use Rattle.kernel_cells.specs.Promises.{Reads, Runs, Lists};
 ghost use Rattle.kernel_batches.specs.Batches.{lent};
 ghost use Rattle.brightness_curve.specs.Curves.{judgedOf, levelOf};
@@ -58,8 +59,8 @@ pub extern "C" fn okrozumba_start(
     words: &mut [u32; STATE_WORDS],
     messages: &mut [u32; 256],
 ) -> Outcome
-    ensures { λ r. ⌜ StartsTold (now (setup .entry)) (r .number) (r .place) (now (words .entry)) (now (messages .entry))
-        (now (words .exit)) (now (messages .exit)) ⌝ }
+    ensures { λ r. ⌜ StartsTold (now (setup .entry)) (r .number) (r .place) (memory (now (words .entry)) (now (messages .entry)))
+        (memory (now (words .exit)) (now (messages .exit))) ⌝ }
 {
     start_outcome(kernel_start::start(setup, words, messages))
 }
@@ -119,7 +120,7 @@ pub extern "C" fn okrozumba_cell(
     messages: &[u32; 256],
     task: i32,
 ) -> Reading
-    ensures { λ r. ⌜ Reads (now (words .entry)) (now (messages .entry)) task (r .code) (r .word) ⌝ }
+    ensures { λ r. ⌜ Reads (memory (now (words .entry)) (now (messages .entry))) task (r .code) (r .word) ⌝ }
 {
     kernel_cells::cell(words, messages, task)
 }
@@ -127,7 +128,7 @@ pub extern "C" fn okrozumba_cell(
 // The running task, 0 if there is none or the state is damaged.
 #[no_mangle]
 pub extern "C" fn okrozumba_running(words: &[u32; STATE_WORDS], messages: &[u32; 256]) -> u32
-    ensures { λ r. ⌜ Runs (now (words .entry)) (now (messages .entry)) r ⌝ }
+    ensures { λ r. ⌜ Runs (memory (now (words .entry)) (now (messages .entry))) r ⌝ }
 {
     kernel_cells::running(words, messages)
 }
@@ -140,7 +141,8 @@ pub extern "C" fn okrozumba_states(
     messages: &[u32; 256],
     states: &mut [u32; TASK_PLACES],
 ) -> kernel_cells::Shown
-    ensures { λ r. ⌜ Lists (now (words .entry)) (now (messages .entry)) (r .code) (r .tasks) (now (states .entry)) (now (states .exit)) ⌝ }
+    ensures { λ r. ⌜ Lists (memory (now (words .entry)) (now (messages .entry))) (r .code) (r .tasks)
+        (now (states .entry)) (now (states .exit)) ⌝ }
 {
     kernel_cells::states(words, messages, states)
 }

@@ -94,7 +94,7 @@ module _ (s : List ℕ) (i j : ℕ) (h : j ≤ length s) (events : List ℤ) (n 
     ran-answers : RanFresh (take (j - i) (drop i s)) events old new → rows (new .codes) (new .answers) n 0 ≡ map numbers (answers (fresh u) (eventsOf events))
     unfolding over
     ran-answers F =
-        let H : Holds (F .started .words) (F .started .marks) (fresh u) = start-holds (take (j - i) (drop i s)) u (j - i) (alone s i j h u e) Fresh (old .memory) (F .started) (F .starts) in
+        let H : Holds (F .started) (fresh u) = start-holds (take (j - i) (drop i s)) u (j - i) (alone s i j h u e) Fresh (old .memory) (F .started) (F .starts) in
         let R = F .ran in
         let l : List Link = R .links in
         let m : n ≡ length l = sym (events-length n events k) ∙ ap (λ (x : List Event). length x) (sym (R .events)) ∙ length-map l (λ x. x .event) in

@@ -13,9 +13,9 @@ use Rattle.rules.specs.Events.{Event}
 use Rattle.rules.specs.View.{View}
 use Rattle.rules.specs.Kernel.{fresh, event}
 use Rattle.rules.specs.Writing.{joined}
-use Rattle.memory_picture.specs.Picture.{viewShown, tasksShown}
+use Rattle.memory_picture.specs.Picture.{tasksShown, Memory, viewIn}
 use Rattle.kernel_start.specs.Starting.{Holds}
-use Rattle.kernel_steps.specs.Steps.{Reply, Step, Link, Memory}
+use Rattle.kernel_steps.specs.Steps.{Reply, Step, Link}
 use Rattle.call_words.proofs.Tasks.{tasks-count}
 use Rattle.call_reading.specs.Reading.{numberAt}
 use Rattle.call_reading.proofs.Readings.{number-read}
@@ -26,13 +26,9 @@ use Rattle.run_tally.specs.Tables.{tableCounted, codesCounted}
 use Rattle.run_text.specs.Text.{Stage, unstarted, at, onward, queues}
 use Rattle.run_figures.specs.Figures.{Seen, Figures, figures, none, counted, countedAll, stateIn, seenBehind, seenOf, seenFrom, figuresOf}
 use Rattle.run_figures.specs.Counting.{Lent, seenIn, seenLink, Went, Taken}
-use Rattle.run_figures.proofs.Going.{counted-alike, counted-append, went-append}
+use Rattle.run_figures.proofs.Going.{counted-alike, map-append, counted-append, went-append}
 
 -- ---- parts in turn
-
-map-append : (a b : List Link) → map seenLink (a ++ b) ≡ map seenLink a ++ map seenLink b
-map-append [] b = refl
-map-append (k ∷ a) b = ap (λ (l : List Seen). seenLink k ∷ l) (map-append a b)
 
 pub record Gone (l : List Item) (old new : Lent) : Type 0 where
   pub links : List Link
@@ -58,21 +54,21 @@ taken-gone (s ∷ l) old new T =
 
 -- ---- what is seen in the memory is what the rules show
 
-seen-alike : (b m : List ℕ) (v : View) → Holds b m v → (c d : ℤ) → c ≡ d → (f : Figures) → counted f (seenIn c b) ≡ counted f (seenBehind d v)
-seen-alike b m v H c d e f = subst (λ (x : View). counted f (seenIn c b) ≡ counted f (seenBehind d x)) (H .view) shown
+seen-alike : (m : Memory) (v : View) → Holds m v → (c d : ℤ) → c ≡ d → (f : Figures) → counted f (seenIn c (m .words)) ≡ counted f (seenBehind d v)
+seen-alike m v H c d e f = subst (λ (x : View). counted f (seenIn c (m .words)) ≡ counted f (seenBehind d x)) (H .view) shown
   where
-    n : length (viewShown b m .body .tasks) ≡ tasksShown b
-    n = tasks-count b m
+    n : length (viewIn m .body .tasks) ≡ tasksShown (m .words)
+    n = tasks-count (m .words) (m .marks)
 
-    state : (i : ℕ) → i < min (tasksShown b) 32 → numberAt b (suc i) ≡ stateIn (viewShown b m) (suc i)
-    state i h = sym (number-read b m (suc i) (omega arith, omega (arith, h, n)) (H .accepted))
+    state : (i : ℕ) → i < min (tasksShown (m .words)) 32 → numberAt (m .words) (suc i) ≡ stateIn (viewIn m) (suc i)
+    state i h = sym (number-read (m .words) (m .marks) (suc i) (omega arith, omega (arith, h, n)) (H .accepted))
 
-    rows : tableCounted (min (tasksShown b) 32) (λ i. numberAt b (suc i)) (f .table) ≡ tableCounted (min (length (viewShown b m .body .tasks)) 32) (λ i. stateIn (viewShown b m) (suc i)) (f .table)
+    rows : tableCounted (min (tasksShown (m .words)) 32) (λ i. numberAt (m .words) (suc i)) (f .table) ≡ tableCounted (min (length (viewIn m .body .tasks)) 32) (λ i. stateIn (viewIn m) (suc i)) (f .table)
     rows =
-        counted-alike (min (tasksShown b) 32) (λ i. numberAt b (suc i)) (λ i. stateIn (viewShown b m) (suc i)) state (f .table)
-        ∙ ap (λ (k : ℕ). tableCounted (min k 32) (λ i. stateIn (viewShown b m) (suc i)) (f .table)) (sym n)
+        counted-alike (min (tasksShown (m .words)) 32) (λ i. numberAt (m .words) (suc i)) (λ i. stateIn (viewIn m) (suc i)) state (f .table)
+        ∙ ap (λ (k : ℕ). tableCounted (min k 32) (λ i. stateIn (viewIn m) (suc i)) (f .table)) (sym n)
 
-    shown : counted f (seenIn c b) ≡ counted f (seenBehind d (viewShown b m))
+    shown : counted f (seenIn c (m .words)) ≡ counted f (seenBehind d (viewIn m))
     shown = λ z. figures (rows z) (codesCounted (f .codes) (e z))
 
 -- ---- the stages of a run
@@ -80,7 +76,7 @@ seen-alike b m v H c d e f = subst (λ (x : View). counted f (seenIn c b) ≡ co
 -- the memory is that of the stage
 abbrev Stands : Stage View → Memory → Type 0
 Stands unstarted m = Unit {0}
-Stands (at v) m = Holds (m .words) (m .marks) v
+Stands (at v) m = Holds m v
 
 -- no event comes before the setup
 abbrev Ordered : Stage View → List Item → Type 0
@@ -90,7 +86,7 @@ Ordered unstarted (occurs n e ∷ l) = ⊥
 Ordered (at v) (occurs n e ∷ l) = Ordered (at (event v e .next)) l
 Ordered x (refuses f p ∷ l) = Ordered x l
 
-step-holds : (e : Event) (v : View) (old : Memory) (r : Reply) (new : Memory) → Holds (old .words) (old .marks) v → Step e old r new → Holds (new .words) (new .marks) (event v e .next) × (r .code ≡ number (event v e .answer .code))
+step-holds : (e : Event) (v : View) (old : Memory) (r : Reply) (new : Memory) → Holds old v → Step e old r new → Holds new (event v e .next) × (r .code ≡ number (event v e .answer .code))
 step-holds e v old r new H S = (
   record { accepted = S .accepted (H .accepted); view = S .shows (H .accepted) ∙ ap (λ (x : View). event x e .next) (H .view) },
   ap (λ (x : Reply). x .code) (S .answers (H .accepted)) ∙ ap (λ (x : View). number (event x e .answer .code)) (H .view),
@@ -107,7 +103,7 @@ seen-law (occurs n e ∷ l) (at v) old new k w s o f =
     let a : Link = w .0 in
     let q = step-holds e v old (a .reply) (a .left) s (w .4) in
     ap (λ (z : List Link). countedAll f (map seenLink z)) (w .2)
-    ∙ ap (λ (g : Figures). countedAll g (map seenLink (w .1))) (seen-alike (a .left .words) (a .left .marks) (event v e .next) (q .0) (a .reply .code) (number (event v e .answer .code)) (q .1) f)
+    ∙ ap (λ (g : Figures). countedAll g (map seenLink (w .1))) (seen-alike (a .left) (event v e .next) (q .0) (a .reply .code) (number (event v e .answer .code)) (q .1) f)
     ∙ seen-law l (at (event v e .next)) (a .left) new (w .1) (w .5) (q .0) o (counted f (seenBehind (number (event v e .answer .code)) (event v e .next)))
 seen-law (refuses g p ∷ l) unstarted old new k w s o f = seen-law l unstarted old new k w s o f
 seen-law (refuses g p ∷ l) (at v) old new k w s o f = seen-law l (at v) old new k w s o f

@@ -10,13 +10,13 @@ use lib.ListN.{length, take, getD}
 use borrow.Author.Tests.{le-leb, lt-leb}
 use Rattle.rules.specs.Setup.{digit, got, setup, Setup}
 use Rattle.rules.specs.Kernel.{fresh}
-use Rattle.memory_picture.specs.Picture.{tasksShown}
+use Rattle.memory_picture.specs.Picture.{tasksShown, Memory, memory}
 use Rattle.memory_running.specs.Running.{runningOf}
 use Rattle.check_damage.specs.declared.Breach.{Breach}
 use Rattle.check_damage.specs.Judged.{Judged}
 use Rattle.kernel_start.specs.Starting.{Starts, Holds}
 use Rattle.kernel_start.specs.declared.Started.{Started}
-use Rattle.kernel_steps.specs.Steps.{Reply, Link, Memory, memory}
+use Rattle.kernel_steps.specs.Steps.{Reply, Link}
 use Rattle.kernel_steps.specs.Serving.{Known, Serves}
 use Rattle.kernel_serving.proofs.Served.{known-on, known-first}
 use Rattle.call_reading.specs.Reading.{numberAt}
@@ -53,7 +53,7 @@ count-law b code t l n s e w p q =
 
 -- ---- items behind items
 
-map-append : (a b : List Link) → map seenLink (a ++ b) ≡ map seenLink a ++ map seenLink b
+pub map-append : (a b : List Link) → map seenLink (a ++ b) ≡ map seenLink a ++ map seenLink b
 map-append [] b = refl
 map-append (k ∷ a) b = ap (λ (l : List Seen). seenLink k ∷ l) (map-append a b)
 
@@ -93,8 +93,8 @@ module _ (t : Turn) (old : Memory) (f : Figures) where
   }
 
   -- a setup
-  module _ (h : List ℕ) (end : ℕ) (r : Started) {b m : List ℕ} (S : Starts (take end h) r (old .words) (old .marks) b m) {g : Breach} (J : Judged b m (g .code) (g .id)) {me : ℕ} (e : me ≡ runningOf b) where
-    fresh-holds : (u : Setup) → setup (take end h) ≡ got u end → Holds b m (fresh u)
+  module _ (h : List ℕ) (end : ℕ) (r : Started) {b m : List ℕ} (S : Starts (take end h) r old (memory b m)) {g : Breach} (J : Judged b m (g .code) (g .id)) {me : ℕ} (e : me ≡ runningOf b) where
+    fresh-holds : (u : Setup) → setup (take end h) ≡ got u end → Holds (memory b m) (fresh u)
     unfolding Starts
     fresh-holds u q = let w = rw q at S in record { accepted = w .1; view = w .2 }
 

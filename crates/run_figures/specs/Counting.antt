@@ -8,10 +8,10 @@ use lib.IntN.{ℤ}
 use lib.ListN.{length}
 use Rattle.rules.specs.Setup.{digit}
 use Rattle.rules.specs.Kernel.{fresh}
-use Rattle.memory_picture.specs.Picture.{tasksShown}
+use Rattle.memory_picture.specs.Picture.{tasksShown, Memory}
 use Rattle.call_reading.specs.Reading.{numberAt}
 use Rattle.kernel_start.specs.Starting.{Holds}
-use Rattle.kernel_steps.specs.Steps.{Step, Link, Memory}
+use Rattle.kernel_steps.specs.Steps.{Step, Link}
 use Rattle.kernel_steps.specs.Serving.{Known}
 use Rattle.run_reading.specs.Recorded.{Item, begins, occurs, refuses}
 use Rattle.run_reading.specs.Recorder.{Recorder, closed, items, after}
@@ -43,7 +43,7 @@ seenLink k = seenIn (k .reply .code) (k .left .words)
 -- items in turn: a setup leaves its fresh state, whatever the memory held; each event makes a step, which is a link; a refusal leaves the memory as it was
 abbrev pub Went : List Item → Memory → List Link → Memory → Type 0
 Went [] old l new = (l ≡ []) × (new ≡ old)
-Went (begins h ∷ i) old l new = (m : Memory) × Holds (m .words) (m .marks) (fresh (h .setup)) × Went i m l new
+Went (begins h ∷ i) old l new = (m : Memory) × Holds m (fresh (h .setup)) × Went i m l new
 Went (occurs n e ∷ i) old l new = (k : Link) × (r : List Link) × (l ≡ k ∷ r) × (k .event ≡ e) × Step e old (k .reply) (k .left) × Went i (k .left) r new
 Went (refuses f place ∷ i) old l new = Went i old l new
 

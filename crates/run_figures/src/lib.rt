@@ -26,13 +26,12 @@ ghost use mathlib.Core.Path.{_≡_};
 ghost use Prim.Native.Nat.{ℕ, suc, _≤_, _<_, min};
 ghost use lib.Dec.{leb};
 ghost use lib.ListN.{length, getD};
-ghost use Rattle.memory_picture.specs.Picture.{tasksShown};
+ghost use Rattle.memory_picture.specs.Picture.{tasksShown, memory};
 ghost use Rattle.call_reading.specs.Reading.{numberAt};
 ghost use Rattle.run_reading.specs.Recorder.{closed};
 ghost use Rattle.run_stream.specs.declared.Completed.the-variants.{Begins, Occurs};
 ghost use Rattle.run_stream.specs.Lent.{recorderOf, Sized};
 ghost use Rattle.run_figures.specs.Figures.{Figures, figures, counted};
-ghost use Rattle.kernel_steps.specs.Steps.{memory};
 ghost use Rattle.run_figures.specs.Counting.{seenIn, lent, CountsTold, Counts};
 
 // What a part says. Its number: 0, or 1 to 4 for the run's refusal S1 to S4, with its place; 5 (S5) for a nonempty part

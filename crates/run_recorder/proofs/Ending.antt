@@ -8,6 +8,7 @@ use lib.Dec.{leb}
 use lib.ListN.{length, take}
 use borrow.Author.Tests.{le-leb, lt-leb, leb-true, leb-false}
 use Rattle.rules.specs.Setup.{Fault, S1, S2, S3, S4, digit, Read, got, refused}
+use Rattle.memory_picture.specs.Picture.{Memory}
 use Rattle.run_reading.specs.Recorded.{Head, readHead, eventBytes, eventIn, Item, begins, occurs, refuses}
 use Rattle.run_reading.specs.Recorder.{Recorder, heading, running, stopped, ended, isEnded, onEnd, atEnd}
 use Rattle.run_stream.specs.declared.Completed.the-variants.{Nothing, Begins, Occurs, Refuses}
@@ -16,7 +17,6 @@ use Rattle.run_text.specs.Lines.{refusal, longestLine}
 use Rattle.run_text.specs.Output.{Wrote}
 use Rattle.run_text.proofs.Laid.{laid-over}
 use Rattle.run_recorder.specs.declared.Parted.{Parted}
-use Rattle.kernel_steps.specs.Steps.{Memory}
 use Rattle.run_recorder.specs.Running.{Ran}
 use Rattle.run_recorder.specs.Recording.{taken, Ends, EndsRefused, EndsQuiet}
 use Rattle.run_recorder.proofs.Items.{ran-one}

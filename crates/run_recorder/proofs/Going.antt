@@ -11,7 +11,7 @@ use lib.ListN.{length, take, drop, getD, length-append, length-drop, drop-of-len
 use borrow.Rule.Slice.PartMut.{midOf, putMid}
 use borrow.Author.Tests.{le-leb, lt-leb}
 use Rattle.rules.specs.Setup.{S1, S2, S3, S4, Read, got, refused, digit}
-use Rattle.kernel_steps.specs.Steps.{Memory}
+use Rattle.memory_picture.specs.Picture.{Memory}
 use Rattle.memory_running.specs.Running.{runningOf}
 use Rattle.check_damage.specs.declared.Breach.{Breach}
 use Rattle.check_damage.specs.Judged.{Judged}

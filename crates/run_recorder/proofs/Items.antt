@@ -6,13 +6,14 @@ use native.Mathlib.Omega.{arith}
 use lib.ListN.{length, take}
 use Rattle.rules.specs.View.{running}
 use Rattle.rules.specs.Kernel.{fresh}
+use Rattle.memory_picture.specs.Picture.{Memory, memory}
 use Rattle.memory_running.specs.Running.{runningOf}
 use Rattle.memory_running.proofs.Running.{running-law}
 use Rattle.check_damage.specs.declared.Breach.{Breach}
 use Rattle.check_damage.specs.Judged.{Judged}
 use Rattle.kernel_start.specs.declared.Started.{Started}
 use Rattle.kernel_start.specs.Starting.{Starts, Holds}
-use Rattle.kernel_steps.specs.Steps.{Reply, reply, Memory, memory}
+use Rattle.kernel_steps.specs.Steps.{Reply, reply}
 use Rattle.kernel_steps.specs.Serving.{Serves}
 use Rattle.kernel_serving.proofs.Served.{known-on, known-first}
 use Rattle.kernel_demands.specs.Demands.{figures}
@@ -41,11 +42,11 @@ module _ (h : List ℕ) (f : Breach) (me : ℕ) (old : Memory) (text : List ℕ)
   unfolding laid
   plays-nothing l t K = rw t (record { line = []; ran = (refl, refl); wrote = record { holds = refl; next = refl }; short = omega arith; known = K; says = refl })
 
-  pub plays-begins : (end : ℕ) (r : Started) {b m : List ℕ} → Starts (take end h) r (old .words) (old .marks) b m → {g : Breach} → Judged b m (g .code) (g .id) → {runs : ℕ} → runs ≡ runningOf b
+  pub plays-begins : (end : ℕ) (r : Started) {b m : List ℕ} → Starts (take end h) r old (memory b m) → {g : Breach} → Judged b m (g .code) (g .id) → {runs : ℕ} → runs ≡ runningOf b
       → {text′ : List ℕ} {w : ℕ} → Wrote (startLine runs) 0 text text′ w × (w ≤ longestLine) → PlaysTold (Begins end) h f me old (memory b m) text text′ (turnOf g runs w 0 0)
   plays-begins end r {b} {m} S {g} Q {runs} e {text′} {w} W l t K =
       let x = t .0 in
-      let H : Holds b m (fresh (x .setup)) = start-holds (take end h) (x .setup) end (t .2) r old (memory b m) S in
+      let H : Holds (memory b m) (fresh (x .setup)) = start-holds (take end h) (x .setup) end (t .2) r old (memory b m) S in
       let q : runs ≡ running (fresh (x .setup)) = e ∙ running-law b m (H .accepted) ∙ ap running (H .view) in
       rw (t .1)
       (record {

@@ -10,7 +10,8 @@ use borrow.Author.Tests.{lt-leb, leb-true, leb-false}
 use Rattle.rules.specs.Setup.{S1, S2, S3, S4, Read, got, refused}
 use Rattle.rules.specs.View.{View}
 use Rattle.rules.specs.Answers.{numbers}
-use Rattle.kernel_steps.specs.Steps.{Reply, Memory}
+use Rattle.memory_picture.specs.Picture.{Memory}
+use Rattle.kernel_steps.specs.Steps.{Reply}
 use Rattle.kernel_demands.specs.Demands.{figures}
 use Rattle.kernel_demands.proofs.Chains.{step-holds, step-says}
 use Rattle.run_reading.specs.Recorded.{eventBytes, eventIn, Head, readHead, Item, begins, occurs, refuses}

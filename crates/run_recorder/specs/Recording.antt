@@ -6,6 +6,7 @@ use Prim.Native.Nat.{ℕ, _+_, _≤_, _<_}
 use lib.Dec.{leb}
 use lib.ListN.{length, take}
 use Rattle.rules.specs.Setup.{digit}
+use Rattle.memory_picture.specs.Picture.{Memory}
 use Rattle.check_damage.specs.declared.Breach.{Breach}
 use Rattle.kernel_steps.specs.Serving.{Known}
 use Rattle.run_reading.specs.Recorded.{Item, begins, occurs, refuses}
@@ -16,7 +17,6 @@ use Rattle.run_text.specs.Lines.{refusal, longestLine}
 use Rattle.run_text.specs.Output.{over, Wrote}
 use Rattle.run_recorder.specs.declared.Parted.{Parted}
 use Rattle.run_recorder.specs.declared.Turn.{Turn}
-use Rattle.kernel_steps.specs.Steps.{Memory}
 use Rattle.run_recorder.specs.Running.{Ran}
 
 -- ---- what is lent

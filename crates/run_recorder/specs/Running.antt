@@ -7,8 +7,9 @@ use Rattle.rules.specs.Setup.{digit}
 use Rattle.rules.specs.Events.{Event}
 use Rattle.rules.specs.View.{running}
 use Rattle.rules.specs.Kernel.{fresh}
+use Rattle.memory_picture.specs.Picture.{Memory}
 use Rattle.kernel_start.specs.Starting.{Holds}
-use Rattle.kernel_steps.specs.Steps.{Reply, Step, Memory}
+use Rattle.kernel_steps.specs.Steps.{Reply, Step}
 use Rattle.kernel_demands.specs.Demands.{figures}
 use Rattle.run_reading.specs.Recorded.{Item, begins, occurs, refuses}
 use Rattle.run_text.specs.Lines.{startLine, eventLine, refusal, longestLine}
@@ -21,7 +22,7 @@ pub record Answered (number : ℕ) (e : Event) (old : Memory) (text : List ℕ) 
 
 -- A setup leaves its fresh state, whatever the memory held; a refusal leaves the memory as it was.
 abbrev pub Does : Item → Memory → List ℕ → Memory → Type 0
-Does (begins h) old text new = Holds (new .words) (new .marks) (fresh (h .setup)) × (text ≡ startLine (running (fresh (h .setup))))
+Does (begins h) old text new = Holds new (fresh (h .setup)) × (text ≡ startLine (running (fresh (h .setup))))
 Does (occurs number e) old text new = Answered number e old text new
 Does (refuses f place) old text new = (new ≡ old) × (text ≡ refusal (digit f) place)
 

@@ -7,19 +7,19 @@ use lib.Dec.{leb}
 use lib.ListN.{take}
 use Rattle.rules.specs.View.{View}
 use Rattle.rules.specs.Writing.{joined}
+use Rattle.memory_picture.specs.Picture.{Memory}
 use Rattle.kernel_start.specs.Starting.{Holds}
 use Rattle.run_reading.specs.Recorded.{itemsOf}
 use Rattle.run_reading.specs.Recorder.{begun, items, after}
 use Rattle.run_text.specs.Text.{Stage, unstarted, at, stageFrom, queues, textOf, stateOf}
 use Rattle.run_recorder.specs.declared.Parted.{Parted}
-use Rattle.kernel_steps.specs.Steps.{Memory}
 use Rattle.run_stream.specs.Lent.{Said, said}
 use Rattle.run_recorder.specs.Recording.{Lent, recorderIn, taken, refusalIn, Parts, Ends}
 
 -- the memory shows where the run stands; before the start line it may hold anything
 abbrev pub Shows : Stage View → Memory → Type 0
 Shows unstarted m = Unit {0}
-Shows (at v) m = Holds (m .words) (m .marks) v
+Shows (at v) m = Holds m v
 
 -- the memory after the bytes s
 pub record Recorded (s : List ℕ) (x : Lent) : Type 0 where

@@ -21,9 +21,9 @@ use run_text::refusal_line;
 use run_text::start_line;
 ghost use Prim.Native.Nat.{_≤_};
 ghost use lib.ListN.{length};
+ghost use Rattle.memory_picture.specs.Picture.{memory};
 ghost use Rattle.run_stream.specs.declared.Completed.the-variants.{Begins, Occurs};
 ghost use Rattle.run_stream.specs.Lent.{Sized};
-ghost use Rattle.kernel_steps.specs.Steps.{memory};
 ghost use Rattle.run_recorder.specs.Recording.{lent, Parts, Ends, PlaysTold, Eats, PartsOpen, EndsRefused, EndsQuiet};
 
 // What a part or an end says. Its number: 0 all is taken, or it is the end; 1 to 4 the run's refusal S1 to S4, with its

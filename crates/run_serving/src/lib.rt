@@ -10,7 +10,8 @@ use run_reading::HEAD;
 use run_reading::signed;
 use setup_sections::word;
 ghost use lib.ListN.{take};
-ghost use Rattle.kernel_steps.specs.Steps.{memory, replyOf};
+ghost use Rattle.memory_picture.specs.Picture.{memory};
+ghost use Rattle.kernel_steps.specs.Steps.{replyOf};
 ghost use Rattle.kernel_steps.specs.Serving.{Serves};
 ghost use Rattle.run_reading.specs.Recorded.{eventBytes, eventIn};
 

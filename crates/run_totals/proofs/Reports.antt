@@ -6,6 +6,7 @@ use Prim.Native.Nat.{ℕ, zero, suc, _+_, _*_, _<_}
 use native.Mathlib.Omega.{arith}
 use lib.ListN.{getD}
 use Rattle.rules.specs.Writing.{joined}
+use Rattle.memory_picture.specs.Picture.{Memory}
 use Rattle.run_month.specs.declared.Record.{Record}
 use Rattle.run_month.specs.Monthly.{sumAt, counts, Reported}
 use Rattle.run_month.proofs.Exact.{totals-at}
@@ -13,7 +14,6 @@ use Rattle.run_tally.specs.Tables.{Flat}
 use Rattle.run_reading.specs.Recorder.{begun}
 use Rattle.run_stream.specs.Lent.{Is}
 use Rattle.run_figures.specs.Figures.{Figures, none, figuresOf}
-use Rattle.kernel_steps.specs.Steps.{Memory}
 use Rattle.run_figures.specs.Counting.{Lent, lent, Taken}
 use Rattle.run_figures.proofs.Division.{any-division}
 use Rattle.run_totals.specs.Adding.{part, ran, ranWith, RecordsOf, over}

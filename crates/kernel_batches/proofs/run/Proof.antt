@@ -1,7 +1,7 @@
 -- `kernel_batches::run` meets its contract: by whether the batch fits, and the start. Assumes nothing.
 use mathlib.Core.Path.{refl, sym, _∙_}
 use denote.Ref.{now}
-use Rattle.kernel_steps.specs.Steps.{memory}
+use Rattle.memory_picture.specs.Picture.{memory}
 use Rattle.kernel_batches.specs.declared.Batch.the-variants.{Ragged, FewCodes, FewWords}
 use Rattle.kernel_batches.specs.Batches.{lent}
 use Rattle.kernel_batches.proofs.Batches.{isDone, run-done, run-refused, run-none}

@@ -1,7 +1,7 @@
 -- `kernel_batches::run_all` meets its contract: by the check and the running task. Assumes nothing.
 use denote.Ref.{now}
+use Rattle.memory_picture.specs.Picture.{memory}
 use Rattle.kernel_serving.proofs.Served.{known-first}
-use Rattle.kernel_steps.specs.Steps.{memory}
 use Rattle.kernel_batches.specs.Batches.{lent}
 use Rattle.kernel_batches.proofs.Batches.{fit-room}
 use borrow.Author.Needs.{needs}

@@ -3,7 +3,7 @@ use mathlib.Core.Path.{refl}
 use Prim.Native.Nat.{_-_}
 use native.Mathlib.Omega.{arith}
 use borrow.Author.Needs.{needs}
-use Rattle.kernel_steps.specs.Steps.{memory}
+use Rattle.memory_picture.specs.Picture.{memory}
 use Rattle.kernel_steps.specs.Written.{lent}
 use Rattle.kernel_serving.proofs.Written.{Turning, begins, goes-on, ends}
 use Rattle.kernel_serving.proofs.serve_all.Statement.{statement}

@@ -1,5 +1,5 @@
 -- `run`: a batch from a setup by itself. Assumes nothing.
-use Rattle.kernel_steps.specs.Steps.{memory}
+use Rattle.memory_picture.specs.Picture.{memory}
 use Rattle.kernel_batches.specs.Batches.{lent}
 use Rattle.run_compare.proofs.Answers.{ran-law}
 use borrow.Author.Needs.{needs}

@@ -4,10 +4,10 @@ use Prim.Native.Nat.{ℕ, _+_, _-_, _^_, _≤_, _<_}
 use native.Mathlib.Omega.{arith}
 use borrow.Author.Needs.{needs}
 use lib.ListN.{length, take, getD}
+use Rattle.memory_picture.specs.Picture.{memory}
 use Rattle.kernel_serving.proofs.Served.{known-first}
 use Rattle.run_stream.specs.Lent.{recorderOf, said}
 use Rattle.run_figures.specs.Figures.{figures}
-use Rattle.kernel_steps.specs.Steps.{memory}
 use Rattle.run_figures.specs.Counting.{lent, firstSaid}
 use Rattle.run_figures.proofs.Going.{Reached, reached-none, reached-next, take-next, reached-all}
 use Rattle.run_figures.proofs.count.Statement.{statement}

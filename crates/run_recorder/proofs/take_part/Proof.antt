@@ -3,7 +3,7 @@ use Prim.Native.Nat.{_+_, _-_, _<_, _^_}
 use native.Mathlib.Omega.{arith}
 use lib.ListN.{length}
 use borrow.Author.Needs.{needs}
-use Rattle.kernel_steps.specs.Steps.{memory}
+use Rattle.memory_picture.specs.Picture.{memory}
 use Rattle.run_recorder.specs.Recording.{lent}
 use Rattle.run_recorder.proofs.Going.{Going, taken-length, going-first, goes-on, one-more, part-refused, part-full, part-taken}
 use Rattle.run_recorder.proofs.take_part.Statement.{statement}
