@@ -51,9 +51,9 @@ use Rattle.call_words.proofs.Verdicts.{gives-acts}
 use Rattle.call_words.proofs.Tasks.{tasks-count, task-shown, few-tasks}
 use Rattle.call_words.proofs.Performing.{shows, accepts}
 use Rattle.call_objects.proofs.Waiters.{there, anchor-is, line-is}
-use Rattle.call_flags.specs.Serving.{Walk, made, metAt, lookedAt, walked, served, leftBy}
-use Rattle.call_flags.proofs.FlagSteps.{walk-cleared}
+use Rattle.call_flag_walk.specs.Serving.{Walk, made, metAt, lookedAt, walked, served, leftBy}
+use Rattle.call_flag_walk.proofs.FlagSteps.{walk-cleared}
 use Rattle.call_flags.proofs.FlagCalls.{pattern-read}
 
 -- ---- what a waiter on a flag asks for
 

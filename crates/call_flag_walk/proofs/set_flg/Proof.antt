@@ -1,8 +1,8 @@
--- `call_flags::set_flg` meets its contract. The walk performs the acts of the rule. Assumes nothing.
-use Rattle.call_flags.proofs.FlagWalk.{set-done}
+-- `call_flag_walk::set_flg` meets its contract. The walk performs the acts of the rule. Assumes nothing.
+use Rattle.call_flag_walk.proofs.FlagWalk.{set-done}
 use borrow.Author.Needs.{needs}
-use Rattle.call_flags.proofs.set_flg.Statement.{statement}
-use Rattle.call_flags.proofs.set_flg.Tie as tie
+use Rattle.call_flag_walk.proofs.set_flg.Statement.{statement}
+use Rattle.call_flag_walk.proofs.set_flg.Tie as tie
 
 returns : tie.Need-returns
 returns c =

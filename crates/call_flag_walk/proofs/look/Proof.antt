@@ -1,9 +1,9 @@
--- `call_flags::look` meets its contract. By its test. Assumes nothing.
+-- `call_flag_walk::look` meets its contract. By its test. Assumes nothing.
 use native.Mathlib.Omega.{arith}
 use borrow.Author.Needs.{needs}
-use Rattle.call_flags.proofs.FlagSteps.{look-skips, look-serves}
-use Rattle.call_flags.proofs.look.Statement.{statement}
-use Rattle.call_flags.proofs.look.Tie as tie
+use Rattle.call_flag_walk.proofs.FlagSteps.{look-skips, look-serves}
+use Rattle.call_flag_walk.proofs.look.Statement.{statement}
+use Rattle.call_flag_walk.proofs.look.Tie as tie
 
 returns : tie.Need-returns
 returns c =

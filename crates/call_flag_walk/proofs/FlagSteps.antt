@@ -12,7 +12,7 @@ use Rattle.memory_columns.specs.Layout.{entry}
 use Rattle.memory_queues.specs.Moves.{waitAnchor}
 use Rattle.memory_waits.specs.Waits.{released}
 use Rattle.memory_columns.specs.Layout.{atMost}
-use Rattle.call_flags.specs.Serving.{Walk, made, metAt, lookedAt, walked, served}
+use Rattle.call_flag_walk.specs.Serving.{Walk, made, metAt, lookedAt, walked, served}
 
 module _ (x p k j : ℕ) (b : List ℕ) {want how : ℕ} {y : Bool} (ew : want ≡ entry Layout.wish b x) (eh : how ≡ entry Layout.mode b x) (ey : y ≡ met p want how) where
   met-is : metAt p x b ≡ y

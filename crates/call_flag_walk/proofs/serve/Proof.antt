@@ -1,13 +1,13 @@
--- `call_flags::serve` meets its contract. What is left of the walk is the same at each turn. Assumes nothing.
+-- `call_flag_walk::serve` meets its contract. What is left of the walk is the same at each turn. Assumes nothing.
 use mathlib.Core.Bool.{false}
 use Prim.Native.Nat.{_+_, _≤_}
 use mathlib.Core.Path.{_≡_, _∙_}
 use native.Mathlib.Omega.{arith}
 use borrow.Author.Needs.{needs}
-use Rattle.call_flags.specs.Serving.{made, walked, served}
-use Rattle.call_flags.proofs.FlagSteps.{walk-none, walk-ends, walk-cleared, walk-on, serve-starts}
-use Rattle.call_flags.proofs.serve.Statement.{statement}
-use Rattle.call_flags.proofs.serve.Tie as tie
+use Rattle.call_flag_walk.specs.Serving.{made, walked, served}
+use Rattle.call_flag_walk.proofs.FlagSteps.{walk-none, walk-ends, walk-cleared, walk-on, serve-starts}
+use Rattle.call_flag_walk.proofs.serve.Statement.{statement}
+use Rattle.call_flag_walk.proofs.serve.Tie as tie
 
 abbrev Inv-loop : tie.InvT-loop
 Inv-loop words₀ i pattern n x₀ count₀ looked₀ left₀ words x count looked left = (walked left n pattern x (made words count looked false) ≡ served i pattern words₀) × (count + left ≤ 32) × (looked + left ≤ 32)

@@ -1,0 +1,3 @@
+-- Laws of the walk of set_flg.
+pub mod FlagSteps
+pub mod FlagWalk
