@@ -106,6 +106,7 @@ first_told (r ∷ l) = go (bad_id r) (tried r) (first_of l) (first_told l)
 -- nothing else is the first
 first_only : (l : List Rule) (x : Breach) → First l x → first_of l ≡ x
 unfolding first_of bad_id
+first_only [] x h = elim h [ ]
 first_only (r ∷ l) x h = go (bad_id r) (tried r) h (λ f. first_only l x f)
   where
     go : (n : ℕ) → Tried r n → First (r ∷ l) x → (First l x → first_of l ≡ x) → unless n r.code (first_of l) ≡ x
@@ -118,6 +119,7 @@ first_only (r ∷ l) x h = go (bad_id r) (tried r) h (λ f. first_only l x f)
 
 -- and the rules are not all kept
 first_broken_lem : (l : List Rule) (x : Breach) → First l x → AllKept l → ⊥
+first_broken_lem [] x h k = elim h [ ]
 first_broken_lem (r ∷ l) x (inl h) k = h.1.fails (k.0 x.id h.1.there)
 first_broken_lem (r ∷ l) x (inr h) k = first_broken_lem l x h.1 k.1
 

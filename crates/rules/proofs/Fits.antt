@@ -95,10 +95,10 @@ regrade_fits i p b (waiting_suspended w) e = unready_fits i p b (rw e) (regraded
 
 -- a task that does not wait is not released; one in WAIT-SUSPEND comes into no queue
 unreleased : (c : Code) (w : ℕ) (t : Task) → is_waiting t.state ≡ false → (q : Place) → stands (released_task c w t) q ≡ stands t q
-unreleased c w t e q = ap (λ (u : Task). stands u q) (rw e)
+unreleased c w t e q = rw e
 
 released_nowhere : (c : Code) (w : ℕ) (t : Task) (x : Wait) → t.state ≡ waiting_suspended x → (q : Place) → stands (released_task c w t) q ≡ false
-released_nowhere c w t x e = nowhere _ (rw e) (λ k o. rw e)
+released_nowhere c w t x e = nowhere (released_task c w t) (rw e) (λ k o. rw e)
 
 release_fits : (i : ℕ) (c : Code) (w : ℕ) (b : Body) (s : State) → (task b i).state ≡ s → Fits b (change (released_task c w) i b) (released_move s (a_task i))
 release_fits i c w b dormant e = change_stay (released_task c w) i b (unreleased c w (task b i) (rw e))
@@ -115,12 +115,12 @@ module _ (f : State → State) (i : ℕ) (b : Body) where
 
   state_stay : ((k : Kind) (o : ℕ) → awaits (f (task b i).state) k o ≡ awaits (task b i).state k o) → is_ready (f (task b i).state) ≡ is_ready (task b i).state
       → Fits b (change by_state i b) stay
-  state_stay w r = change_stay by_state i b (stands_by _ _ w r refl)
+  state_stay w r = change_stay by_state i b (stands_by (by_state (task b i)) (task b i) w r refl)
 
 suspend_fits : (i : ℕ) (b : Body) (s : State) → (task b i).state ≡ s → Fits b (change (λ t. with_state (halted t.state) t) i b) (halted_move s (a_task i))
 suspend_fits i b dormant e = state_stay halted i b (λ k o. rw e) (rw e)
 suspend_fits i b absent e = state_stay halted i b (λ k o. rw e) (rw e)
-suspend_fits i b ready e = change_leave (λ t. with_state (halted t.state) t) i b (nowhere _ (rw e) (λ k o. rw e))
+suspend_fits i b ready e = change_leave (λ t. with_state (halted t.state) t) i b (nowhere (with_state (halted (task b i).state) (task b i)) (rw e) (λ k o. rw e))
 suspend_fits i b suspended e = state_stay halted i b (λ k o. rw e) (rw e)
 suspend_fits i b (waiting w) e = state_stay halted i b (λ k o. rw e) (rw e)
 suspend_fits i b (waiting_suspended w) e = state_stay halted i b (λ k o. rw e) (rw e)
@@ -198,24 +198,24 @@ elapse_fits b (free_in p) i = refl
 pub fits : (a : Act) (b : Body) → Fits b (after a b) (move b a)
 unfolding after move
 fits (start i) b = change_last started i b
-fits (retire i) b = change_leave retired i b (nowhere _ refl (λ k o. refl))
-fits (create i p) b = change_leave (created p) i b (nowhere _ refl (λ k o. refl))
-fits (delete i) b = change_leave (λ t. nobody) i b (nowhere _ refl (λ k o. refl))
+fits (retire i) b = change_leave retired i b (nowhere (retired (task b i)) refl (λ k o. refl))
+fits (create i p) b = change_leave (created p) i b (nowhere (created p (task b i)) refl (λ k o. refl))
+fits (delete i) b = change_leave (λ t. nobody) i b (nowhere nobody refl (λ k o. refl))
 fits (rotate i) b = λ q j e. refl
 fits (regrade i p) b = regrade_fits i p b (task b i).state refl
 fits (wait i w) b = change_last (with_state (waiting w)) i b
 fits (release i c w) b = release_fits i c w b (task b i).state refl
 fits (suspend i) b = suspend_fits i b (task b i).state refl
 fits (resume i) b = resume_fits i b (task b i).state refl
-fits (wakeups i n) b = change_stay (with_wakeups n) i b (stands_by _ _ (λ k o. refl) refl refl)
-fits (count s n) b = untouched b _ refl refl refl
-fits (pattern f n) b = untouched b _ refl refl refl
+fits (wakeups i n) b = change_stay (with_wakeups n) i b (stands_by (with_wakeups n (task b i)) (task b i) (λ k o. refl) refl refl)
+fits (count s n) b = untouched b (after (count s n) b) refl refl refl
+fits (pattern f n) b = untouched b (after (pattern f n) b) refl refl refl
 fits (post j m) b = post_fits j m b
 fits (receive j) b = receive_fits j b
 fits (mark p k t) b = mark_fits p k t b
 fits elapse b = elapse_fits b
-fits (nest h) b = untouched b _ refl refl refl
-fits (alarm k c s) b = untouched b _ refl refl refl
+fits (nest h) b = untouched b (after (nest h) b) refl refl refl
+fits (alarm k c s) b = untouched b (after (alarm k c s) b) refl refl refl
 
 -- ---- no task, no message and no block comes into being, and whoever belongs to a queue is there
 

@@ -588,14 +588,14 @@ unserved_after (release i c w) b s h p = unserved_change (released_task c w) i b
 unserved_after (suspend i) b s h p = unserved_change (λ t. with_state (halted t.state) t) i b h (λ r u. rw (halted_same (task b i).state).0 u)
 unserved_after (resume i) b s h p = unserved_change (λ t. with_state (resumed t.state) t) i b h (λ r u. rw (resumed_same (task b i).state).0 u)
 unserved_after (wakeups i n) b s h p = unserved_change (with_wakeups n) i b h (λ r u. u)
-unserved_after (count x n) b s h p = unserved_store b _ s h (λ i. count_less b i x n p.1)
-unserved_after (pattern f n) b s h p = unserved_store b _ s h (λ i. pattern_less b i f n (p.1 i))
-unserved_after (post j m) b s h p = unserved_store b _ s h (λ i. message_less b i j (some m) (λ o e. rw (← eqb-true m o e) p.1))
-unserved_after (receive j) b s h p = unserved_store b _ s h (λ i. message_less b i j none (λ o e. absurd (false≢true e)))
-unserved_after (mark q k t) b s h p = unserved_store b _ s h (λ i. mark_less b i q k t p)
+unserved_after (count x n) b s h p = unserved_store b (after (count x n) b).store s h (λ i. count_less b i x n p.1)
+unserved_after (pattern f n) b s h p = unserved_store b (after (pattern f n) b).store s h (λ i. pattern_less b i f n (p.1 i))
+unserved_after (post j m) b s h p = unserved_store b (after (post j m) b).store s h (λ i. message_less b i j (some m) (λ o e. rw (← eqb-true m o e) p.1))
+unserved_after (receive j) b s h p = unserved_store b (after (receive j) b).store s h (λ i. message_less b i j none (λ o e. absurd (false≢true e)))
+unserved_after (mark q k t) b s h p = unserved_store b (after (mark q k t) b).store s h (λ i. mark_less b i q k t p)
 unserved_after elapse b s h p =
-    unserved_store (with_tasks (map older_task b.tasks) b) _ (older_sound b s p)
+    unserved_store (with_tasks (map older_task b.tasks) b) (after elapse b).store (older_sound b s p)
     (λ i r. rw (of_map older_task b.tasks i nobody refl) (older_unserved b.store (task b i).state (h i (rw (length-map b.tasks older_task) at r))))
-    (λ i k o y m w. clock_less b i _ k o y m)
+    (λ i k o y m w. clock_less b i (after elapse b).store.clock k o y m)
 unserved_after (nest x) b s h p = h
 unserved_after (alarm k c x) b s h p = h
