@@ -16,6 +16,8 @@
 //   E x y z      the events since the last F, W or M at once, by `events`: the list x words too short, with place for y codes and z
 //                words too few
 //   R x y z n    the same by `run`, over the setup's first n bytes
+#![tactic(auto)]
+
 mod memory;
 mod text;
 mod turns;

@@ -7,6 +7,8 @@
 // functions' types and `memory_picture` for `Memory`, `view_in` and `SoundIn`, in which a promise speaks of a memory. And
 // `grep -rho 'Rattle·[a-z_]*' crates/brightness/specs crates/brightness/proofs | sort -u` lists every crate that a
 // statement or a proof here cites.
+#![tactic(auto)]
+
 ghost use Rattle.std.specs.Prelude.{◌≡◌};
 ghost use Rattle.memory_picture.specs.Picture.{memory};
 ghost use Rattle.brightness.specs.Readings.{task_word, Receives, Resumes};

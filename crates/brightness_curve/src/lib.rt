@@ -1,5 +1,7 @@
 // A brightness curve: 1 to 16 points of lux, strictly rising, and level, never falling. `judge` names the first bad point, `level_of` gives
 // the level at a lux. Any curve and any lux are taken. This crate knows nothing of the kernel.
+#![tactic(auto)]
+
 ghost use Rattle.std.specs.Prelude.{◌≡◌, ◌&&◌, ◌*◌, ◌/◌, ◌≤◌, ◌<◌};
 ghost use Rattle.brightness_curve.specs.Curves.{point, Between, between, in_range, follows, judged_of, first_of, level_on, level_of};
 ghost use Rattle.brightness_curve.specs.declared.Judged.TheVariants as Judged;

@@ -1,6 +1,8 @@
 // A light: the level that a display shows, and the task that waits for a reading. What an arrival makes of it, by its
 // code and its word: at once, or in the cell at release. Any curve, any slots, any light, any code and any word are
 // taken. This crate knows nothing of the kernel but what its codes 0 and 1 mean.
+#![tactic(auto)]
+
 ghost use Rattle.std.specs.Prelude.{◌≡◌};
 ghost use Rattle.brightness_light.specs.Lights.{is_slot, lux_at, shown, idle, first_shown, taken_of, heard_of, woken_of};
 ghost use Rattle.brightness_light.specs.declared.News.TheVariants as News;

@@ -1,4 +1,6 @@
 // The calls on alarms. `k` is an alarm that there is. The contracts speak of an accepted memory (`DoesOnWords`).
+#![tactic(auto)]
+
 ghost use Rattle.std.specs.Prelude.{◌≡◌, pos};
 ghost use Rattle.rules.specs.Alarms.{set_abs, set_rel, can_alm, alm_sts};
 ghost use Rattle.call_words.specs.Doing.{DoesOnWords};

@@ -1,6 +1,8 @@
 // A call by its number, on a memory that is known to be sound (`Dispatches`): what is judged of any call, then the
 // call's own rule. `handler` says that an open handler calls, `me` is the task that calls, 0 if none does. Each arm is
 // a row of the paper's table.
+#![tactic(auto)]
+
 pub mod numbers;
 
 ghost use Rattle.call_dispatch.specs.Dispatching.{Dispatches};

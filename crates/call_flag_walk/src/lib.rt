@@ -1,6 +1,8 @@
 // set_flg: the waiters are looked at in order, in one walk along their queue, up to the first that is released with clearing.
 // `i` is the flag that the call names. The contract speaks of an accepted memory, where what is named is there
 // (`DoesOnWords`).
+#![tactic(auto)]
+
 ghost use Rattle.std.specs.Prelude.{false, ◌≡◌, ◌≤◌, ◌+◌, pos};
 ghost use Rattle.rules.specs.State as Kind;
 ghost use Rattle.rules.specs.Objects.{set_flg};

@@ -1,6 +1,8 @@
 // The calls on flags but set_flg (crate `call_flag_walk`): what is left of each once the common refusals are out of the way
 // (crate `call_judging`). `i` is the flag that the call names. The contracts speak of an accepted memory, where what is
 // named is there (`DoesOnWords`).
+#![tactic(auto)]
+
 ghost use Rattle.std.specs.Prelude.{◌≡◌, pos};
 ghost use Rattle.rules.specs.State as Kind;
 ghost use Rattle.rules.specs.State.{on};

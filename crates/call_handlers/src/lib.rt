@@ -1,4 +1,6 @@
 // Entry and return of a handler. The contracts speak of an accepted memory (`DoesOnWords`).
+#![tactic(auto)]
+
 ghost use Rattle.rules.specs.Handling.{entered, exited};
 ghost use Rattle.call_words.specs.Doing.{Anything, DoesOnWords};
 ghost use Rattle.call_words.specs.Naming.{Runs};

@@ -1,5 +1,7 @@
 // What of a call is judged before its own rule: the words, then E_CTX, E_NOEXS of a task that is not there, E_SELF and
 // E_DMT. A refusal is its code, none is 0. The contracts speak of an accepted memory (`Judges`).
+#![tactic(auto)]
+
 ghost use Rattle.std.specs.Prelude.{◌≡◌, [], ◌∷◌, eqb, pos};
 ghost use Rattle.rules.specs.Events.{outside, above};
 ghost use Rattle.rules.specs.Rows.{T, both, unnamed, task_id, priority, queue, time, object_id, asked, mode, message, alarm_number, ticks};

@@ -1,5 +1,7 @@
 // What the calls on objects share: the first waiter (crates `call_semaphores`, `call_flags`, `call_mailboxes`, `call_pools`,
 // `call_status`).
+#![tactic(auto)]
+
 ghost use Rattle.std.specs.Prelude.{◌≡◌};
 ghost use Rattle.call_objects.specs.Waiting.{first_waiter};
 

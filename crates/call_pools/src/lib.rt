@@ -1,5 +1,7 @@
 // The calls on pools: what is left of each once the common refusals are out of the way (crate `call_judging`). `i` is the
 // object that the call names. The contracts speak of an accepted memory, where what is named is there (`DoesOnWords`).
+#![tactic(auto)]
+
 ghost use Rattle.std.specs.Prelude.{◌≡◌, pos};
 ghost use Rattle.rules.specs.State.{pool};
 ghost use Rattle.rules.specs.Objects.{polls, wait_on, take_blk, rel_blk};

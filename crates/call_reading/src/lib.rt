@@ -1,4 +1,6 @@
 // What the calls on tasks ask of a task's state.
+#![tactic(auto)]
+
 ghost use Rattle.std.specs.Prelude.{◌≡◌};
 ghost use Rattle.call_reading.specs.Reading.{waits_at, halted_at, sleeps_at, wakeups_at, number_at, turn_at};
 

@@ -1,4 +1,6 @@
 // The alarms' firing at a tick. `k` is an alarm that there is. The contracts speak of an accepted memory (`PerformsOnWords`).
+#![tactic(auto)]
+
 ghost use Rattle.std.specs.Prelude.{◌≡◌, ◌≤◌};
 ghost use Rattle.rules.specs.State.{alarm_of};
 ghost use Rattle.rules.specs.Alarms.{fired, rings};

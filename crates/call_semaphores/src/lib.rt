@@ -1,6 +1,8 @@
 // The calls on semaphores: what is left of each once the common refusals are out of the way (crate `call_judging`). `i`
 // is the object that the call names, `me` the caller. The contracts speak of an accepted memory, where what is named is
 // there (`DoesOnWords`).
+#![tactic(auto)]
+
 ghost use Rattle.std.specs.Prelude.{pos};
 ghost use Rattle.rules.specs.State as Kind;
 ghost use Rattle.rules.specs.Objects.{polls, wait_on, sig_sem, take_sem};

@@ -1,5 +1,7 @@
 // The calls that look at an object, 28 sem_sts, 29 flg_sts, 30 mbx_sts and 31 mpl_sts, once for all kinds. `i` is the
 // object that the call names. The contract speaks of an accepted memory, where what is named is there (`TellsStatus`).
+#![tactic(auto)]
+
 ghost use Rattle.std.specs.Prelude.{◌≡◌};
 ghost use Rattle.call_status.specs.Status.{stored_at, TellsStatus};
 

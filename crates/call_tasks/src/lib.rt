@@ -1,6 +1,8 @@
 // The calls on tasks and the clock: what is left of each once the common refusals are out of the way (crate
 // `call_judging`). `i` is the task that the call names, `me` the caller. The contracts speak of an accepted memory,
 // where what is named is there (`DoesOnWords`).
+#![tactic(auto)]
+
 ghost use Rattle.std.specs.Prelude.{pos};
 ghost use Rattle.rules.specs.Tasks.{starting, ext_tsk, chg_pri, rot_rdq, rel_wai, sus_tsk, rsm_tsk, get_tid, tsk_sts};
 ghost use Rattle.rules.specs.Tasks.{cre_tsk, del_tsk, exd_tsk};

@@ -1,5 +1,7 @@
 // The tick: the waits that it ends are released, then the other timed waits lose one and the clock and the counter rise, then the alarms
 // ring. The contract speaks of an accepted memory.
+#![tactic(auto)]
+
 ghost use Rattle.std.specs.Prelude.{◌≡◌, ◌≤◌};
 ghost use Rattle.rules.specs.Ids.{once};
 ghost use Rattle.rules.specs.Time.{ticked};

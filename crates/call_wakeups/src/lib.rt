@@ -1,6 +1,8 @@
 // The calls that sleep and wake: what is left of each once the common refusals are out of the way (crate `call_judging`). `i` is the task
 // that the call names, `me` the caller. The contracts speak of an accepted memory, where what is named is there
 // (`DoesOnWords`).
+#![tactic(auto)]
+
 ghost use Rattle.std.specs.Prelude.{pos};
 ghost use Rattle.rules.specs.Tasks.{waking, slp_tsk, wai_tsk, can_wup};
 ghost use Rattle.call_words.specs.Doing.{DoesOnWords};

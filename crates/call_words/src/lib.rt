@@ -1,4 +1,6 @@
 // The words of a call: what a signed word names, and what comes back: the codes by name, two words and how many tasks were released.
+#![tactic(auto)]
+
 pub mod codes;
 
 ghost use Rattle.std.specs.Prelude.{◌≡◌, pos, nat_abs};

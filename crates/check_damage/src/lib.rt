@@ -1,5 +1,7 @@
 // What is broken in a memory that is no sound state: the first rule, and the smallest id at which it is broken. It runs
 // only where the check has failed.
+#![tactic(auto)]
+
 ghost use Rattle.std.specs.Prelude.{◌≡◌, ◌≤◌};
 ghost use Rattle.rules.specs.Codes.{number};
 ghost use Rattle.rules.specs.Breach as Rules;

@@ -1,6 +1,8 @@
 // Which ids stand where in the lines of a memory that may be damaged, for any words: whether all entries are known, and
 // whether a task, a message or a free block stands where it belongs. It is plain rather than fast, since it runs on
 // damaged memories alone: each id is looked for in every line.
+#![tactic(auto)]
+
 mod lines;
 
 ghost use Rattle.std.specs.Prelude.{◌≡◌, ◌+◌, ◌≤◌, ◌<◌, ◌^◌};

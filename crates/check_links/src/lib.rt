@@ -1,6 +1,8 @@
 // The check of rings that may be damaged (crate `memory_rings` says what they are). A table says of each id to whose
 // ring it belongs. A survey walks the rings of some anchors; each id that it meets belongs there and is taken off a
 // budget, which is one more than the ids still to be met.
+#![tactic(auto)]
+
 ghost use Rattle.std.specs.Prelude.{◌≡◌, ◌+◌, ◌*◌, ◌<◌, ◌≤◌, length, ◌==◌};
 ghost use Rattle.rules.specs.Ids.{once};
 ghost use Rattle.memory_rings.specs.Links.{half, nexts, prevs, next_of, prev_of};

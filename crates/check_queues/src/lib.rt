@@ -1,6 +1,8 @@
 // The second part of the check of a memory: each task, message and free block stands where it belongs, once, and
 // nowhere else. Each ring is walked once. One set of functions serves the rings of every sort, told to whose ring each
 // id belongs: by a table of homes, or by the masks of the pools.
+#![tactic(auto)]
+
 ghost use Rattle.std.specs.Prelude.{◌≡◌, [], ◌≤◌, length};
 ghost use Rattle.memory_columns.specs.declared.Rings.TheVariants.{Tasks, Messages, Blocks};
 ghost use Rattle.memory_columns.specs.Layout as Layout;

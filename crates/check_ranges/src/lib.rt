@@ -1,5 +1,7 @@
 // The first part of the check of a memory: numbers lie in their ranges. Each task, object and message that the counts
 // name is looked at once, the interrupted task once more; each alarm, where there is a counter.
+#![tactic(auto)]
+
 ghost use Rattle.std.specs.Prelude.{◌≡◌, ◌&&◌, ◌||◌, ◌≤◌};
 ghost use Rattle.memory_columns.specs.Layout.{max_messages, max_alarms};
 ghost use Rattle.check_ranges.specs.Ranges as Ranges;

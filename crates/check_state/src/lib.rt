@@ -1,5 +1,7 @@
 // The check of a memory: is it a sound state? Rules are tried in order: ranges, queues, nobody beside what would serve him. It is
 // linear: each task, object and message that the counts name is looked at a few times, each ring is walked once.
+#![tactic(auto)]
+
 ghost use Rattle.std.specs.Prelude.{◌≡◌, true, ◌||◌, ◌↔◌, ◌≤◌, eqb};
 ghost use Rattle.memory_columns.specs.Layout.{max_messages};
 ghost use Rattle.memory_picture.specs.Picture.{Accepted};

@@ -1,6 +1,8 @@
 // What would the second setup have done in the run of the first? Reads two setups and one run from standard input, and
 // writes what differs to standard output. The memory is fixed: no more bytes are read than decide, and the output has
 // room for any text.
+#![tactic(auto)]
+
 ghost use Rattle.std.specs.Prelude.{◌≤◌, length};
 
 use libc::{STDIN_FILENO, STDOUT_FILENO};

@@ -1,5 +1,7 @@
 // The answers that are enums in Rattle, as numbers for programs in C and Rust (specs/ says which): what the exports of
 // `okrozumba` tell.
+#![tactic(auto)]
+
 ghost use Rattle.std.specs.Prelude.{◌≡◌};
 ghost use Rattle.kernel_batches.specs.Batches.{batch_number};
 ghost use Rattle.run_month.specs.Monthly.{digit};

@@ -1,5 +1,7 @@
 // Counts the recorded run on standard input, and writes one line: its 253 numbers, then its number of events and of
 // tasks, with single spaces. An input that cannot be read is named on standard error, and nothing is written.
+#![tactic(auto)]
+
 use libc::{STDIN_FILENO, STDOUT_FILENO};
 use run_files::count_file;
 use run_month::{COUNTS, Record};

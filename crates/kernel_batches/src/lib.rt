@@ -1,4 +1,6 @@
 // Many events, one after the other: the state is checked once, at the beginning, and the running task is carried from event to event.
+#![tactic(auto)]
+
 ghost use Rattle.std.specs.Prelude.{◌≡◌, length};
 ghost use Rattle.memory_picture.specs.Picture.{memory};
 ghost use Rattle.kernel_batches.specs.Batches.{fit_of, lent, RanThrough, Batched, RunsFrom};

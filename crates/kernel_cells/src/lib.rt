@@ -1,4 +1,6 @@
 // Reading a task's answer cell, the states of all tasks and the running task of a memory that may be damaged.
+#![tactic(auto)]
+
 ghost use Rattle.std.specs.Prelude.{◌≡◌, ◌≤◌, length};
 ghost use Rattle.memory_picture.specs.Picture.{memory};
 ghost use Rattle.call_reading.specs.Reading.{number_at};

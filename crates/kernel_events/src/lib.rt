@@ -1,4 +1,6 @@
 // Every event on every memory: `call`, `tick`, `enter` and `leave`. Nobody has to check first.
+#![tactic(auto)]
+
 ghost use Rattle.rules.specs.Events as Events;
 ghost use Rattle.memory_picture.specs.Picture.{memory};
 ghost use Rattle.kernel_steps.specs.Steps.{reply_of, Step};

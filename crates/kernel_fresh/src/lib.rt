@@ -1,5 +1,7 @@
 // A plan laid into the memory: the counts, the entries that the bytes of a setup have, and empty queues. No block is
 // free and no task started yet.
+#![tactic(auto)]
+
 ghost use Rattle.std.specs.Prelude.{◌≡◌, ◌+◌, ◌≤◌, ◌<◌, length};
 ghost use Rattle.rules.specs.Setup.{word_at};
 ghost use Rattle.setup_plan.specs.Layout.{plan_of, PlanFits};

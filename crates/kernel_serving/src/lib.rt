@@ -1,5 +1,7 @@
 // Events on a memory of which it is known whether it is sound and who runs: what is promised is as much as that
 // knowledge (`Serves`, `ServesAll`). `kernel_events` and `kernel_batches` look first.
+#![tactic(auto)]
+
 ghost use Rattle.std.specs.Prelude.{◌≡◌, suc, ◌+◌, ◌*◌, ◌/◌, ◌≤◌, length, set};
 ghost use Rattle.rules.specs.Events as Events;
 ghost use Rattle.rules.specs.Events.{event_of};

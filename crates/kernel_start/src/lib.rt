@@ -1,5 +1,7 @@
 // The fresh state of a setup, laid into the memory that the caller lends. The setup is judged whole before a word is written, so a
 // refusal leaves the memory as it was.
+#![tactic(auto)]
+
 ghost use Rattle.std.specs.Prelude.{◌≡◌, ◌≤◌, replicate};
 ghost use Rattle.memory_columns.specs.Layout.{max_tasks, max_messages, max_pools, max_blocks};
 ghost use Rattle.memory_picture.specs.Picture.{memory};

@@ -1,5 +1,7 @@
 // What comes back of an event: the answer to one that was served, and to one that was not because the state is damaged or
 // the context is none. specs/ has what an event makes of a memory (`Step`), and runs (`Chain`).
+#![tactic(auto)]
+
 ghost use Rattle.std.specs.Prelude.{◌≡◌, cond, ◌&&◌, ◌||◌};
 ghost use Rattle.kernel_steps.specs.Steps.{reply, reply_of};
 ghost use Rattle.kernel_steps.specs.Serving.{replied, Misnames};

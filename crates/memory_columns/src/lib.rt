@@ -1,4 +1,6 @@
 // The columns of the memory: total reads and writes by id. An id that a column does not have reads 0 and writes nothing.
+#![tactic(auto)]
+
 pub mod bits;
 
 ghost use Rattle.std.specs.Prelude.{◌≡◌, ◌+◌, ◌≤◌, get_or};

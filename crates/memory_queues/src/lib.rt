@@ -1,5 +1,7 @@
 // The queues: rings of tasks, of messages and of free blocks, over the crate `memory_rings`. One set of functions
 // serves all three; the tasks' queues have the word of nonempty ready queues beside them.
+#![tactic(auto)]
+
 ghost use Rattle.std.specs.Prelude.{◌≡◌, ◌+◌, ◌-◌, ◌≤◌, length};
 ghost use Rattle.memory_rings.specs.Columns.{col, splice};
 ghost use Rattle.memory_rings.specs.Links.{nexts, first_of, pushed, left, cleared};

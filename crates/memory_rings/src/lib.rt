@@ -1,6 +1,8 @@
 // Anchored rings: queues of ids, doubly linked. Nodes 1 to n are ids and the nodes above n anchors, one for each queue; node 0 is
 // unused. `links` holds two words for each node: the next node of node i at i, and the previous one in the second half, at N + i,
 // where N is half the length. An anchor that points to itself has an empty ring; the link 0 of an id says that it is in no ring.
+#![tactic(auto)]
+
 ghost use Rattle.std.specs.Prelude.{◌≡◌};
 ghost use Rattle.memory_rings.specs.Links.{next_of, prev_of, set_next, set_prev, pushed, pulled, left, cleared, first_of, nexts};
 

@@ -1,6 +1,8 @@
 // The best task, the head of the nonempty ready queue with the smallest priority number, by the word of nonempty
 // queues; and the running task, which is the best while no handler is open. That word as the queues have it is for the
 // check.
+#![tactic(auto)]
+
 ghost use Rattle.std.specs.Prelude.{◌≡◌, ◌≤◌};
 ghost use Rattle.rules.specs.State.{is_open};
 ghost use Rattle.memory_columns.specs.Layout.{max_priorities};

@@ -1,4 +1,6 @@
 // The acts on tasks that do not wait. Each is an act of the rules (specs/Acts.antt of `rules`), done on the memory.
+#![tactic(auto)]
+
 ghost use Rattle.std.specs.Prelude.{◌≡◌};
 ghost use Rattle.memory_tasks.specs.Moves.{celled, rotated, readied, started, retired, ranked, created, deleted, regraded};
 

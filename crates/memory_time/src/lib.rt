@@ -1,4 +1,6 @@
 // What a tick changes: each timed wait loses one, and the clock and the counter rise (`elapsed` is the three in this order).
+#![tactic(auto)]
+
 ghost use Rattle.std.specs.Prelude.{◌≡◌, pred, ◌≤◌};
 ghost use Rattle.memory_columns.specs.Layout.{max_tasks};
 ghost use Rattle.memory_time.specs.Elapsing.{aged, aged_from, aged_all, clocked, counted};

@@ -1,5 +1,7 @@
 // The acts by which a wait begins, is held up and ends. Each is an act of the rules (specs/Acts.antt of `rules`), done on the
 // memory.
+#![tactic(auto)]
+
 ghost use Rattle.std.specs.Prelude.{◌≡◌};
 ghost use Rattle.memory_waits.specs.Waits.{ended, halted, resumed, released, awaiting, slept, waited};
 

@@ -2,6 +2,8 @@
 // numbers (tasks by id, states 0 to 6), then a line for each code with its count; or the one line "T1" or "T3". A file
 // that cannot be read is named on standard error, and nothing is reported. Standard error has a line for each file that
 // is done: its name, how many events ran, and the run's refusal, if there is one.
+#![tactic(auto)]
+
 use call_words::bits_of;
 use libc::{STDERR_FILENO, STDOUT_FILENO};
 use run_files::count_file;

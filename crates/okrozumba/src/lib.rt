@@ -1,5 +1,7 @@
 // The public functions under plain names, for programs in C and Rust: include/okrozumba.h declares them. Each promises what the
 // function that it wraps promises; an answer that is an enum there is told by its number and place here (specs/, and `export_numbers`).
+#![tactic(auto)]
+
 pub mod compare;
 
 ghost use Rattle.std.specs.Prelude.{◌≡◌, ◌≤◌};

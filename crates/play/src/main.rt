@@ -1,5 +1,7 @@
 // Plays the recorded run on standard input as it comes: each read is a part, and its lines are written at once. The
 // memory is fixed, however long the input is. After a refusal nothing more is read.
+#![tactic(auto)]
+
 ghost use Rattle.std.specs.Prelude.{◌≤◌, length};
 
 use libc::{STDIN_FILENO, STDOUT_FILENO};

@@ -1,6 +1,8 @@
 // What does a changed setup change? Two setups and one run, from the bytes of the input to the bytes of the text. All
 // of it is judged before anything runs; then the events run as a batch from each setup. The contracts cite
 // `difference_of`, the text that the rules give from the bytes alone.
+#![tactic(auto)]
+
 ghost use Rattle.std.specs.Prelude.{map, ◌++◌, ◌≡◌, ◌+◌, ◌*◌, ◌≤◌, length, drop};
 ghost use Rattle.run_reading.specs.Recorded.{signed_word};
 ghost use Rattle.run_compare_reading.specs.Compared.{words_from};

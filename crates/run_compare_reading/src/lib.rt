@@ -1,5 +1,7 @@
 // The reader of two setups and one run: all of it is judged before anything runs. The contracts cite `compared`, whose
 // places are counted from the input's start.
+#![tactic(auto)]
+
 ghost use Rattle.std.specs.Prelude.{◌≡◌};
 ghost use Rattle.rules.specs.Setup.{at_end};
 ghost use Rattle.setup_sections.specs.Judging.{judged_of};

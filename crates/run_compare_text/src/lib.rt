@@ -1,6 +1,8 @@
 // The text of what differs between two runs of the same events, in a lent output: of each event at which their answers
 // differ the two lines, then the number of such events; or the line of a refusal. Behind the output's end nothing is
 // written and the places are counted all the same: so the length of a text is known before a byte of it is written.
+#![tactic(auto)]
+
 ghost use Rattle.std.specs.Prelude.{◌≡◌, [], ◌∷◌, ◌++◌, ◌+◌, ◌*◌, ◌≤◌, ◌<◌, length};
 ghost use Rattle.run_text.specs.Lines.{event_line, refusal, count_line};
 ghost use Rattle.run_text.specs.Output.{Wrote};

@@ -1,6 +1,8 @@
 // The figures of a recorded run, counted as it is taken in parts of any size: after how many events each task was in
 // each state, and how often each code came back. All of it lies in memory that the caller lends, and any content of
 // that memory is a value. The kernel's memory is checked once in a part.
+#![tactic(auto)]
+
 ghost use Rattle.std.specs.Prelude.{cond, ◌&&◌, List, ◌≡◌, ℕ, suc, ◌≤◌, ◌<◌, min, leb, length, get_or};
 ghost use Rattle.memory_picture.specs.Picture.{tasks_shown, memory};
 ghost use Rattle.call_reading.specs.Reading.{number_at};

@@ -1,5 +1,7 @@
 // A recorded run read from an open file to its end, and counted. No contract can say what is read; what comes of the
 // bytes is said in `run_figures`.
+#![tactic(auto)]
+
 use memory_columns::{MESSAGE_WORDS, STATE_WORDS, system};
 use run_figures::{Counted, count};
 use run_month::Record;

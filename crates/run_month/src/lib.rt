@@ -1,6 +1,8 @@
 // The figures of a month: the records of up to 64 runs summed, number by number. A record is a struct, and the month a
 // lent slice of them: `total` and `month` are thin and walked by hand, and leave the sums to functions on plain
 // numbers. The contract of `month` cites `totals`, the exact sums.
+#![tactic(auto)]
+
 ghost use Rattle.std.specs.Prelude.{◌≡◌, true, length};
 ghost use Rattle.run_month.specs.Capped.{capped, none, plus_of, total_of};
 ghost use Rattle.run_month.specs.Monthly.{fits, digit, refusal, report_of, Reported};

@@ -1,6 +1,8 @@
 // The bytes of a recorded run: the setup and the count of events are judged as they stand, and an event's words are
 // signed ones. The contracts cite `read_head` and `signed_word`. That the bytes may come in parts is said and proved here
 // without code (`Recorder`, `any_division`).
+#![tactic(auto)]
+
 ghost use Rattle.std.specs.Prelude.{◌≡◌};
 ghost use Rattle.setup_sections.specs.Judging.{judged_of};
 ghost use Rattle.run_reading.specs.Recorded.{signed_word, read_head};

@@ -1,6 +1,8 @@
 // A recorded run that is taken as it comes, in parts of any size: `begin`, `part`, `end`. All of it lies in memory that
 // the caller lends, and any content of that memory is a value. Each whole event runs at once and writes its line. The
 // kernel's memory is checked once in a part.
+#![tactic(auto)]
+
 ghost use Rattle.std.specs.Prelude.{◌≤◌, length};
 ghost use Rattle.memory_picture.specs.Picture.{memory};
 ghost use Rattle.run_stream.specs.declared.Completed.TheVariants.{Begins, Occurs};

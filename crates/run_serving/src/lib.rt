@@ -1,5 +1,7 @@
 // The event whose bytes a recorder holds, served. Whoever takes a recorded run in parts, for its text or for its
 // figures, runs its events by this function.
+#![tactic(auto)]
+
 ghost use Rattle.std.specs.Prelude.{take};
 ghost use Rattle.memory_picture.specs.Picture.{memory};
 ghost use Rattle.kernel_steps.specs.Steps.{reply_of};

@@ -1,6 +1,8 @@
 // A recorder's own memory, five numbers and the bytes held: what each byte of a recorded run completes, and what its
 // end does. Any numbers and bytes are a recorder (`recorder_of`). Setup and count are judged anew after each byte, by
 // the reader of whole ones; an event's bytes are held until it is whole.
+#![tactic(auto)]
+
 ghost use Rattle.std.specs.Prelude.{[], ◌∷◌, ◌++◌, ◌≡◌, ◌+◌, ◌-◌, ◌≤◌, ◌<◌, min, length, take};
 ghost use Rattle.run_reading.specs.Recorder.{ended, begun, closed, is_ended, at_input_end};
 ghost use Rattle.run_stream.specs.Lent.{phase, size, place_of, numbers_of, recorder_of, Is, Tests, Tells, Takes};

@@ -1,5 +1,7 @@
 // Counts on plain numbers: a table of 32 tasks by seven states, passed and returned by value, in which one cell is
 // raised for each task after each event; and one count for each code. A full count stays.
+#![tactic(auto)]
+
 ghost use Rattle.std.specs.Prelude.{◌≡◌, ◌≤◌, min, get_or};
 ghost use Rattle.run_tally.specs.Tables.{more, place_of, table_counted, codes_counted, FlatStates, Flat};
 

@@ -1,6 +1,8 @@
 // Text in a lent output, line by line. Each function writes from a place on, the lines from the front, and gives the
 // place behind what it wrote. Behind the output's end nothing is written and the places are counted all the same: so
 // the length of a line is known before a byte of it is written.
+#![tactic(auto)]
+
 ghost use Rattle.std.specs.Prelude.{◌≡◌, [], ◌∷◌, ◌+◌, ◌≤◌, min, pos, set};
 ghost use Rattle.run_text.specs.Lines.{decimal, signed, start_line, event_line, refusal, count_line, longest_line};
 ghost use Rattle.run_text.specs.Output.{laid, Wrote};

@@ -1,5 +1,7 @@
 // A whole setup, judged without keeping it: section after section. The contracts cite the rules' own reader (`read_setup`, `setup`), for
 // any bytes and any offset.
+#![tactic(auto)]
+
 ghost use Rattle.std.specs.Prelude.{◌≡◌, [], ◌∷◌};
 ghost use Rattle.rules.specs.Setup.{word_at, to, section, counters, read_entry, read_section};
 ghost use Rattle.rules.specs.Setup.{read_with, read_setup, perhaps, setup};

@@ -1,4 +1,6 @@
 // Where the parts of a setup lie, by counts and offsets, once its bytes are accepted.
+#![tactic(auto)]
+
 ghost use Rattle.std.specs.Prelude.{◌≡◌, ◌≤◌};
 ghost use Rattle.setup_plan.specs.Layout.{count_at, part_at, plan_of};
 

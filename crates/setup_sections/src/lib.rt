@@ -1,5 +1,7 @@
 // The bytes of a setup up to a section: words, entries and counts with their entries, judged without keeping them. The contracts
 // cite the rules' own reader, for any bytes and any offset.
+#![tactic(auto)]
+
 ghost use Rattle.std.specs.Prelude.{◌≡◌, ◌+◌, ◌<◌, leb, length, get_or, replicate};
 ghost use Rattle.rules.specs.Setup.{S3, word_at, to, section, read_word, read_entry, read_entries, read_section};
 ghost use Rattle.setup_sections.specs.Judging.{onward, judged_of, told_as, ranges_of};
