@@ -32,7 +32,7 @@ pub fn field(name: &[u8], x: u32) {
 
 // A number of a line is looked for: how many end before it or with it, whether the last byte was a digit, a minus before the digits so
 // far, and what they are worth.
-#[derive(Drop)]
+#[derive(Clone, Copy)]
 struct Scan {
     left: u32,
     inside: bool,

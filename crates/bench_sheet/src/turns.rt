@@ -103,7 +103,7 @@ fn tell(r: Answer, same: bool) {
 }
 
 // What comes of a line, and how many events stand in the list then.
-#[derive(Drop)]
+#[derive(Clone, Copy)]
 struct Turn {
     answer: Answer,
     n: usize,

@@ -14,7 +14,7 @@ const MAX_LEVEL: u32 = 255;
 
 // The first `count` points count; what stands behind them is no part of the curve.
 #[repr(C)]
-#[derive(Drop)]
+#[derive(Clone, Copy)]
 pub struct Curve {
     pub count: u32,
     pub lux: [u32; 16],
@@ -22,14 +22,14 @@ pub struct Curve {
 }
 
 // Good, or the first bad point, counted from 1; 0 for a bad count.
-#[derive(Drop)]
+#[derive(Clone, Copy)]
 pub enum Judged {
     Good,
     BadPoint(u32),
 }
 
 // The level at a lux, or the curve's first bad point.
-#[derive(Drop)]
+#[derive(Clone, Copy)]
 pub enum Leveled {
     Level(u32),
     BadPoint(u32),

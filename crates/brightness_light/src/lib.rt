@@ -19,14 +19,14 @@ const MAX_SLOTS: usize = 256;
 
 // The task that waits for a reading, 0 if none does.
 #[repr(C)]
-#[derive(Drop)]
+#[derive(Clone, Copy)]
 pub struct Light {
     pub level: u32,
     pub waits: u32,
 }
 
 // What became of an arrival.
-#[derive(Drop)]
+#[derive(Clone, Copy)]
 pub enum News {
     // the level is the curve's at the reading
     Set,
@@ -40,7 +40,7 @@ pub enum News {
     BadCurve(u32),
 }
 
-#[derive(Drop)]
+#[derive(Clone, Copy)]
 pub struct Shown {
     pub light: Light,
     pub news: News,

@@ -21,7 +21,7 @@ use memory_queues::{follow, wait_anchor};
 use memory_waits::release;
 
 // How many tasks are released so far, how many were looked at, and whether the last one cleared the pattern.
-#[derive(Drop)]
+#[derive(Clone, Copy)]
 struct Walked {
     released: u32,
     looked: u32,

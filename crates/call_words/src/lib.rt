@@ -41,7 +41,7 @@ pub fn unsigned(z: i32) -> u32
 
 // ---- what a call answers
 
-#[derive(Drop)]
+#[derive(Clone, Copy)]
 pub struct Outcome {
     pub code: i32,
     pub w1: u32,

@@ -41,7 +41,7 @@ const RULES: u32 = 4;
 pub const SOUND: i32 = 0;
 
 // The code of the rule that is broken, and the id at which it is, 0 for H_NUMBER.
-#[derive(Drop)]
+#[derive(Clone, Copy)]
 pub struct Breach {
     pub code: i32,
     pub id: u32,

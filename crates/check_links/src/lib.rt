@@ -17,7 +17,7 @@ const BITS: usize = 32;
 const MOST: usize = 134217727;
 
 // What a table has as its entries.
-#[derive(Drop)]
+#[derive(Clone, Copy)]
 pub enum Table {
     // for each id the home, which is so much less than the anchor of its ring; 0 if it belongs to none
     Homes(u32),

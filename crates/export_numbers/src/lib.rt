@@ -19,7 +19,7 @@ use run_month::Reporting;
 
 // An enum's number; and the place of a setup's fault, else 0.
 #[repr(C)]
-#[derive(Drop)]
+#[derive(Clone, Copy)]
 pub struct Outcome {
     pub number: u32,
     pub place: usize,
@@ -66,7 +66,7 @@ pub fn report_number(r: Reporting) -> u32
 
 // 0: the text stands at the front of the output, so many bytes. 1: it takes so many, and the output is as it was.
 #[repr(C)]
-#[derive(Drop)]
+#[derive(Clone, Copy)]
 pub struct Comparison {
     pub number: u32,
     pub length: usize,
@@ -85,7 +85,7 @@ pub fn in_numbers(told: Told) -> Comparison
 
 // Whether a curve is good, 0, or bad, 1; and the first bad point.
 #[repr(C)]
-#[derive(Drop)]
+#[derive(Clone, Copy)]
 pub struct Judgement {
     pub number: u32,
     pub point: u32,
@@ -105,7 +105,7 @@ pub fn judged_told(judged: Judged) -> Judgement
 
 // 0 and a level; or 1 and the curve's first bad point.
 #[repr(C)]
-#[derive(Drop)]
+#[derive(Clone, Copy)]
 pub struct Level {
     pub number: u32,
     pub value: u32,
@@ -122,7 +122,7 @@ pub fn leveled_told(leveled: Leveled) -> Level
 
 // A light, the number of what became of an arrival, and the curve's first bad point.
 #[repr(C)]
-#[derive(Drop)]
+#[derive(Clone, Copy)]
 pub struct Display {
     pub light: Light,
     pub news: u32,

@@ -14,7 +14,7 @@ use memory_running::running_task;
 
 // Done, or why nothing ran: the event words are no multiple of five; there is no place for each code; or for each event's four words.
 // The first that applies is said.
-#[derive(Drop)]
+#[derive(Clone, Copy)]
 pub enum Batch {
     Done,
     Ragged,
@@ -23,7 +23,7 @@ pub enum Batch {
 }
 
 // Done, or why nothing ran: as a batch; then the setup's fault and its place.
-#[derive(Drop)]
+#[derive(Clone, Copy)]
 pub enum Ran {
     Done,
     Unfit(Batch),

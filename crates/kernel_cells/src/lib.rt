@@ -23,7 +23,7 @@ pub const TASK_PLACES: usize = 32;
 
 // An answer cell: code and word.
 #[repr(C)]
-#[derive(Drop)]
+#[derive(Clone, Copy)]
 pub struct Reading {
     pub code: i32,
     pub word: u32,
@@ -87,7 +87,7 @@ pub fn running(words: &[u32; STATE_WORDS], messages: &[u32; 256]) -> u32
 
 // 0, or the code of what is broken; and how many tasks there are.
 #[repr(C)]
-#[derive(Drop)]
+#[derive(Clone, Copy)]
 pub struct Shown {
     pub code: i32,
     pub tasks: u32,

@@ -49,7 +49,7 @@ fn lay_counts(words: &mut [u32; STATE_WORDS], p: Plan)
 // ---- entries: the first lies at the offset `at`
 
 // The sections that have entries; those of the counter's are its alarms.
-#[derive(Drop)]
+#[derive(Clone, Copy)]
 enum Section {
     Tasks,
     Semaphores,

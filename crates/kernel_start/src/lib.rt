@@ -15,7 +15,7 @@ use memory_tasks::begin;
 use setup_sections::Judged;
 
 // Fresh: the memory holds the fresh state. Refused: fault digit and place; the memory is as it was.
-#[derive(Drop)]
+#[derive(Clone, Copy)]
 pub enum Started {
     Fresh,
     Refused(u32, usize),

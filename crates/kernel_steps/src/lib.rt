@@ -12,7 +12,7 @@ use check_damage::{Breach, SOUND};
 
 // What comes back of an event: code, two words, the running task after it, and the number of tasks released.
 #[repr(C)]
-#[derive(Drop)]
+#[derive(Clone, Copy)]
 pub struct Answer {
     pub code: i32,
     pub w1: u32,

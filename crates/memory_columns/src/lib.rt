@@ -9,7 +9,7 @@ ghost use Rattle.memory_columns.specs.Layout as Layout;
 ghost use Rattle.memory_columns.specs.Layout.{state_words, entry, put, at_most};
 
 // The rings in which tasks, messages and free blocks stand.
-#[derive(Drop)]
+#[derive(Clone, Copy)]
 pub enum Rings {
     Tasks,
     Messages,

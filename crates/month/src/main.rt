@@ -16,7 +16,7 @@ const MOST_WORD: u32 = 4294967295;
 const NEGATIVE: u32 = 2147483648;
 
 // The sum so far, and whether every file was read.
-#[derive(Drop)]
+#[derive(Clone, Copy)]
 struct Summed {
     sum: Sum,
     is_read: bool,

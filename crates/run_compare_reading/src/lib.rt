@@ -22,7 +22,7 @@ pub const INPUT: usize = 2 * HEAD + EVENT * EVENTS;
 const MOST_WORD: u32 = 4294967295;
 
 // The digit of the first fault and its place; or where the second setup begins, and where the count of events stands.
-#[derive(Drop)]
+#[derive(Clone, Copy)]
 pub enum Places {
     Bad(u32, usize),
     Good(usize, usize),

@@ -20,7 +20,7 @@ pub const TEXT: usize = 366005;
 pub const WORDS_OF_ANSWER: usize = 4;
 
 // Written: the text stands in the first bytes of the output, so many of them. Short: it takes so many, and the output is as it was.
-#[derive(Drop)]
+#[derive(Clone, Copy)]
 pub enum Told {
     Written(usize),
     Short(usize),
@@ -28,7 +28,7 @@ pub enum Told {
 
 // ---- an answer
 
-#[derive(Drop)]
+#[derive(Clone, Copy)]
 struct Row {
     code: i32,
     w1: u32,
@@ -96,7 +96,7 @@ fn both_lines(text: &mut [u8], at: usize, i: u32, a: Row, b: Row) -> usize
 }
 
 // The place behind what is written, and how many events that is of.
-#[derive(Drop)]
+#[derive(Clone, Copy)]
 struct Listed {
     at: usize,
     events: u32,

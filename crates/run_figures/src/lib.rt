@@ -24,7 +24,7 @@ use run_tally::{CODES, STATES, TASKS, codes_counted, table_counted};
 // What a part says. Its number: 0, or 1 to 4 for the run's refusal S1 to S4, with its place; 5 (S5) for a nonempty part
 // behind the end or a refusal.
 #[repr(C)]
-#[derive(Drop)]
+#[derive(Clone, Copy)]
 pub struct Counted {
     pub number: u32,
     pub place: usize,
@@ -33,7 +33,7 @@ pub struct Counted {
 const S5: u32 = 5;
 
 // What came of a byte: what is known of the memory now, who runs, and the run's refusal, if it was that.
-#[derive(Drop)]
+#[derive(Clone, Copy)]
 struct Turn {
     found: Breach,
     me: u32,

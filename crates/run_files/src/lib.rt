@@ -11,7 +11,7 @@ use run_tally::{CODES, STATES, TASKS, flat};
 
 // What became of a file: its record, how many events ran and how many tasks its setup has; the run's refusal, fault and
 // place, or 0; and whether all of it was read.
-#[derive(Drop)]
+#[derive(Clone, Copy)]
 pub struct Run {
     pub record: Record,
     pub events: u64,
@@ -22,7 +22,7 @@ pub struct Run {
 }
 
 // What came of a part: its refusal, if it was that; whether there is more; whether the file could be read.
-#[derive(Drop)]
+#[derive(Clone, Copy)]
 struct Part {
     number: u32,
     place: usize,

@@ -18,20 +18,20 @@ const BEYOND: u64 = 4294967296;
 
 // What one run comes to: of each task, by id, after how many events it was in each state, 0 to 6; then how often each code came back.
 #[repr(C)]
-#[derive(Drop)]
+#[derive(Clone, Copy)]
 pub struct Record {
     pub counts: [u32; COUNTS],
 }
 
 // Sums of so many numbers, each of which stops at 2^32.
-#[derive(Drop)]
+#[derive(Clone, Copy)]
 pub struct Sum {
     pub sums: [u64; COUNTS],
 }
 
 // Done, or why there is no report: T1 more than 64 records, T2 an output of another length than 253, T3 a total beyond
 // 2^32 - 1. The first that applies is said.
-#[derive(Drop)]
+#[derive(Clone, Copy)]
 pub enum Reporting {
     Done,
     Many,

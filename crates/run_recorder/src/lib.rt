@@ -21,7 +21,7 @@ use run_text::{LINE, event_line, refusal_line, start_line};
 // place; 5 (S5) a part or an end that is not taken any more; 6 there is no room for the next line. Then how many bytes
 // of the part were taken, and how many of text were written.
 #[repr(C)]
-#[derive(Drop)]
+#[derive(Clone, Copy)]
 pub struct Parted {
     pub number: u32,
     pub place: usize,
@@ -39,7 +39,7 @@ const FULL: u32 = 6;
 const NONE_TAKEN: usize = 0;
 
 // What came of a byte: what is known of the memory now, who runs, how much was written, and the run's refusal, if it was that.
-#[derive(Drop)]
+#[derive(Clone, Copy)]
 struct Turn {
     found: Breach,
     me: u32,

@@ -41,7 +41,7 @@ const S4: u32 = 4;
 const WORD: usize = 4;
 
 // What a byte, or the end, completes: the setup and the count, with the setup's length; an event by its number; a refusal, fault and place.
-#[derive(Drop)]
+#[derive(Clone, Copy)]
 pub enum Completed {
     Nothing,
     Begins(usize),

@@ -8,7 +8,7 @@ use setup::{COUNTERS, FLAGS, MAILBOXES, MESSAGES, POOLS, PRIORITIES, SEMAPHORES,
 use setup_sections::{onward, word};
 
 // A section by the offset of its count: how many it counts, where its first entry lies, and where the next section begins.
-#[derive(Drop)]
+#[derive(Clone, Copy)]
 struct Part {
     count: u32,
     first: usize,
@@ -16,7 +16,7 @@ struct Part {
 }
 
 // The offsets of the first entries.
-#[derive(Drop)]
+#[derive(Clone, Copy)]
 pub struct Offsets {
     pub tasks: usize,
     pub semaphores: usize,
@@ -26,7 +26,7 @@ pub struct Offsets {
 }
 
 // What the counts of a setup say, and where the entries lie.
-#[derive(Drop)]
+#[derive(Clone, Copy)]
 pub struct Plan {
     pub priorities: u32,
     pub tasks: u32,

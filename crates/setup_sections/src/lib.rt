@@ -64,21 +64,21 @@ pub fn onward(bytes: &[u8], at: usize, n: usize) -> usize
 // ---- sections
 
 // The digit of the first fault and its place, or the offset behind what was read.
-#[derive(Drop)]
+#[derive(Clone, Copy)]
 pub enum Judged {
     Bad(u32, usize),
     Good(usize),
 }
 
 // From the least to the most.
-#[derive(Drop)]
+#[derive(Clone, Copy)]
 pub struct Span {
     pub least: u32,
     pub most: u32,
 }
 
 // The words of an entry: how many, the range of the first, and that of each further one.
-#[derive(Drop)]
+#[derive(Clone, Copy)]
 pub struct Shape {
     pub words: u32,
     pub first: Span,
