@@ -1,0 +1,13 @@
+-- `call_flag_walk::look` meets its contract. By its test. Assumes nothing.
+use native.Mathlib.Omega.{arith}
+use borrow.Author.Rules.{rules}
+use Rattle.call_flag_walk.proofs.FlagSteps.{look_skips, look_serves}
+use Rattle.call_flag_walk.proofs.look.Goals as goal
+
+pub returns-then-not-meets : goal.returns-then-not-meets
+returns-then-not-meets c =
+    (look_skips _ _ _ _ _ c.wish-want.ensures c.mode-how.ensures c.meets.ensures c.if-not-meets.true, (omega arith, omega arith))
+
+pub returns : goal.returns
+returns c =
+    (look_serves _ _ _ _ _ c.wish-want.ensures c.mode-how.ensures c.meets.ensures c.if-not-meets.false c.release.ensures, (omega arith, omega arith))
