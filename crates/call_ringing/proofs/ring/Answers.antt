@@ -13,7 +13,7 @@ pub loop-left-preserved : goal.loop-left-preserved
 loop-left-preserved c =
     let h = c.loop-left.invariant in
     let r = c.fire-count.ensures in
-    (ring_step _ _ _ _ _ c.loop-left-test.true h.1 (omega (arith, h.2)) r.0 h.0, omega arith, omega (arith, h.2, r.1))
+    (ring_step _ _ _ _ _ c.loop-left-test.true h.1 (omega (arith, h.2)) r.performs_on_words h.0, omega arith, omega (arith, h.2, r.upper_bound))
 
 pub returns : goal.returns
-returns c = let h = c.loop-left.invariant in (ring_ends _ _ _ _ _ c.loop-left-test.false h.0, omega (arith, h.1, h.2))
+returns c = let h = c.loop-left.invariant in record { performs_on_words = ring_ends _ _ _ _ _ c.loop-left-test.false h.0; upper_bound = omega (arith, h.1, h.2) }

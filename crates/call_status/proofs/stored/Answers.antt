@@ -4,6 +4,7 @@ use borrow.Author.Tests.{ne_eqb}
 use Rattle.call_pools.specs.Blocks.{bit_count}
 use Rattle.call_status.specs.Status.{stored_at}
 use borrow.Author.Rules.{rules}
+use Rattle.std.proofs.Common.{arith}
 use Rattle.call_status.proofs.stored.Goals as goal
 
 pub returns-in-2 : goal.returns-in-2
@@ -21,5 +22,4 @@ returns-in-4 c = rw c.in-4.is c.first_message.ensures
 pub returns-in_default : goal.returns-in_default
 unfolding stored_at
 returns-in_default c =
-    let other = c.in-2.rest in
-    rw (ne_eqb _ 2 other.0.0.1, ne_eqb _ 3 other.0.1, ne_eqb _ 4 other.1) (c.count_blocks.ensures ∙ ap (bit_count 32) c.free.ensures)
+    rw (ne_eqb c.args.kind 2 (omega arith), ne_eqb c.args.kind 3 (omega arith), ne_eqb c.args.kind 4 (omega arith)) (c.count_blocks.ensures ∙ ap (bit_count 32) c.free.ensures)
