@@ -194,10 +194,12 @@ Ahead j k [] = ⊥
 Ahead j k (x ∷ l) = ((x ≡ j) × (times k l ≢ 0)) ⊎ Ahead j k l
 
 ahead_stands : (j k : ℕ) (l : List ℕ) → Ahead j k l → times k l ≢ 0
+ahead_stands j k [] h = elim h [ ]
 ahead_stands j k (x ∷ l) (inl h) = times_tail x k l h.1
 ahead_stands j k (x ∷ l) (inr h) = times_tail x k l (ahead_stands j k l h)
 
 ahead_more : (j k x : ℕ) (l : List ℕ) → Ahead j k l → Ahead j k (l ++ x ∷ [])
+ahead_more j k x [] h = elim h [ ]
 ahead_more j k x (y ∷ l) (inl h) = inl (h.0, rw (times_append k l (x ∷ [])) (λ z. h.1 (omega (arith, z))))
 ahead_more j k x (y ∷ l) (inr h) = inr (ahead_more j k x l h)
 

@@ -1,0 +1,20 @@
+-- `judge`: seven sections, then the eighth by the number of tasks. Assumes nothing.
+use mathlib.Core.Path.{◌≡◌, sym, ◌∙◌}
+use Rattle.rules.specs.Setup.{word_at, counters, read_section, read_setup}
+use Rattle.setup_sections.specs.Judging.{judged_of, on_good}
+use Rattle.setup_sections.specs.Judging.{onward}
+use Rattle.setup.proofs.Whole.{eight_judged}
+use borrow.Author.Rules.{rules}
+use Rattle.setup.proofs.judge.Goals as goal
+
+behind : (c : tie.After-judge-seven) → let a = c.before.before.args in
+    judged_of (read_setup a.bytes.now a.at) ≡ on_good c.judge_seven.result (λ k. judged_of (read_section a.bytes.now (counters (word_at a.bytes.now (onward a.bytes.now a.at 4))) k))
+unfolding read_setup
+behind c = eight_judged _ read_section _ ∙ simp c.judge_seven.ensures
+
+pub returns-in-Bad : goal.returns-in-Bad
+returns-in-Bad c = sym (behind c ∙ simp c.in-Bad.is)
+
+pub returns-in-Good : goal.returns-in-Good
+returns-in-Good c =
+    c.judge_counters.ensures ∙ sym (behind c ∙ simp (c.in-Good.is, c.task_count.ensures))

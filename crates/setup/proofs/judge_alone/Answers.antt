@@ -1,0 +1,26 @@
+-- `judge_alone`: seven sections, then the eighth unless the bytes end. Assumes nothing.
+use mathlib.Core.Path.{◌≡◌, sym, ◌∙◌}
+use borrow.Author.Tests.{le-leb, lt-leb}
+use Rattle.rules.specs.Setup.{word_at, counters, read_with, perhaps}
+use Rattle.setup_sections.specs.Judging.{judged_of, on_good}
+use Rattle.setup_sections.specs.Judging.{onward}
+use Rattle.setup.proofs.Whole.{eight_judged}
+use borrow.Author.Rules.{rules}
+use Rattle.setup.proofs.judge_alone.Goals as goal
+
+behind : (c : tie.After-judge-seven) → let s = c.before.before.args.bytes.now in
+    judged_of (read_with perhaps s 0) ≡ on_good c.judge_seven.result (λ k. judged_of (perhaps s (counters (word_at s (onward s 0 4))) k))
+behind c = eight_judged _ perhaps _ ∙ simp c.judge_seven.ensures
+
+pub returns-then-bytes-next : goal.returns-then-bytes-next
+unfolding perhaps
+returns-then-bytes-next c =
+    sym (behind c ∙ simp (c.in-Good.is, le-leb _ _ c.if-bytes-next.true))
+
+pub returns-in-Bad : goal.returns-in-Bad
+returns-in-Bad c = sym (behind c ∙ simp c.in-Bad.is)
+
+pub returns-else-bytes-next : goal.returns-else-bytes-next
+unfolding perhaps
+returns-else-bytes-next c =
+    c.judge_counters.ensures ∙ sym (behind c ∙ simp (c.in-Good.is, lt-leb _ _ c.if-bytes-next.false, c.task_count.ensures))

@@ -1,0 +1,25 @@
+-- `judge_seven`: section after section, as `seven_judged` says. Assumes nothing.
+use Rattle.setup.proofs.Whole.{seven_judged}
+use borrow.Author.Rules.{rules}
+use Rattle.setup.proofs.judge_seven.Goals as goal
+
+pub returns : goal.returns
+returns c =
+    rw seven_judged
+    (simp (
+      c.after.ensures,
+      c.one_word-3.ensures,
+      c.after-messages.ensures,
+      c.no-words3.ensures,
+      c.after-mailboxes.ensures,
+      c.no-words2.ensures,
+      c.after-flags.ensures,
+      c.one_word-2.ensures,
+      c.after-semaphores.ensures,
+      c.one_word.ensures,
+      c.after-tasks.ensures,
+      c.two_words.ensures,
+      c.word.ensures,
+      c.judge_section-priorities.ensures,
+      c.no_words_lem.ensures,
+    ))
