@@ -2,9 +2,7 @@
 use Rattle.std.specs.Prelude.{Bool, cond, ◌&&◌, List, [], ◌∷◌, ℕ, zero, suc, ◌+◌, ◌-◌, ◌*◌, ◌/◌, ◌≤◌, ◌<◌, ltb, leb, get_or}
 use Rattle.brightness_curve.specs.declared.Curve.{Curve}
 use Rattle.brightness_curve.specs.declared.Judged.{Judged}
-use Rattle.brightness_curve.specs.declared.Judged.TheVariants as Judged
 use Rattle.brightness_curve.specs.declared.Leveled.{Leveled}
-use Rattle.brightness_curve.specs.declared.Leveled.TheVariants as Leveled
 
 pub record Point : Type 0 where
   pub lux : ℕ

@@ -9,7 +9,6 @@ use lib.ListN.{length}
 use borrow.Author.Tests.{eq-eqb, ne_eqb}
 use Rattle.brightness_curve.specs.declared.Curve.{Curve}
 use Rattle.brightness_curve.specs.declared.Judged.{Judged}
-use Rattle.brightness_curve.specs.declared.Judged.TheVariants as Judged
 use Rattle.brightness_curve.specs.declared.Leveled.TheVariants.{Level, BadPoint}
 use Rattle.brightness_curve.specs.Curves.{judged_of, if_good, level_on, first_of}
 use Rattle.brightness_light.specs.declared.Light.{Light}

@@ -2,7 +2,6 @@
 use Rattle.std.specs.Prelude.{Bool, true, false, cond, ◌&&◌, List, ◌≡◌, ℕ, zero, suc, eqb, leb, ℤ, pos, negsuc, length, get_or}
 use Rattle.brightness_curve.specs.declared.Curve.{Curve}
 use Rattle.brightness_curve.specs.declared.Judged.{Judged}
-use Rattle.brightness_curve.specs.declared.Judged.TheVariants as Judged
 use Rattle.brightness_curve.specs.Curves.{point_at, judged_of, level_on}
 use Rattle.brightness_light.specs.declared.Light.{Light}
 use Rattle.brightness_light.specs.declared.News.{News}

@@ -16,7 +16,7 @@ use Rattle.rules.specs.Events.{nat, bits}
 -- ---- a result
 
 pub signed : (z : ℤ) → mag z < 2 ^ 31 → to_z w32 (of_z w32 z) ≡ z
-signed z h = to_z-of_z (record { sfits = h })
+signed z h = to_z-of_z {w = w32} (record { sfits = h })
 
 pub saying : (z : ℤ) {w : ℤ} → mag z < 2 ^ 31 → z ≡ w → to_z w32 (of_z w32 z) ≡ w
 saying z h e = signed z h ∙ e

@@ -1,5 +1,5 @@
 -- The set bits of masks, counted mask by mask, are the ids that the masks mark. Assumes nothing.
-use Rattle.std.proofs.Common.{◌≡◌, ℕ, zero, suc, pred, ◌+◌, ◌*◌, ◌/◌, ◌%◌, ◌^◌, ◌<◌, ◌≤◌, Bool, true, false, eqb, List, get_or, sym, refl, ap, ◌∙◌, subst, div-one, add-one, arith, shr-shr, shr_lt, eq-eqb, ne_eqb}
+use Rattle.std.proofs.Common.{◌≡◌, ℕ, zero, suc, pred, ◌+◌, ◌*◌, ◌/◌, ◌%◌, ◌^◌, ◌<◌, ◌≤◌, Bool, eqb, List, get_or, sym, ap, ◌∙◌, subst, div-one, add-one, arith, shr-shr, shr_lt, eq-eqb, ne_eqb}
 use native.Mathlib.Decide.{ℕ_discrete}
 use lib.Count.{ones, ones_step, ones-le}
 use Rattle.rules.specs.Ids.{once}

@@ -326,7 +326,7 @@ module _ (b msgs : List ℕ) (A : Accepted b msgs) (F : LowClock b) where
       word = ap (λ (l : List ℕ). get_or l 0 0) (K.only.kept Layout.nonempty refl) ∙ R.word;
       counts = counts;
       low_half = λ _. subst (λ (l : List ℕ). get_or l Layout.clock_low 0 < 2 ^ 32) (sym system) (ticked_low (words Layout.system b) (eqb (suc (entry Layout.system b Layout.clock_low) % 2 ^ 32) 0) wide);
-      lines = follows_stay _ _ _;
+      lines = follows_stay (store_shown b msgs) _ _;
     }
 
   pub elapse_done : Done elapse b msgs (elapsed b) msgs

@@ -142,5 +142,5 @@ module _ (b msgs : List ℕ) (A : Accepted b msgs) (k : ℕ) (h : In k (length (
     word = ap (λ (l : List ℕ). get_or l 0 0) (only.kept Layout.nonempty refl);
     counts = λ i r. ap (λ (l : List ℕ). get_or l i 0) (only.kept Layout.system refl);
     low_half = λ r. rw (only.kept Layout.system refl) r;
-    lines = follows_stay _ _ _;
+    lines = follows_stay (store_shown b msgs) _ _;
   }

@@ -67,5 +67,5 @@ module _ (b msgs : List ℕ) (A : Accepted b msgs) (h : Handlers) where
     word = ap (λ (l : List ℕ). get_or l 0 0) (only.kept Layout.nonempty refl);
     counts = λ i k. ap (λ (l : List ℕ). get_or l i 0) (only.kept Layout.system refl);
     low_half = λ k. rw (only.kept Layout.system refl) k;
-    lines = follows_stay _ _ _;
+    lines = follows_stay (store_shown b msgs) _ _;
   }

@@ -137,24 +137,24 @@ module _ (b msgs : List ℕ) (A : Accepted b msgs) where
       -- c has the task's entries written, and it is to make its move
       module _ (c : List ℕ) (T : Touched t rest b c) (f : task_shown c t ≡ F (task_shown b t)) where
         pub stay_done : move (body_shown b msgs) a ≡ stay → Done a b msgs c msgs
-        stay_done m = done rest c T f tt (rw m (rest_follows _ _ _ Tasks))
+        stay_done m = done rest c T f tt (rw m (rest_follows (store_shown b msgs) _ _ Tasks))
 
         left_shown : task_shown (unqueued t c) t ≡ F (task_shown b t)
         left_shown = kept_shown (unqueued_law c T.size t).only refl t ∙ f
 
         pub leave_done : move (body_shown b msgs) a ≡ leave (a_task t) → Done a b msgs (unqueued t c) msgs
-        leave_done m = done (out t) (unqueued t c) (touched_left T) left_shown id (rw m (task_leaves _ _ _ t))
+        leave_done m = done (out t) (unqueued t c) (touched_left T) left_shown id (rw m (task_leaves (store_shown b msgs) _ _ t))
 
         -- it then belongs to no queue
         pub lost_done : move (body_shown b msgs) a ≡ last (a_task t) → ((q : Place) → stands (F (task_shown b t)) q ≡ false) → Done a b msgs (unqueued t c) msgs
-        lost_done m g = done (out t) (unqueued t c) (touched_left T) left_shown id (rw m (task_lost _ _ _ t (rw now g)))
+        lost_done m g = done (out t) (unqueued t c) (touched_left T) left_shown id (rw m (task_lost (store_shown b msgs) _ _ t (rw now g)))
 
         -- it then belongs to the queue at a place
         goes_done : (p : Place) (n : ℕ) → n ≡ anchor p → Exists (store_shown b msgs) p → rings_at p ≡ Tasks
             → move (body_shown b msgs) a ≡ last (a_task t) → ((q : Place) → stands (F (task_shown b t)) q ≡ same_place p q) → Done a b msgs (queued n t (unqueued t c)) msgs
         goes_done p n k x y m g =
             done (to p t) (queued n t (unqueued t c)) (touched_last n p k (touched_left T)) (kept_shown (queued_law (unqueued t c) (unqueued_law c T.size t).size n t).only refl t ∙ left_shown) (id, record { place = p; there = x; among = y; here = refl })
-            (rw m (task_goes _ _ _ small t p x y (rw now g)))
+            (rw m (task_goes (store_shown b msgs) _ _ small t p x y (rw now g)))
 
         written : entry Layout.priority c t ≡ (F (task_shown b t)).priority
         unfolding task_shown
@@ -163,8 +163,8 @@ module _ (b msgs : List ℕ) (A : Accepted b msgs) where
         pub ready_done : move (body_shown b msgs) a ≡ last (a_task t) → (F (task_shown b t)).state ≡ ready → In (F (task_shown b t)).priority (store_shown b msgs).priorities
             → Done a b msgs (rotated t c) msgs
         unfolding rotated
-        ready_done m s r = goes_done (ready_at (F (task_shown b t)).priority) _ (ap ready_anchor written ∙ ready_anchor_lem _ (small (ready_at _) r)) r refl m (ready_stands _ s)
+        ready_done m s r = goes_done (ready_at (F (task_shown b t)).priority) _ (ap ready_anchor written ∙ ready_anchor_lem _ (small (ready_at _) r)) r refl m (ready_stands (F (task_shown b t)) s)
 
         pub wait_done : (k : Kind) (o p n : ℕ) → move (body_shown b msgs) a ≡ last (a_task t) → (F (task_shown b t)).state ≡ waiting (on k o p n) → In o (objects (store_shown b msgs) k)
             → Done a b msgs (queued (wait_anchor (kind_number k) o) t (unqueued t c)) msgs
-        wait_done k o p n m s r = goes_done (waiters k o) _ (wait_anchor_lem k o (small (waiters k o) r)) r refl m (wait_stands _ k o p n s)
+        wait_done k o p n m s r = goes_done (waiters k o) _ (wait_anchor_lem k o (small (waiters k o) r)) r refl m (wait_stands (F (task_shown b t)) k o p n s)

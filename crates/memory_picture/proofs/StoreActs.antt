@@ -92,7 +92,7 @@ module _ (b msgs : List ℕ) (A : Accepted b msgs) where
       → move (body_shown b msgs) a ≡ stay → Done a b msgs (Layout.put x i v b) msgs
   put_done a x i v w h g e m =
       objects_done a (Layout.put x i v b) msgs w Messages rest (put_size x i v b size) A.whole.marks (put_among writable x i v b (writes x h))
-      g e refl fine next prev (rw m (rest_follows _ _ _ Messages))
+      g e refl fine next prev (rw m (rest_follows (store_shown b msgs) _ _ Messages))
     where
       kept : (d : Column) → clear object_columns d ≡ true → words d (Layout.put x i v b) ≡ words d b
       kept d k = put_apart x i v b d (clear_apart object_columns x d k h)
@@ -252,11 +252,11 @@ module _ (b msgs : List ℕ) (A : Accepted b msgs) where
 
       listed_done : (t : Bool) → Done (mark p k t) b msgs (listed p k t (marks t)) msgs
       unfolding listed
-      listed_done false = rw is_node (block_done false _ _ _ (out (block_node p k)) (out_of false) node refl refl (unfold move in block_leaves _ _ _ (small b msgs A) p k g.0 there foreign))
+      listed_done false = rw is_node (block_done false _ _ _ (out (block_node p k)) (out_of false) node refl refl (unfold move in block_leaves (store_shown b msgs) _ _ (small b msgs A) p k g.0 there foreign))
       listed_done true =
           rw (is_node, is_anchor)
           (block_done true _ _ _ (to (free_in p) (block_node p k)) last_in (node, used_at (free_in p) there) refl refl
-          (unfold move in block_goes _ _ _ (small b msgs A) p k g.0 there foreign free_then))
+          (unfold move in block_goes (store_shown b msgs) _ _ (small b msgs A) p k g.0 there foreign free_then))
         where
           last_in : Relinked Layout.block_next (marks true) (linked Blocks (anchor (free_in p)) (block_node p k) (unlinked Blocks (block_node p k) (marks true)))
               (push_next (left_next (words Layout.block_next b) (words Layout.block_prev b) (block_node p k)) (left_prev (words Layout.block_next b) (words Layout.block_prev b) (block_node p k)) (anchor (free_in p)) (block_node p k))
@@ -319,7 +319,7 @@ module _ (b msgs : List ℕ) (A : Accepted b msgs) where
 
     pub receive_done : Done (receive j) b msgs (unlinked Messages j b) (put msgs j 0)
     unfolding after move body_shown
-    receive_done = message_done (receive j) j 0 (unlinked Messages j b) _ _ (out j) none h (unlinked_law b size Messages j) refl refl id refl refl (message_leaves _ _ _ j)
+    receive_done = message_done (receive j) j 0 (unlinked Messages j b) _ _ (out j) none h (unlinked_law b size Messages j) refl refl id refl refl (message_leaves (store_shown b msgs) _ _ j)
 
     -- a message that lies nowhere has no link
     module _ (e : laid (of (store_shown b msgs).messages j none) ≡ false) where
@@ -356,7 +356,7 @@ module _ (b msgs : List ℕ) (A : Accepted b msgs) where
     post_done m k e =
         message_done (post j m) j m (linked Messages (mail_anchor m) j b) _ _ (to (mail m) j) (some m) h (linked_law b size Messages (mail_anchor m) j) (rw (ne_eqb m 0 (λ z. omega (arith, k.0)))) refl (id, used_at (mail m) k)
         (rw (mail_anchor_lem m k, not_left e, nor_left e)) (rw (mail_anchor_lem m k, nor_left e))
-        (message_goes _ _ _ (small b msgs A) j m k (lies_there m))
+        (message_goes (store_shown b msgs) _ _ (small b msgs A) j m k (lies_there m))
       where
         lies_there : (m n : ℕ) → belongs (with_store (with_messages (put (store_shown b msgs).messages j (some m)) (store_shown b msgs)) (body_shown b msgs)) (mail n) j ≡ eqb m n
         lies_there m n = unfold belongs in ap (λ (x : Option ℕ). lies x n) (of_put_same (store_shown b msgs).messages j (some m) none h)

@@ -17,7 +17,7 @@ use Rattle.rules.specs.Codes.{Code, OK, E-TMOUT, H-PAR, H-USED, H-IDLE, number}
 use Rattle.rules.specs.State.{flag, Wait, asleep, timed, on, State, dormant, ready, suspended, absent, waiting, waiting_suspended, Task, Handlers, is_open, Setting, unset, due, in_use, Alarm, no_alarm, Counter, alarm_of, alarm_count, Body, task, nobody, wait_of, wish, is_dormant, is_absent, is_waiting, is_freed, sleeps}
 use Rattle.rules.specs.Places.{waiters}
 use Rattle.rules.specs.Events.{Event, tick, enter, exit, call, Words, AllWords, nat, outside}
-use Rattle.rules.specs.Acts.{Act, wait, release, wakeups, count, mark, elapse, nest, alarm, with_state, with_cell, freed, released_task, with_setting, count_after, stepped, change_alarm, after, afters}
+use Rattle.rules.specs.Acts.{Act, wait, release, wakeups, mark, elapse, nest, alarm, with_state, with_cell, freed, released_task, with_setting, count_after, stepped, change_alarm, after, afters}
 use Rattle.rules.specs.View.{View, line}
 use Rattle.rules.specs.Verdicts.{Verdict, refuse, gives, done, check, choose}
 use Rattle.rules.specs.Tasks.{starting, sta_tsk, waking, wup_tsk}

@@ -17,7 +17,7 @@ use Rattle.rules.specs.State.{Kind, flag, pool, Wait, State, dormant, ready, sus
 use Rattle.rules.specs.Places.{waiters, free_in, many, population, belongs}
 use Rattle.rules.specs.Setup.{Entry, Setup}
 use Rattle.rules.specs.Events.{Event, tick, enter, exit, call, Word, Words, nat}
-use Rattle.rules.specs.Acts.{Act, start, release, wakeups, mark, elapse, after, afters, started, freed, released_task, with_state, with_cell}
+use Rattle.rules.specs.Acts.{Act, start, release, mark, elapse, after, afters, started, freed, released_task, with_state, with_cell}
 use Rattle.rules.specs.View.{View, line, act, acts}
 use Rattle.rules.specs.Verdicts.{Verdict}
 use Rattle.rules.specs.Objects.{met, left, serve_flag}

@@ -15,7 +15,7 @@ use Rattle.rules.specs.Codes.{Code, OK, E-RLWAI}
 use Rattle.rules.specs.State.{Kind, flag, pool, State, dormant, ready, suspended, absent, waiting, waiting_suspended, Task, Body, task, nobody, objects, wait_of, wish, is_dormant, is_waiting, is_freed, sleeps}
 use Rattle.rules.specs.Places.{waiters, belongs, waits_on, at, line_at}
 use Rattle.rules.specs.Events.{Event, tick, enter, exit, call, nat}
-use Rattle.rules.specs.Acts.{Act, release, pattern, mark, elapse, nest, alarm, with_state, freed, older, after, afters}
+use Rattle.rules.specs.Acts.{Act, release, pattern, mark, elapse, nest, alarm, with_state, older, after, afters}
 use Rattle.rules.specs.View.{View, line}
 use Rattle.rules.specs.Verdicts.{Verdict}
 use Rattle.rules.specs.Objects.{met, left, serve_flag}

@@ -16,7 +16,7 @@ use Rattle.rules.specs.State.{pool}
 use Rattle.rules.specs.Setup.{got, setup, Setup}
 use Rattle.rules.specs.Places.{free_in, a_block, population, belongs}
 use Rattle.rules.specs.Events.{Event, Words, AllWords}
-use Rattle.rules.specs.Acts.{mark, move, after}
+use Rattle.rules.specs.Acts.{mark, move}
 use Rattle.rules.specs.View.{View, line, moved, acts}
 use Rattle.rules.specs.Verdicts.{Verdict}
 use Rattle.rules.specs.Table.{judge}
@@ -194,10 +194,12 @@ Ahead j k [] = ⊥
 Ahead j k (x ∷ l) = ((x ≡ j) × (times k l ≢ 0)) ⊎ Ahead j k l
 
 ahead_stands : (j k : ℕ) (l : List ℕ) → Ahead j k l → times k l ≢ 0
+ahead_stands j k [] h = elim h [ ]
 ahead_stands j k (x ∷ l) (inl h) = times_tail x k l h.1
 ahead_stands j k (x ∷ l) (inr h) = times_tail x k l (ahead_stands j k l h)
 
 ahead_more : (j k x : ℕ) (l : List ℕ) → Ahead j k l → Ahead j k (l ++ x ∷ [])
+ahead_more j k x [] h = elim h [ ]
 ahead_more j k x (y ∷ l) (inl h) = inl (h.0, rw (times_append k l (x ∷ [])) (λ z. h.1 (omega (arith, z))))
 ahead_more j k x (y ∷ l) (inr h) = inr (ahead_more j k x l h)
 

@@ -22,7 +22,7 @@ returns-2 c =
       runs = at-running.running.ensures;
       code = cell.code;
       word = cell.word;
-      reads = rw (to_z-of_z (record { sfits = at_word.task_word.type-inv }), at_word.task_word.ensures) at at-cell.cell.ensures;
+      reads = rw (to_z-of_z (record { sfits = at_word.task_word.type_inv }), at_word.task_word.ensures) at at-cell.cell.ensures;
       shows = rw (to_z-of_z (record { sfits = told.struct_told.given.0.1 })) at c.woken.ensures;
     })
 

@@ -47,7 +47,7 @@ returns : tie.Need-returns invariant_loop decreases_loop invariant_rules decreas
 returns c = let e = no_rule _ _ c.before.rules.invariant c.if1.true in (ap (λ (t : Told). t.code) e, ap (λ (t : Told). t.id) e)
 
 returns-2 : tie.Need-returns-2 invariant_loop decreases_loop invariant_rules decreases_rules
-returns-2 c = let k = c.before.before in let t = k.before in let e = id_broken _ t.before.before.before.before.rules.rule _ _ t.before.loop.invariant t.loop-test.true (failed k.keeps.ensures c.before.if2.true) in (to_z-of_z (record { sfits = c.code_of_lem.type-inv }) ∙ c.code_of_lem.ensures ∙ ap (λ (t : Told). t.code) e, ap (λ (t : Told). t.id) e)
+returns-2 c = let k = c.before.before in let t = k.before in let e = id_broken _ t.before.before.before.before.rules.rule _ _ t.before.loop.invariant t.loop-test.true (failed k.keeps.ensures c.before.if2.true) in (to_z-of_z (record { sfits = c.code_of_lem.type_inv }) ∙ c.code_of_lem.ensures ∙ ap (λ (t : Told). t.code) e, ap (λ (t : Told). t.id) e)
 
 pub first_broken_spec : {M : Type 1} → statement M
 first_broken_spec =

@@ -53,7 +53,7 @@ returns-4 c =
     let first = at_named.before in
     let at-accepts = first.before in
     let start = at-accepts.before in
-    let f = rw (to_z-of_z start.ranges.task) at at_named.named.ensures in readable at-accepts.accepts.ensures (not-false _ first.if1.false) start.args.task at_system.system.ensures (rw f at at-is-outside.is_outside.ensures) second.if2.false (rw f at at_status.status.ensures) third.if3.false (rw f at at_code.code.ensures) (saying _ at-code-of.code_of_lem.type-inv at-code-of.code_of_lem.ensures) (rw f at c.word.ensures)
+    let f = rw (to_z-of_z start.ranges.task) at at_named.named.ensures in readable at-accepts.accepts.ensures (not-false _ first.if1.false) start.args.task at_system.system.ensures (rw f at at-is-outside.is_outside.ensures) second.if2.false (rw f at at_status.status.ensures) third.if3.false (rw f at at_code.code.ensures) (saying _ at-code-of.code_of_lem.type_inv at-code-of.code_of_lem.ensures) (rw f at c.word.ensures)
 
 pub cell_spec : {M : Type 1} → statement M
 cell_spec = tie.close (tie.spec (λ c κs. search rules) (λ c κs. search rules) returns (λ c κs. search rules) (λ c κs. search rules) (λ c κs. search rules) returns-2 (λ c κs. search rules) returns-3 (λ c κs. search rules) (λ c κs. search rules) (λ c κs. search rules) returns-4)

@@ -33,7 +33,7 @@ loop-again c =
     let i = w.before in
     let l = i.before.loop in
     let e = c.signed.ensures ∙ ap signed_word w.word.ensures in
-    (omega (arith, i.loop-test.true), simp length-set l.invariant.1, rw (to_z-of_z {w = w32} (record { sfits = c.signed.type-inv }) ∙ e, l.invariant.2) (decode_next _ _ _ _ (omega arith)))
+    (omega (arith, i.loop-test.true), simp length-set l.invariant.1, rw (to_z-of_z {w = w32} (record { sfits = c.signed.type_inv }) ∙ e, l.invariant.2) (decode_next _ _ _ _ (omega arith)))
 
 same_length : tie.Need-same-length invariant_loop decreases_loop
 same_length c = c.before.loop.invariant.1

@@ -28,11 +28,11 @@ returns c =
     let s2 = s3.before.before in
     let s1 = s2.before.before in
     rw (
-      read s1.signed.type-inv s1.signed.ensures s1.before.word.ensures,
-      read s2.signed2.type-inv s2.signed2.ensures s2.before.word2.ensures,
-      read s3.signed3.type-inv s3.signed3.ensures s3.before.word3.ensures,
-      read s4.signed4.type-inv s4.signed4.ensures s4.before.word4.ensures,
-      read s5.signed5.type-inv s5.signed5.ensures s5.before.word5.ensures,
+      read s1.signed.type_inv s1.signed.ensures s1.before.word.ensures,
+      read s2.signed2.type_inv s2.signed2.ensures s2.before.word2.ensures,
+      read s3.signed3.type_inv s3.signed3.ensures s3.before.word3.ensures,
+      read s4.signed4.type_inv s4.signed4.ensures s4.before.word4.ensures,
+      read s5.signed5.type_inv s5.signed5.ensures s5.before.word5.ensures,
     ) at c.serve.ensures
 
 pub serve_held_spec : {M : Type 1} → statement M

@@ -1,0 +1,18 @@
+-- `check_ranges::messages_ok` meets its contract. What was said of the messages passed, and those that are left, decide as all of them do.
+-- Assumes nothing.
+use mathlib.Core.Bool.{◌&&◌}
+use mathlib.Core.Path.{refl, ◌∙◌}
+use native.Mathlib.Omega.{arith}
+use lib.Dec.{leb}
+use Rattle.check_ranges.proofs.Loops.{said_all, said_on}
+use Rattle.check_ranges.proofs.messages_ok.Goals as goal
+
+pub loop-left-init : goal.loop-left-init
+loop-left-init c = (refl, omega arith)
+
+pub loop-left-preserved : goal.loop-left-preserved
+loop-left-preserved c =
+    said_on _ _ _ _ c.loop-left.fine c.loop-left.invariant c.loop-left-test.true (c.both-fine.ensures ∙ (λ z. c.loop-left.fine && leb (c.mark_of.ensures z) (c.system-mailboxes.ensures z)))
+
+pub returns : goal.returns
+returns c = said_all _ _ _ _ c.loop-left.fine c.loop-left.invariant c.loop-left-test.false

@@ -1,0 +1,8 @@
+use mathlib.Core.Path.{◌∙◌}
+use borrow.Author.Rules.{rules}
+use Rattle.memory_objects.specs.Moves.{nested}
+use Rattle.memory_objects.proofs.handlers.nest.Goals as goal
+
+pub returns : goal.returns
+unfolding nested
+returns c = c.set_handling-2.ensures ∙ rw c.set_handling.ensures

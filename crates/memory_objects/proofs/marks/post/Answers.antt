@@ -1,0 +1,6 @@
+use mathlib.Core.Path.{◌∙◌}
+use borrow.Author.Rules.{rules}
+use Rattle.memory_objects.proofs.marks.post.Goals as goal
+
+pub returns : goal.returns
+returns c = (c.link.ensures ∙ rw c.mail_anchor.ensures, c.set_mark.ensures)

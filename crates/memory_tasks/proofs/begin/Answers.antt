@@ -1,0 +1,9 @@
+use mathlib.Core.Path.{◌∙◌}
+use borrow.Author.Rules.{rules}
+use Rattle.memory_tasks.specs.Moves.{started}
+use Rattle.memory_tasks.proofs.begin.Goals as goal
+
+pub returns : goal.returns
+unfolding started
+returns c =
+    c.make_ready.ensures ∙ rw (c.write_cell.ensures, c.set_priority.ensures, c.start-p.ensures)

@@ -1,0 +1,8 @@
+use mathlib.Core.Path.{◌∙◌}
+use borrow.Author.Rules.{rules}
+use Rattle.memory_tasks.specs.Moves.{created}
+use Rattle.memory_tasks.proofs.create.Goals as goal
+
+pub returns : goal.returns
+unfolding created
+returns c = c.leave.ensures ∙ rw c.write_task.ensures

@@ -1,0 +1,8 @@
+use mathlib.Core.Path.{◌∙◌}
+use borrow.Author.Rules.{rules}
+use Rattle.memory_tasks.specs.Moves.{readied}
+use Rattle.memory_tasks.proofs.make_ready.Goals as goal
+
+pub returns : goal.returns
+unfolding readied
+returns c = c.rotate.ensures ∙ rw c.set_status.ensures

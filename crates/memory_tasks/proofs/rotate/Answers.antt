@@ -1,0 +1,9 @@
+use mathlib.Core.Path.{◌∙◌}
+use borrow.Author.Rules.{rules}
+use Rattle.memory_tasks.specs.Moves.{rotated}
+use Rattle.memory_tasks.proofs.rotate.Goals as goal
+
+pub returns : goal.returns
+unfolding rotated
+returns c =
+    c.push.ensures ∙ rw (c.leave.ensures, c.ready_anchor-anchor.ensures, c.priority.ensures)

@@ -1,0 +1,6 @@
+use mathlib.Core.Path.{◌∙◌}
+use borrow.Author.Rules.{rules}
+use Rattle.memory_tasks.proofs.write_cell.Goals as goal
+
+pub returns : goal.returns
+returns c = c.set_word.ensures ∙ rw c.set_code.ensures

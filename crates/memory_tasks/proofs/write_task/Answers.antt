@@ -1,0 +1,9 @@
+use mathlib.Core.Path.{◌∙◌}
+use borrow.Author.Rules.{rules}
+use Rattle.memory_tasks.specs.Moves.{ranked}
+use Rattle.memory_tasks.proofs.write_task.Goals as goal
+
+pub returns : goal.returns
+unfolding ranked
+returns c =
+    c.set_wakeups.ensures ∙ rw (c.set_start.ensures, c.set_priority.ensures, c.set_status.ensures)

@@ -1,0 +1,13 @@
+use Prim.Native.Nat.{◌+◌, ◌-◌, ◌≤◌}
+use mathlib.Core.Path.{◌≡◌, ◌∙◌}
+use native.Mathlib.Omega.{arith}
+use borrow.Author.Rules.{rules}
+use Rattle.memory_time.specs.Elapsing.{aged_from}
+use Rattle.memory_time.proofs.Steps.{age_first, age_none, age_next}
+use Rattle.memory_time.proofs.age_tasks.Given as goal
+
+abbrev pub invariant-loop-t : goal.invariant-loop-t
+invariant-loop-t l = (aged_from (l.n + 1 - l.t) l.t l.words ≡ aged_from l.n 1 l.initial.words) × (l.t ≤ l.n + 1)
+
+abbrev pub decreases-loop-t : goal.decreases-loop-t
+decreases-loop-t l = l.n + 1 - l.t

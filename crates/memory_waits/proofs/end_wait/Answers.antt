@@ -1,0 +1,6 @@
+use mathlib.Core.Path.{◌∙◌}
+use borrow.Author.Rules.{rules}
+use Rattle.memory_waits.proofs.end_wait.Goals as goal
+
+pub returns : goal.returns
+returns c = c.set_ticks.ensures ∙ rw c.write_cell.ensures

@@ -1,0 +1,8 @@
+use mathlib.Core.Path.{◌∙◌}
+use borrow.Author.Rules.{rules}
+use Rattle.memory_waits.specs.Waits.{slept}
+use Rattle.memory_waits.proofs.sleep.Goals as goal
+
+pub returns : goal.returns
+unfolding slept
+returns c = c.leave.ensures ∙ rw c.write_wait.ensures

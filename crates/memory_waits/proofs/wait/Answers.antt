@@ -1,0 +1,9 @@
+use mathlib.Core.Path.{◌∙◌}
+use borrow.Author.Rules.{rules}
+use Rattle.memory_waits.specs.Waits.{waited}
+use Rattle.memory_waits.proofs.wait.Goals as goal
+
+pub returns : goal.returns
+unfolding waited
+returns c =
+    c.push.ensures ∙ rw (c.wait_anchor.ensures, c.leave.ensures, c.write_wait.ensures)
