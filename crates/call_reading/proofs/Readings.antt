@@ -96,16 +96,16 @@ module _ (b m : List ℕ) (i : ℕ) (k : NamesTask i (view_shown b m)) where
 
     pub suspended_read : is_suspended (task (view_shown b m).body i).state ≡ halted_at b i
     unfolding task_shown
-    suspended_read = rw (task_shown_lem b m i h) (suspended_number _ _ _ sound_wait)
+    suspended_read = rw (task_shown_lem b m i h) (suspended_number (view_shown b m).body.store _ _ sound_wait)
 
     pub waiting_read : is_waiting (task (view_shown b m).body i).state ≡ waits_at b i
     unfolding task_shown
-    waiting_read = rw (task_shown_lem b m i h) (waiting_number _ _ _ sound_wait)
+    waiting_read = rw (task_shown_lem b m i h) (waiting_number (view_shown b m).body.store _ _ sound_wait)
 
     pub sleeping_read : sleeps (wait_of (task (view_shown b m).body i).state) ≡ sleeps_at b i
     unfolding task_shown
-    sleeping_read = rw (task_shown_lem b m i h) (sleeping_number _ _ _ _ (kind_sleeps _ _ _ _ _ _) sound_wait)
+    sleeping_read = rw (task_shown_lem b m i h) (sleeping_number (view_shown b m).body.store _ _ _ (kind_sleeps (view_shown b m).body.store _ _ _ _ _) sound_wait)
 
     pub number_read : state_number (task (view_shown b m).body i).state (eqb i (running (view_shown b m))) ≡ number_at b i
     unfolding task_shown number_at
-    number_read = rw (task_shown_lem b m i h, running_law b m A) (number_state _ _ _ _ sound_wait)
+    number_read = rw (task_shown_lem b m i h, running_law b m A) (number_state (view_shown b m).body.store _ _ _ sound_wait)

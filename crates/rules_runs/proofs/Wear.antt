@@ -16,7 +16,7 @@ use Rattle.rules.specs.State.{pool}
 use Rattle.rules.specs.Setup.{got, setup, Setup}
 use Rattle.rules.specs.Places.{free_in, a_block, population, belongs}
 use Rattle.rules.specs.Events.{Event, Words, AllWords}
-use Rattle.rules.specs.Acts.{mark, move, after}
+use Rattle.rules.specs.Acts.{mark, move}
 use Rattle.rules.specs.View.{View, line, moved, acts}
 use Rattle.rules.specs.Verdicts.{Verdict}
 use Rattle.rules.specs.Table.{judge}

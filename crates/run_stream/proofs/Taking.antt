@@ -9,7 +9,7 @@ use native.Mathlib.Numerals.{add-one}
 use lib.Dec.{leb}
 use lib.ListN.{length, take, set, length-take}
 use borrow.Author.Tests.{le-leb, lt-leb}
-use Rattle.rules.specs.Setup.{Fault, S1, S2, S3, S4, digit, Read, got, refused, word_at, setup}
+use Rattle.rules.specs.Setup.{Fault, S1, S2, S3, S4, digit, Read, got, refused, word_at}
 use Rattle.rules.proofs.Accepted.{from_read}
 use Rattle.setup_sections.specs.Judging.{judged_of}
 use Rattle.setup_sections.specs.declared.Judged.{Judged}

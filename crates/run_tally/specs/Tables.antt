@@ -1,5 +1,5 @@
 -- Counts by task and state, and by code.
-use Rattle.std.specs.Prelude.{Bool, false, cond, List, [], ◌∷◌, ◌≡◌, ℕ, zero, suc, ◌+◌, ◌-◌, ◌*◌, ◌^◌, ◌<◌, min, ltb, ℤ, pos, get_or, set}
+use Rattle.std.specs.Prelude.{cond, List, [], ◌∷◌, ◌≡◌, ℕ, zero, suc, ◌+◌, ◌-◌, ◌*◌, ◌^◌, ◌<◌, min, ltb, ℤ, pos, get_or, set}
 use Rattle.rules.specs.Codes.{minus, same}
 
 -- ---- a row of counts

@@ -45,7 +45,7 @@ fn after(bytes: &[u8], least: u32, most: u32, e: Shape, earlier: Judged) -> Judg
     }
 }
 
-fn no_words_lem() -> Shape
+fn no_words() -> Shape
     ensures { ranges_of result ≡ [] }
 {
     let none = Span { least: 0, most: 0 };
@@ -84,12 +84,12 @@ fn two_words(most: u32) -> Shape
 fn judge_seven(bytes: &[u8], at: usize) -> Judged
     ensures { result ≡ judged_of (read_with left_out bytes.now at) }
 {
-    let priorities = judge_section(bytes, 1, PRIORITIES, no_words_lem(), at);
+    let priorities = judge_section(bytes, 1, PRIORITIES, no_words(), at);
     let tasks = after(bytes, 1, TASKS, two_words(word(bytes, at)), priorities);
     let semaphores = after(bytes, 0, SEMAPHORES, one_word(0, 65535), tasks);
     let flags = after(bytes, 0, FLAGS, one_word(0, 4294967295), semaphores);
-    let mailboxes = after(bytes, 0, MAILBOXES, no_words_lem(), flags);
-    let messages = after(bytes, 0, MESSAGES, no_words_lem(), mailboxes);
+    let mailboxes = after(bytes, 0, MAILBOXES, no_words(), flags);
+    let messages = after(bytes, 0, MESSAGES, no_words(), mailboxes);
     after(bytes, 0, POOLS, one_word(1, 32), messages)
 }
 

@@ -1,6 +1,5 @@
 -- `after`: an earlier fault stays, else the section is judged. Assumes nothing.
 use mathlib.Core.Path.{◌∙◌}
-use borrow.Author.Rules.{rules}
 use Rattle.setup.proofs.after.Goals as goal
 
 pub returns-in-Bad : goal.returns-in-Bad

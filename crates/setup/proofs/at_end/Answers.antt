@@ -1,6 +1,5 @@
 -- `at_end`: what was judged, and whether bytes are left over. Assumes nothing.
 use borrow.Author.Tests.{le-leb, lt-leb}
-use borrow.Author.Rules.{rules}
 use Rattle.setup.proofs.at_end.Goals as goal
 
 pub returns-in-Bad : goal.returns-in-Bad

@@ -4,17 +4,17 @@ use Rattle.rules.specs.Setup.{word_at, counters, read_section, read_setup}
 use Rattle.setup_sections.specs.Judging.{judged_of, on_good}
 use Rattle.setup_sections.specs.Judging.{onward}
 use Rattle.setup.proofs.Whole.{eight_judged}
-use borrow.Author.Rules.{rules}
 use Rattle.setup.proofs.judge.Goals as goal
+use Rattle.setup.proofs.judge.Goals.{After-judge_seven}
 
-behind : (c : tie.After-judge-seven) → let a = c.before.before.args in
+behind : (c : After-judge_seven) → let a = c.args in
     judged_of (read_setup a.bytes.now a.at) ≡ on_good c.judge_seven.result (λ k. judged_of (read_section a.bytes.now (counters (word_at a.bytes.now (onward a.bytes.now a.at 4))) k))
 unfolding read_setup
 behind c = eight_judged _ read_section _ ∙ simp c.judge_seven.ensures
 
 pub returns-in-Bad : goal.returns-in-Bad
-returns-in-Bad c = sym (behind c ∙ simp c.in-Bad.is)
+returns-in-Bad c = sym (behind (goal.at.returns-in-Bad c).After-judge_seven ∙ simp c.in-Bad.is)
 
 pub returns-in-Good : goal.returns-in-Good
 returns-in-Good c =
-    c.judge_counters.ensures ∙ sym (behind c ∙ simp (c.in-Good.is, c.task_count.ensures))
+    c.judge_counters.ensures ∙ sym (behind (goal.at.returns-in-Good c).After-judge_seven ∙ simp (c.in-Good.is, c.task_count.ensures))

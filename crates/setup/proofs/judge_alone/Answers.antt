@@ -5,22 +5,22 @@ use Rattle.rules.specs.Setup.{word_at, counters, read_with, perhaps}
 use Rattle.setup_sections.specs.Judging.{judged_of, on_good}
 use Rattle.setup_sections.specs.Judging.{onward}
 use Rattle.setup.proofs.Whole.{eight_judged}
-use borrow.Author.Rules.{rules}
 use Rattle.setup.proofs.judge_alone.Goals as goal
+use Rattle.setup.proofs.judge_alone.Goals.{After-judge_seven}
 
-behind : (c : tie.After-judge-seven) → let s = c.before.before.args.bytes.now in
+behind : (c : After-judge_seven) → let s = c.args.bytes.now in
     judged_of (read_with perhaps s 0) ≡ on_good c.judge_seven.result (λ k. judged_of (perhaps s (counters (word_at s (onward s 0 4))) k))
 behind c = eight_judged _ perhaps _ ∙ simp c.judge_seven.ensures
 
 pub returns-then-bytes-next : goal.returns-then-bytes-next
 unfolding perhaps
 returns-then-bytes-next c =
-    sym (behind c ∙ simp (c.in-Good.is, le-leb _ _ c.if-bytes-next.true))
+    sym (behind (goal.at.returns-then-bytes-next c).After-judge_seven ∙ simp (c.in-Good.is, le-leb _ _ c.if-bytes-next.true))
 
 pub returns-in-Bad : goal.returns-in-Bad
-returns-in-Bad c = sym (behind c ∙ simp c.in-Bad.is)
+returns-in-Bad c = sym (behind (goal.at.returns-in-Bad c).After-judge_seven ∙ simp c.in-Bad.is)
 
 pub returns-else-bytes-next : goal.returns-else-bytes-next
 unfolding perhaps
 returns-else-bytes-next c =
-    c.judge_counters.ensures ∙ sym (behind c ∙ simp (c.in-Good.is, lt-leb _ _ c.if-bytes-next.false, c.task_count.ensures))
+    c.judge_counters.ensures ∙ sym (behind (goal.at.returns-else-bytes-next c).After-judge_seven ∙ simp (c.in-Good.is, lt-leb _ _ c.if-bytes-next.false, c.task_count.ensures))

@@ -5,18 +5,18 @@ use Rattle.rules.specs.Setup.{S3, to, counters, read_entry, read_entries}
 use Rattle.setup_sections.specs.Judging.{judged_of, on_good}
 use Rattle.setup_sections.proofs.Judging.{word_told}
 use Rattle.setup.proofs.Whole.{counter_judged}
-use borrow.Author.Rules.{rules}
 use Rattle.setup.proofs.judge_counter.Goals as goal
+use Rattle.setup.proofs.judge_counter.Goals.{After-judge_word}
 
 -- the alarms go by what was judged of m
-sized : (c : tie.After-judge-word) → let a = c.before.before.args in
+sized : (c : After-judge_word) → let a = c.args in
     judged_of (read_entry a.bytes.now (counters a.tasks).entry a.at)
     ≡ on_good c.judge_word.result (λ j. judged_of (read_entries a.bytes.now (to 1 a.tasks ∷ to 0 1 ∷ []) 8 j))
 sized c = counter_judged _ _ _ ∙ simp (word_told _ _ S3 _ c.judge_word.ensures)
 
 pub returns-in-Bad : goal.returns-in-Bad
-returns-in-Bad c = sym (sized c ∙ simp c.in-Bad.is)
+returns-in-Bad c = sym (sized (goal.at.returns-in-Bad c).After-judge_word ∙ simp c.in-Bad.is)
 
 pub returns-in-Good : goal.returns-in-Good
 returns-in-Good c =
-    c.judge_entries.ensures ∙ sym (sized c ∙ simp (c.in-Good.is, c.two_words.ensures))
+    c.judge_entries.ensures ∙ sym (sized (goal.at.returns-in-Good c).After-judge_word ∙ simp (c.in-Good.is, c.two_words.ensures))

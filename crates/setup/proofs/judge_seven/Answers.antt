@@ -1,6 +1,5 @@
 -- `judge_seven`: section after section, as `seven_judged` says. Assumes nothing.
 use Rattle.setup.proofs.Whole.{seven_judged}
-use borrow.Author.Rules.{rules}
 use Rattle.setup.proofs.judge_seven.Goals as goal
 
 pub returns : goal.returns
@@ -10,9 +9,9 @@ returns c =
       c.after.ensures,
       c.one_word-3.ensures,
       c.after-messages.ensures,
-      c.no-words3.ensures,
+      c.no_words-3.ensures,
       c.after-mailboxes.ensures,
-      c.no-words2.ensures,
+      c.no_words-2.ensures,
       c.after-flags.ensures,
       c.one_word-2.ensures,
       c.after-semaphores.ensures,
@@ -21,5 +20,5 @@ returns c =
       c.two_words.ensures,
       c.word.ensures,
       c.judge_section-priorities.ensures,
-      c.no_words_lem.ensures,
+      c.no_words.ensures,
     ))

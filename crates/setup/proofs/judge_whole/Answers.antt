@@ -1,7 +1,6 @@
 -- `judge_whole`: what was judged, and whether bytes are left over. Assumes nothing.
 use mathlib.Core.Path.{sym, ◌∙◌}
 use Rattle.setup.proofs.Whole.{whole_judged}
-use borrow.Author.Rules.{rules}
 use Rattle.setup.proofs.judge_whole.Goals as goal
 
 pub returns : goal.returns

@@ -1,5 +1,4 @@
 -- `task_count`: the word behind the first. Assumes nothing.
-use borrow.Author.Rules.{rules}
 use Rattle.setup.proofs.task_count.Goals as goal
 
 pub returns : goal.returns

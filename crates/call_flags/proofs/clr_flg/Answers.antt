@@ -1,0 +1,8 @@
+-- `call_flags::clr_flg` meets its contract. It is its rule. Assumes nothing.
+use Rattle.call_flags.proofs.FlagCalls.{clr_done}
+use borrow.Author.Rules.{rules}
+use Rattle.call_flags.proofs.clr_flg.Goals as goal
+
+pub returns : goal.returns
+returns c =
+    clr_done _ c.flag-n.ensures _ c.set_flag.ensures c.done.ensures

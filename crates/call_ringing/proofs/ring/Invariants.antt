@@ -1,0 +1,12 @@
+use Prim.Native.Nat.{◌+◌, ◌<◌}
+use mathlib.Core.Path.{◌≡◌}
+use native.Mathlib.Omega.{arith}
+use borrow.Author.Rules.{rules}
+use Rattle.call_ringing.proofs.Ringing.{AllLeft, ring_starts, ring_ends, ring_step}
+use Rattle.call_ringing.proofs.ring.Given as goal
+
+abbrev pub invariant-loop-left : goal.invariant-loop-left
+invariant-loop-left l = AllLeft l.initial.words l.count l.left l.k l.words × (l.k + l.left ≡ 9) × (l.count < l.k)
+
+abbrev pub decreases-loop-left : goal.decreases-loop-left
+decreases-loop-left l = l.left

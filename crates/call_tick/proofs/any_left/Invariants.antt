@@ -1,0 +1,16 @@
+use mathlib.Core.Bool.{not, ◌||◌}
+use mathlib.Core.Path.{◌≡◌}
+use Prim.Native.Nat.{◌+◌, ◌-◌, ◌≤◌}
+use native.Mathlib.Omega.{arith}
+use lib.Dec.{eqb}
+use borrow.Author.Rules.{rules}
+use Rattle.memory_columns.specs.Layout.{max_tasks}
+use Rattle.call_tick.specs.Ticking.{any_from, has_left}
+use Rattle.call_tick.proofs.Ticks.{any_first, any_next, any_last, left_next_lem}
+use Rattle.call_tick.proofs.any_left.Given as goal
+
+abbrev pub invariant-loop-i : goal.invariant-loop-i
+invariant-loop-i l = ((not (eqb l.bits 0) || any_from (has_left l.words) (max_tasks + 1 - l.i) l.i) ≡ any_from (has_left l.words) max_tasks 1) × (l.i ≤ max_tasks + 1)
+
+abbrev pub decreases-loop-i : goal.decreases-loop-i
+decreases-loop-i l = max_tasks + 1 - l.i
