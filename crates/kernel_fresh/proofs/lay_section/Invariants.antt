@@ -1,0 +1,13 @@
+use Prim.Native.Nat.{◌+◌, ◌≤◌}
+use mathlib.Core.Path.{◌≡◌, refl, ◌∙◌}
+use native.Mathlib.Omega.{arith}
+use borrow.Author.Rules.{rules}
+use Rattle.kernel_fresh.specs.Laying.{in_turn, laid_entry}
+use Rattle.kernel_fresh.proofs.Steps.{turn_none, turn_step}
+use Rattle.kernel_fresh.proofs.lay_section.Given as goal
+
+abbrev pub invariant-loop-left : goal.invariant-loop-left
+invariant-loop-left l = (in_turn (laid_entry l.section l.bytes l.at) l.left l.i l.words ≡ in_turn (laid_entry l.section l.bytes l.at) l.n 1 l.initial.words) × (l.i + l.left ≡ l.n + 1) × (1 ≤ l.i)
+
+abbrev pub decreases-loop-left : goal.decreases-loop-left
+decreases-loop-left l = l.left

@@ -1,0 +1,19 @@
+-- Invariant: what is left, from here, is the whole from the start.
+use Prim.Native.Nat.{◌+◌}
+use mathlib.Core.Path.{◌≡◌, refl, ◌∙◌}
+use native.Mathlib.Omega.{arith}
+use Rattle.kernel_fresh.specs.Laying.{in_turn}
+use Rattle.kernel_fresh.proofs.Steps.{turn_none, turn_step}
+use Rattle.kernel_start.specs.Starting.{freed}
+use borrow.Author.Rules.{rules}
+use Rattle.kernel_start.proofs.free_blocks.Goals as goal
+
+pub loop-left-init : goal.loop-left-init
+loop-left-init c = (refl, omega arith)
+
+pub loop-left-preserved : goal.loop-left-preserved
+loop-left-preserved c =
+    (turn_step _ _ _ _ c.loop-left-test.true c.mark_block.ensures ∙ c.loop-left.invariant.0, omega arith)
+
+pub returns : goal.returns
+returns c = turn_none _ _ _ _ c.loop-left-test.false ∙ c.loop-left.invariant.0
