@@ -7,7 +7,7 @@ use native.Mathlib.Omega.{arith}
 use lib.Dec.{lit<, lit≤}
 use lib.ListN.{length, get_or}
 use Rattle.rules.specs.Ids.{of, ids, In, once}
-use Rattle.rules.specs.State.{depth, alarm_of, alarm_count, no_alarm, Body, task, nobody}
+use Rattle.rules.specs.State.{alarm_of, alarm_count, no_alarm, Body, task, nobody}
 use Rattle.rules.specs.Places.{Place, ready_at}
 use Rattle.rules.specs.Sound.{SoundBody}
 use Rattle.memory_columns.specs.declared.Rings.{Rings}

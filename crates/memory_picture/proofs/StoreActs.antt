@@ -11,7 +11,7 @@ use lib.ListN.{length, get_or}
 use borrow.Author.Tests.{le-leb, ne_eqb, eq-eqb}
 use Rattle.rules.specs.Ids.{of, put, ids, In, once, times}
 use Rattle.rules.specs.State.{semaphore, flag, Store}
-use Rattle.rules.specs.Places.{Place, ready_at, waiters, mail, free_in, lies, belongs, many, population, Exists}
+use Rattle.rules.specs.Places.{Place, ready_at, waiters, mail, free_in, lies, belongs, population, Exists}
 use Rattle.rules.specs.Acts.{Act, count, pattern, post, receive, mark, after, stay, move, with_store, with_semaphores, with_flags, with_messages, with_pools}
 use Rattle.rules.specs.Objects.{laid}
 use Rattle.rules.specs.Sound.{Known}

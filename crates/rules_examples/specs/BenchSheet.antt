@@ -24,8 +24,8 @@ step_of e c x y r n = record { event = e; says = c ∷ pos x ∷ pos y ∷ pos r
 -- the calls by name, in the order of their numbers
 pub data Call : Type 0 where
   sta_tsk ext_tsk ter_tsk chg_pri rot_rdq rel_wai sus_tsk rsm_tsk slp_tsk wai_tsk wup_tsk can_wup : Call
-  sig_sem wai-sem preq-sem set_flg clr_flg wai-flg pol-flg snd_msg rcv-msg prcv-msg get-blk pget-blk rel_blk : Call
-  get_tid tsk_sts sem-sts flg-sts mbx-sts mpl-sts get_tim : Call
+  sig_sem wai_sem preq_sem set_flg clr_flg wai_flg pol_flg snd_msg rcv_msg prcv_msg get_blk pget_blk rel_blk : Call
+  get_tid tsk_sts sem_sts flg_sts mbx_sts mpl_sts get_tim : Call
   cre_tsk del_tsk exd_tsk : Call
   set_abs set_rel can_alm alm_sts : Call
 
@@ -43,24 +43,24 @@ call_number wai_tsk = 10
 call_number wup_tsk = 11
 call_number can_wup = 12
 call_number sig_sem = 13
-call_number wai-sem = 14
-call_number preq-sem = 15
+call_number wai_sem = 14
+call_number preq_sem = 15
 call_number set_flg = 16
 call_number clr_flg = 17
-call_number wai-flg = 18
-call_number pol-flg = 19
+call_number wai_flg = 18
+call_number pol_flg = 19
 call_number snd_msg = 20
-call_number rcv-msg = 21
-call_number prcv-msg = 22
-call_number get-blk = 23
-call_number pget-blk = 24
+call_number rcv_msg = 21
+call_number prcv_msg = 22
+call_number get_blk = 23
+call_number pget_blk = 24
 call_number rel_blk = 25
 call_number get_tid = 26
 call_number tsk_sts = 27
-call_number sem-sts = 28
-call_number flg-sts = 29
-call_number mbx-sts = 30
-call_number mpl-sts = 31
+call_number sem_sts = 28
+call_number flg_sts = 29
+call_number mbx_sts = 30
+call_number mpl_sts = 31
 call_number get_tim = 32
 call_number cre_tsk = 33
 call_number del_tsk = 34
@@ -210,7 +210,7 @@ bench_sheet = record {
       -- B4 then H>wup_tsk(3): 0, released 1, runs 3.
       ∷ case 0 1 (step (X sta_tsk 3 0 0) (pos 0) 0 0 3 0 ∷ step (X slp_tsk 0 0 0) (pos 1) 0 0 1 0 ∷ step (H wup_tsk 3 0 0) (pos 0) 0 0 3 1 ∷ []) 3 (pos 0) 0
       -- B5 X>wai_sem(1): 1, runs 2; X>sig_sem(1): 0, released 1, runs 2, count 0.
-      ∷ case 0 1 (step (X wai-sem 1 0 0) (pos 1) 0 0 2 0 ∷ step (X sig_sem 1 0 0) (pos 0) 0 0 2 1 ∷ step (X sem-sts 1 0 0) (pos 0) 0 0 2 0 ∷ []) 1 (pos 0) 0
+      ∷ case 0 1 (step (X wai_sem 1 0 0) (pos 1) 0 0 2 0 ∷ step (X sig_sem 1 0 0) (pos 0) 0 0 2 1 ∷ step (X sem_sts 1 0 0) (pos 0) 0 0 2 0 ∷ []) 1 (pos 0) 0
       -- B6 X>rot_rdq(0): runs 2.
       ∷ case 0 1 (step (X rot_rdq 0 0 0) (pos 0) 0 0 2 0 ∷ []) 1 (pos 0) 0
       -- B7 X>chg_pri(1,2): runs 2.
@@ -219,11 +219,11 @@ bench_sheet = record {
       ∷ case 0 1 (step (X wai_tsk 2 0 0) (pos 1) 0 0 2 0 ∷ step (alone tick) (pos 0) 0 0 2 0 ∷ step (alone tick) (pos 0) 0 0 2 1 ∷ []) 1 (minus 3413) 0
       -- B9 three X>pget_blk(1): w1 1, w1 2, code -5; X>rel_blk(1,1), X>pget_blk(1): w1 1.
       ∷ case 0 1
-      (step (X pget-blk 1 0 0) (pos 0) 1 0 1 0
-      ∷ step (X pget-blk 1 0 0) (pos 0) 2 0 1 0
-      ∷ step (X pget-blk 1 0 0) (minus 5) 0 0 1 0
+      (step (X pget_blk 1 0 0) (pos 0) 1 0 1 0
+      ∷ step (X pget_blk 1 0 0) (pos 0) 2 0 1 0
+      ∷ step (X pget_blk 1 0 0) (minus 5) 0 0 1 0
       ∷ step (X rel_blk 1 1 0) (pos 0) 0 0 1 0
-      ∷ step (X pget-blk 1 0 0) (pos 0) 1 0 1 0
+      ∷ step (X pget_blk 1 0 0) (pos 0) 1 0 1 0
       ∷ [])
       1 (pos 0) 0
       -- B10 X>wup_tsk(1): -2097.
@@ -233,14 +233,14 @@ bench_sheet = record {
       -- B12 X>wai_flg(1,3,2); X>set_flg(1,1): released 0; X>set_flg(1,6): released 1, cell word 7, pattern 0.
       -- (Each set_flg looks at the one waiter: w1 1.)
       ∷ case 0 1
-      (step (X wai-flg 1 3 2) (pos 1) 0 0 2 0
+      (step (X wai_flg 1 3 2) (pos 1) 0 0 2 0
       ∷ step (X set_flg 1 1 0) (pos 0) 1 0 2 0
       ∷ step (X set_flg 1 6 0) (pos 0) 1 0 2 1
-      ∷ step (X flg-sts 1 0 0) (pos 0) 0 0 2 0
+      ∷ step (X flg_sts 1 0 0) (pos 0) 0 0 2 0
       ∷ [])
       1 (pos 0) 7
       -- B13 H>wai_sem(9): -2100, not -2629.
-      ∷ case 0 1 (step (H wai-sem 9 0 0) (minus 2100) 0 0 1 0 ∷ []) 1 (pos 0) 0
+      ∷ case 0 1 (step (H wai_sem 9 0 0) (minus 2100) 0 0 1 0 ∷ []) 1 (pos 0) 0
       -- X>slp_tsk, X>sus_tsk(1), X>rel_wai(1) gives SUSPEND with cell -3414;
       ∷ case 0 1
       (step (X slp_tsk 0 0 0) (pos 1) 0 0 2 0
@@ -257,10 +257,10 @@ bench_sheet = record {
       1 (pos 0) 0
       -- Request K7: gets 1 and 2, returns 2, then 1, and is granted 2.
       ∷ case 0 1
-      (step (X pget-blk 1 0 0) (pos 0) 1 0 1 0
-      ∷ step (X pget-blk 1 0 0) (pos 0) 2 0 1 0
+      (step (X pget_blk 1 0 0) (pos 0) 1 0 1 0
+      ∷ step (X pget_blk 1 0 0) (pos 0) 2 0 1 0
       ∷ step (X rel_blk 1 2 0) (pos 0) 0 0 1 0
-      ∷ step (X rel_blk 1 1 0) (pos 0) 0 0 1 0 ∷ step (X pget-blk 1 0 0) (pos 0) 2 0 1 0 ∷ [])
+      ∷ step (X rel_blk 1 1 0) (pos 0) 0 0 1 0 ∷ step (X pget_blk 1 0 0) (pos 0) 2 0 1 0 ∷ [])
       1 (pos 0) 0
       ∷ [];
 }

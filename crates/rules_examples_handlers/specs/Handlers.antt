@@ -3,7 +3,7 @@ use Rattle.std.specs.Prelude.{[], ◌∷◌, ◌++◌, map, pos, replicate}
 use Rattle.rules.specs.Codes.{minus}
 use Rattle.rules.specs.Events.{tick, enter, exit, call}
 use Rattle.rules_examples.specs.Bytes.{example_bytes}
-use Rattle.rules_examples.specs.BenchSheet.{X, H, I, step, case, Sheet, sta_tsk, ext_tsk, ter_tsk, chg_pri, rot_rdq, rel_wai, sus_tsk, rsm_tsk, slp_tsk, wai_tsk, wup_tsk, can_wup, sig_sem, wai-sem, preq-sem, set_flg, clr_flg, wai-flg, pol-flg, snd_msg, rcv-msg, prcv-msg, get-blk, pget-blk, rel_blk, get_tid, tsk_sts, sem-sts, flg-sts, mbx-sts, mpl-sts, get_tim, alone}
+use Rattle.rules_examples.specs.BenchSheet.{X, H, I, step, case, Sheet, sta_tsk, ext_tsk, ter_tsk, chg_pri, rot_rdq, rel_wai, sus_tsk, rsm_tsk, slp_tsk, wai_tsk, wup_tsk, can_wup, sig_sem, wai_sem, preq_sem, set_flg, clr_flg, wai_flg, pol_flg, snd_msg, rcv_msg, prcv_msg, get_blk, pget_blk, rel_blk, get_tid, tsk_sts, sem_sts, flg_sts, mbx_sts, mpl_sts, get_tim, alone}
 
 -- Handlers: entry and return as events, over the same setup. Each case has the request's words above it.
 abbrev pub handler_examples : Sheet
@@ -140,7 +140,7 @@ handler_examples = record {
       ∷ case 0 1
       (step (I get_tid 0 0 0) (minus 2629) 0 0 1 0
       ∷ step (I sta_tsk 3 0 0) (minus 2629) 0 0 1 0
-      ∷ step (I wai-sem 9 0 0) (minus 2100) 0 0 1 0
+      ∷ step (I wai_sem 9 0 0) (minus 2100) 0 0 1 0
       ∷ step (I sus_tsk 3 0 0) (minus 2629) 0 0 1 0
       ∷ step (alone exit) (minus 2629) 0 0 1 0
       ∷ step (X tsk_sts 3 0 0) (pos 0) 0 1 1 0
@@ -154,13 +154,13 @@ handler_examples = record {
       (X sta_tsk 3 0 0 ∷ X ext_tsk 0 0 0 ∷ X ter_tsk 1 0 0 ∷ X chg_pri 3 2 0
       ∷ X rot_rdq 0 0 0 ∷ X rel_wai 1 0 0 ∷ X sus_tsk 1 0 0 ∷ X rsm_tsk 2 0 0
       ∷ X slp_tsk 0 0 0 ∷ X wai_tsk 0 0 0 ∷ X wup_tsk 1 0 0 ∷ X can_wup 3 0 0
-      ∷ X sig_sem 3 0 0 ∷ X wai-sem 2 0 0 ∷ X preq-sem 1 0 0 ∷ X set_flg 1 1 0
-      ∷ X clr_flg 2 0 0 ∷ X wai-flg 2 5 0 ∷ X pol-flg 1 1 0 ∷ X snd_msg 1 1 0
-      ∷ X rcv-msg 1 0 0 ∷ X prcv-msg 2 0 0 ∷ X get-blk 1 0 0 ∷ X pget-blk 2 0 0
-      ∷ X rel_blk 1 1 0 ∷ X get_tid 0 0 0 ∷ X tsk_sts 1 0 0 ∷ X sem-sts 1 0 0
-      ∷ X flg-sts 1 0 0 ∷ X mbx-sts 1 0 0 ∷ X mpl-sts 1 0 0 ∷ X get_tim 0 0 0
+      ∷ X sig_sem 3 0 0 ∷ X wai_sem 2 0 0 ∷ X preq_sem 1 0 0 ∷ X set_flg 1 1 0
+      ∷ X clr_flg 2 0 0 ∷ X wai_flg 2 5 0 ∷ X pol_flg 1 1 0 ∷ X snd_msg 1 1 0
+      ∷ X rcv_msg 1 0 0 ∷ X prcv_msg 2 0 0 ∷ X get_blk 1 0 0 ∷ X pget_blk 2 0 0
+      ∷ X rel_blk 1 1 0 ∷ X get_tid 0 0 0 ∷ X tsk_sts 1 0 0 ∷ X sem_sts 1 0 0
+      ∷ X flg_sts 1 0 0 ∷ X mbx_sts 1 0 0 ∷ X mpl_sts 1 0 0 ∷ X get_tim 0 0 0
       ∷ I ext_tsk 0 0 0 ∷ I ter_tsk 1 0 0 ∷ I slp_tsk 0 0 0 ∷ I wai_tsk 0 0 0
-      ∷ I wai-sem 2 0 0 ∷ I wai-flg 2 5 0 ∷ I rcv-msg 1 0 0 ∷ I get-blk 1 0 0 ∷ [])
+      ∷ I wai_sem 2 0 0 ∷ I wai_flg 2 5 0 ∷ I rcv_msg 1 0 0 ∷ I get_blk 1 0 0 ∷ [])
       ++ (step (X sus_tsk 6 0 0) (minus 2100) 0 0 1 0
       ∷ step (alone (call (pos 2) (pos 26) (pos 0) (pos 0) (pos 0))) (minus 1) 0 0 1 0
       ∷ step (alone (call (pos 0) (pos 40) (pos 0) (pos 0) (pos 0))) (minus 1) 0 0 1 0

@@ -6,7 +6,7 @@ use Rattle.rules.specs.Answers.{numbers}
 use Rattle.rules.specs.Kernel.{fresh, event}
 use Rattle.rules.specs.Runs.{states}
 use Rattle.rules_examples.specs.Bytes.{bytes}
-use Rattle.rules_examples.specs.BenchSheet.{task_call, wai-flg}
+use Rattle.rules_examples.specs.BenchSheet.{task_call, wai_flg}
 
 -- How many waiters set_flg can look at. One priority, 32 tasks of it, all started; one flag.
 abbrev pub full_bytes : List ℕ
@@ -14,7 +14,7 @@ full_bytes = bytes (1 ∷ 32 ∷ (replicate 64 1 ++ (0 ∷ 1 ∷ 0 ∷ 0 ∷ 0 �
 
 -- the first n tasks and one more wait on the flag in turn, that one for bit 1 with clearing, the others for bit 2
 abbrev pub wait_in_turn : ℕ → List Event
-wait_in_turn n = replicate n (task_call wai-flg (pos 1) (pos 2) (pos 0)) ++ (task_call wai-flg (pos 1) (pos 1) (pos 2) ∷ [])
+wait_in_turn n = replicate n (task_call wai_flg (pos 1) (pos 2) (pos 0)) ++ (task_call wai_flg (pos 1) (pos 1) (pos 2) ∷ [])
 
 -- what comes back of an event after others, from the kernel with queues (the plain one would compute too long with 32 waiters)
 unfoldable pub full_says : List Event → Event → Read (List ℤ)

@@ -3,7 +3,7 @@ use Rattle.std.specs.Prelude.{[], ◌∷◌, ◌++◌, map, ◌-◌, ◌^◌, po
 use Rattle.rules.specs.Codes.{minus}
 use Rattle.rules.specs.Events.{tick, call}
 use Rattle.rules_examples.specs.Bytes.{example_bytes}
-use Rattle.rules_examples.specs.BenchSheet.{X±, H±, X, H, step, case, Sheet, sta_tsk, ext_tsk, ter_tsk, chg_pri, rot_rdq, rel_wai, sus_tsk, rsm_tsk, slp_tsk, wai_tsk, wup_tsk, can_wup, sig_sem, wai-sem, preq-sem, set_flg, clr_flg, wai-flg, pol-flg, snd_msg, rcv-msg, prcv-msg, get-blk, pget-blk, rel_blk, get_tid, tsk_sts, sem-sts, flg-sts, mbx-sts, mpl-sts, get_tim, alone}
+use Rattle.rules_examples.specs.BenchSheet.{X±, H±, X, H, step, case, Sheet, sta_tsk, ext_tsk, ter_tsk, chg_pri, rot_rdq, rel_wai, sus_tsk, rsm_tsk, slp_tsk, wai_tsk, wup_tsk, can_wup, sig_sem, wai_sem, preq_sem, set_flg, clr_flg, wai_flg, pol_flg, snd_msg, rcv_msg, prcv_msg, get_blk, pget_blk, rel_blk, get_tid, tsk_sts, sem_sts, flg_sts, mbx_sts, mpl_sts, get_tim, alone}
 
 -- Calls 13 to 32: semaphores, flags, mailboxes, pools, states and the clock; then the refusals that all calls share.
 abbrev pub object_examples : Sheet
@@ -12,59 +12,59 @@ object_examples = record {
   cases =
       -- 13 sig_sem(a): releases the first waiter, else adds one. Wait queues are first come, first served, whatever the priority.
       case 0 1
-      (step (X wai-sem 1 0 0) (pos 1) 0 0 2 0
-      ∷ step (X wai-sem 1 0 0) (pos 1) 0 0 5 0
+      (step (X wai_sem 1 0 0) (pos 1) 0 0 2 0
+      ∷ step (X wai_sem 1 0 0) (pos 1) 0 0 5 0
       ∷ step (X chg_pri 2 1 0) (pos 0) 0 0 5 0
-      ∷ step (X sem-sts 1 0 0) (pos 0) 1 0 5 0
+      ∷ step (X sem_sts 1 0 0) (pos 0) 1 0 5 0
       ∷ step (X sig_sem 1 0 0) (pos 0) 0 0 5 1
-      ∷ step (X sem-sts 1 0 0) (pos 0) 2 0 5 0
+      ∷ step (X sem_sts 1 0 0) (pos 0) 2 0 5 0
       ∷ step (X sig_sem 1 0 0) (pos 0) 0 0 2 1
-      ∷ step (X sem-sts 1 0 0) (pos 0) 0 0 2 0
+      ∷ step (X sem_sts 1 0 0) (pos 0) 0 0 2 0
       ∷ step (X sig_sem 1 0 0) (pos 0) 0 0 2 0
-      ∷ step (X sem-sts 1 0 0) (pos 0) 0 1 2 0
+      ∷ step (X sem_sts 1 0 0) (pos 0) 0 1 2 0
       ∷ [])
       2 (pos 0) 0
       -- First come is whose wait began first: task 5 before task 4, which was made ready before it.
       ∷ case 0 1
       (step (X slp_tsk 0 0 0) (pos 1) 0 0 2 0
       ∷ step (X slp_tsk 0 0 0) (pos 1) 0 0 5 0
-      ∷ step (X wai-sem 1 0 0) (pos 1) 0 0 4 0
-      ∷ step (X wai-sem 1 0 0) (pos 1) 0 0 0 0
-      ∷ step (H sem-sts 1 0 0) (pos 0) 5 0 0 0
+      ∷ step (X wai_sem 1 0 0) (pos 1) 0 0 4 0
+      ∷ step (X wai_sem 1 0 0) (pos 1) 0 0 0 0
+      ∷ step (H sem_sts 1 0 0) (pos 0) 5 0 0 0
       ∷ step (H sig_sem 1 0 0) (pos 0) 0 0 5 1
       ∷ [])
       5 (pos 0) 0
       -- 14 wai_sem(a), 15 preq_sem(a): takes one if the count is above 0. H_POLL: a poll that can't be served at once. E_QOVR: semaphore
       -- already 65535.
       ∷ case 0 1
-      (step (X wai-sem 2 0 0) (pos 0) 0 0 1 0
-      ∷ step (X sem-sts 2 0 0) (pos 0) 0 0 1 0
-      ∷ step (X preq-sem 2 0 0) (minus 5) 0 0 1 0
+      (step (X wai_sem 2 0 0) (pos 0) 0 0 1 0
+      ∷ step (X sem_sts 2 0 0) (pos 0) 0 0 1 0
+      ∷ step (X preq_sem 2 0 0) (minus 5) 0 0 1 0
       ∷ step (X sig_sem 3 0 0) (minus 2889) 0 0 1 0
-      ∷ step (H preq-sem 3 0 0) (pos 0) 0 0 1 0
-      ∷ step (H sem-sts 3 0 0) (pos 0) 0 65534 1 0
+      ∷ step (H preq_sem 3 0 0) (pos 0) 0 0 1 0
+      ∷ step (H sem_sts 3 0 0) (pos 0) 0 65534 1 0
       ∷ step (H sig_sem 3 0 0) (pos 0) 0 0 1 0
-      ∷ step (H sem-sts 3 0 0) (pos 0) 0 65535 1 0
-      ∷ step (H wai-sem 2 0 0) (minus 2629) 0 0 1 0
-      ∷ step (H wai-sem 9 0 0) (minus 2100) 0 0 1 0
+      ∷ step (H sem_sts 3 0 0) (pos 0) 0 65535 1 0
+      ∷ step (H wai_sem 2 0 0) (minus 2629) 0 0 1 0
+      ∷ step (H wai_sem 9 0 0) (minus 2100) 0 0 1 0
       ∷ [])
       1 (pos 0) 0
       -- 16 set_flg(a, b): ORs b in. 17 clr_flg(a, b): ANDs. A flag pattern is the unsigned number with the same bits. 29 flg_sts: w2 pattern.
       ∷ case 0 1
       (step (X set_flg 2 0 0) (pos 0) 0 0 1 0
-      ∷ step (X flg-sts 2 0 0) (pos 0) 0 5 1 0
+      ∷ step (X flg_sts 2 0 0) (pos 0) 0 5 1 0
       ∷ step (X set_flg 2 2 0) (pos 0) 0 0 1 0
-      ∷ step (X flg-sts 2 0 0) (pos 0) 0 7 1 0
+      ∷ step (X flg_sts 2 0 0) (pos 0) 0 7 1 0
       ∷ step (X clr_flg 2 6 0) (pos 0) 0 0 1 0
-      ∷ step (X flg-sts 2 0 0) (pos 0) 0 6 1 0
+      ∷ step (X flg_sts 2 0 0) (pos 0) 0 6 1 0
       ∷ step (X clr_flg 2 12 0) (pos 0) 0 0 1 0
-      ∷ step (X flg-sts 2 0 0) (pos 0) 0 4 1 0
+      ∷ step (X flg_sts 2 0 0) (pos 0) 0 4 1 0
       ∷ step (X± set_flg (pos 2) (minus 1) (pos 0)) (pos 0) 0 0 1 0
-      ∷ step (X flg-sts 2 0 0) (pos 0) 0 4294967295 1 0
+      ∷ step (X flg_sts 2 0 0) (pos 0) 0 4294967295 1 0
       ∷ step (X± clr_flg (pos 2) (minus 2) (pos 0)) (pos 0) 0 0 1 0
-      ∷ step (X flg-sts 2 0 0) (pos 0) 0 4294967294 1 0
+      ∷ step (X flg_sts 2 0 0) (pos 0) 0 4294967294 1 0
       ∷ step (X clr_flg 2 0 0) (pos 0) 0 0 1 0
-      ∷ step (X flg-sts 2 0 0) (pos 0) 0 0 1 0
+      ∷ step (X flg_sts 2 0 0) (pos 0) 0 0 1 0
       ∷ step (H set_flg 3 1 0) (minus 2100) 0 0 1 0
       ∷ step (H clr_flg 0 1 0) (minus 2100) 0 0 1 0
       ∷ [])
@@ -72,89 +72,89 @@ object_examples = record {
       -- 18 wai_flg(a, b, c), 19 pol_flg: mode 1-bit set means any bit of b, unset means all bits; mode 2-bit set means clear the whole pattern
       -- on success. w1 is the pattern before clearing. (Flag 2 starts as 5.)
       ∷ case 0 1
-      (step (X wai-flg 2 5 0) (pos 0) 5 0 1 0
-      ∷ step (X flg-sts 2 0 0) (pos 0) 0 5 1 0
-      ∷ step (X pol-flg 2 6 0) (minus 5) 0 0 1 0
-      ∷ step (X pol-flg 2 6 1) (pos 0) 5 0 1 0
-      ∷ step (X pol-flg 2 2 3) (minus 5) 0 0 1 0
-      ∷ step (X flg-sts 2 0 0) (pos 0) 0 5 1 0
-      ∷ step (X pol-flg 2 4 2) (pos 0) 5 0 1 0
-      ∷ step (X flg-sts 2 0 0) (pos 0) 0 0 1 0
+      (step (X wai_flg 2 5 0) (pos 0) 5 0 1 0
+      ∷ step (X flg_sts 2 0 0) (pos 0) 0 5 1 0
+      ∷ step (X pol_flg 2 6 0) (minus 5) 0 0 1 0
+      ∷ step (X pol_flg 2 6 1) (pos 0) 5 0 1 0
+      ∷ step (X pol_flg 2 2 3) (minus 5) 0 0 1 0
+      ∷ step (X flg_sts 2 0 0) (pos 0) 0 5 1 0
+      ∷ step (X pol_flg 2 4 2) (pos 0) 5 0 1 0
+      ∷ step (X flg_sts 2 0 0) (pos 0) 0 0 1 0
       ∷ step (X set_flg 2 12 0) (pos 0) 0 0 1 0
-      ∷ step (H± pol-flg (pos 2) (minus 1) (pos 3)) (pos 0) 12 0 1 0
-      ∷ step (X flg-sts 2 0 0) (pos 0) 0 0 1 0
+      ∷ step (H± pol_flg (pos 2) (minus 1) (pos 3)) (pos 0) 12 0 1 0
+      ∷ step (X flg_sts 2 0 0) (pos 0) 0 0 1 0
       ∷ [])
       1 (pos 0) 0
       -- H_PAR: flag pattern 0 in a wait or poll, mode not 0..3. The parameters left to right, then E_CTX.
       ∷ case 0 1
-      (step (X wai-flg 99 0 9) (minus 2100) 0 0 1 0
-      ∷ step (X pol-flg 99 0 9) (minus 2100) 0 0 1 0
-      ∷ step (X wai-flg 1 0 9) (minus 2) 0 0 1 0
-      ∷ step (X wai-flg 1 1 4) (minus 2) 0 0 1 0
-      ∷ step (X pol-flg 1 0 0) (minus 2) 0 0 1 0
-      ∷ step (X± pol-flg (pos 1) (pos 1) (minus 1)) (minus 2) 0 0 1 0
-      ∷ step (H wai-flg 1 0 0) (minus 2) 0 0 1 0
-      ∷ step (H wai-flg 1 1 0) (minus 2629) 0 0 1 0
+      (step (X wai_flg 99 0 9) (minus 2100) 0 0 1 0
+      ∷ step (X pol_flg 99 0 9) (minus 2100) 0 0 1 0
+      ∷ step (X wai_flg 1 0 9) (minus 2) 0 0 1 0
+      ∷ step (X wai_flg 1 1 4) (minus 2) 0 0 1 0
+      ∷ step (X pol_flg 1 0 0) (minus 2) 0 0 1 0
+      ∷ step (X± pol_flg (pos 1) (pos 1) (minus 1)) (minus 2) 0 0 1 0
+      ∷ step (H wai_flg 1 0 0) (minus 2) 0 0 1 0
+      ∷ step (H wai_flg 1 1 0) (minus 2629) 0 0 1 0
       ∷ [])
       1 (pos 0) 0
       -- set_flg goes through the waiters in order; each whose condition holds is released with the pattern of that moment, and if it asked for
       -- clearing the pattern becomes 0 before the next is looked at: task 2, which asks for the same bit, is not served.
       ∷ case 0 1
-      (step (X wai-flg 1 1 3) (pos 1) 0 0 2 0
-      ∷ step (X wai-flg 1 1 0) (pos 1) 0 0 5 0
+      (step (X wai_flg 1 1 3) (pos 1) 0 0 2 0
+      ∷ step (X wai_flg 1 1 0) (pos 1) 0 0 5 0
       ∷ step (X set_flg 1 1 0) (pos 0) 1 0 5 1
-      ∷ step (X flg-sts 1 0 0) (pos 0) 2 0 5 0
+      ∷ step (X flg_sts 1 0 0) (pos 0) 2 0 5 0
       ∷ step (X tsk_sts 2 0 0) (pos 0) 3 2 5 0
       ∷ [])
       1 (pos 0) 1
       -- Two waiters that ask for no clearing are both served, each with the whole pattern.
       ∷ case 0 1
-      (step (X wai-flg 1 1 0) (pos 1) 0 0 2 0
-      ∷ step (X wai-flg 1 6 1) (pos 1) 0 0 5 0
+      (step (X wai_flg 1 1 0) (pos 1) 0 0 2 0
+      ∷ step (X wai_flg 1 6 1) (pos 1) 0 0 5 0
       ∷ step (X set_flg 1 3 0) (pos 0) 2 0 5 2
-      ∷ step (X flg-sts 1 0 0) (pos 0) 0 3 5 0
+      ∷ step (X flg_sts 1 0 0) (pos 0) 0 3 5 0
       ∷ [])
       2 (pos 0) 3
       -- A waiter whose condition does not hold keeps its place, and the next is looked at.
       ∷ case 0 1
-      (step (X wai-flg 1 4 0) (pos 1) 0 0 2 0
-      ∷ step (X wai-flg 1 1 2) (pos 1) 0 0 5 0
+      (step (X wai_flg 1 4 0) (pos 1) 0 0 2 0
+      ∷ step (X wai_flg 1 1 2) (pos 1) 0 0 5 0
       ∷ step (X set_flg 1 1 0) (pos 0) 2 0 5 1
-      ∷ step (X flg-sts 1 0 0) (pos 0) 1 0 5 0
+      ∷ step (X flg_sts 1 0 0) (pos 0) 1 0 5 0
       ∷ [])
       2 (pos 0) 1
       -- After a waiter released with clearing nobody is released. In the queue: 3, released; 1, not met; 2, released with clearing; 5 and 4,
       -- who ask for the bit too and stay.
       ∷ case 0 1
       (step (X sta_tsk 3 0 0) (pos 0) 0 0 3 0
-      ∷ step (X wai-flg 1 1 0) (pos 1) 0 0 1 0
-      ∷ step (X wai-flg 1 4 0) (pos 1) 0 0 2 0
-      ∷ step (X wai-flg 1 1 2) (pos 1) 0 0 5 0
-      ∷ step (X wai-flg 1 1 0) (pos 1) 0 0 4 0
-      ∷ step (X wai-flg 1 3 3) (pos 1) 0 0 0 0
+      ∷ step (X wai_flg 1 1 0) (pos 1) 0 0 1 0
+      ∷ step (X wai_flg 1 4 0) (pos 1) 0 0 2 0
+      ∷ step (X wai_flg 1 1 2) (pos 1) 0 0 5 0
+      ∷ step (X wai_flg 1 1 0) (pos 1) 0 0 4 0
+      ∷ step (X wai_flg 1 3 3) (pos 1) 0 0 0 0
       ∷ step (H set_flg 1 1 0) (pos 0) 3 0 3 2
-      ∷ step (X flg-sts 1 0 0) (pos 0) 1 0 3 0
+      ∷ step (X flg_sts 1 0 0) (pos 0) 1 0 3 0
       ∷ step (X tsk_sts 5 0 0) (pos 0) 3 2 3 0
       ∷ step (X tsk_sts 4 0 0) (pos 0) 3 3 3 0
       ∷ [])
       2 (pos 0) 1
       -- A waiter keeps its pattern and its mode while it is suspended and resumed and time goes by.
       ∷ case 0 1
-      (step (X wai-flg 1 6 3) (pos 1) 0 0 2 0
-      ∷ step (X wai-flg 1 2 0) (pos 1) 0 0 5 0
+      (step (X wai_flg 1 6 3) (pos 1) 0 0 2 0
+      ∷ step (X wai_flg 1 2 0) (pos 1) 0 0 5 0
       ∷ step (X sus_tsk 1 0 0) (pos 0) 0 0 5 0
       ∷ step (alone tick) (pos 0) 0 0 5 0
       ∷ step (X rsm_tsk 1 0 0) (pos 0) 0 0 5 0
       ∷ step (alone tick) (pos 0) 0 0 5 0
       ∷ step (X sus_tsk 1 0 0) (pos 0) 0 0 5 0
       ∷ step (X set_flg 1 2 0) (pos 0) 1 0 5 1
-      ∷ step (X flg-sts 1 0 0) (pos 0) 2 0 5 0
+      ∷ step (X flg_sts 1 0 0) (pos 0) 2 0 5 0
       ∷ step (X tsk_sts 1 0 0) (pos 0) 4 2 5 0
       ∷ [])
       1 (pos 0) 2
       -- A waiter's pattern is the unsigned number with the same bits too: here bit 31.
       ∷ case 0 1
-      (step (X± wai-flg (pos 1) (minus 2147483648) (pos 0)) (pos 1) 0 0 2 0
+      (step (X± wai_flg (pos 1) (minus 2147483648) (pos 0)) (pos 1) 0 0 2 0
       ∷ step (X set_flg 1 1 0) (pos 0) 1 0 2 0
       ∷ step (X± set_flg (pos 1) (minus 2147483648) (pos 0)) (pos 0) 1 0 2 1
       ∷ [])
@@ -164,17 +164,17 @@ object_examples = record {
       ∷ case 0 1
       (step (X snd_msg 1 1 0) (pos 0) 0 0 1 0
       ∷ step (H snd_msg 1 2 0) (pos 0) 0 0 1 0
-      ∷ step (X mbx-sts 1 0 0) (pos 0) 0 1 1 0
-      ∷ step (X rcv-msg 1 0 0) (pos 0) 1 0 1 0
+      ∷ step (X mbx_sts 1 0 0) (pos 0) 0 1 1 0
+      ∷ step (X rcv_msg 1 0 0) (pos 0) 1 0 1 0
       ∷ step (X snd_msg 1 1 0) (pos 0) 0 0 1 0
-      ∷ step (X prcv-msg 1 0 0) (pos 0) 2 0 1 0
-      ∷ step (H prcv-msg 1 0 0) (pos 0) 1 0 1 0
-      ∷ step (X prcv-msg 1 0 0) (minus 5) 0 0 1 0
-      ∷ step (H rcv-msg 1 0 0) (minus 2629) 0 0 1 0
-      ∷ step (X rcv-msg 1 0 0) (pos 1) 0 0 2 0
-      ∷ step (X mbx-sts 1 0 0) (pos 0) 1 0 2 0
+      ∷ step (X prcv_msg 1 0 0) (pos 0) 2 0 1 0
+      ∷ step (H prcv_msg 1 0 0) (pos 0) 1 0 1 0
+      ∷ step (X prcv_msg 1 0 0) (minus 5) 0 0 1 0
+      ∷ step (H rcv_msg 1 0 0) (minus 2629) 0 0 1 0
+      ∷ step (X rcv_msg 1 0 0) (pos 1) 0 0 2 0
+      ∷ step (X mbx_sts 1 0 0) (pos 0) 1 0 2 0
       ∷ step (X snd_msg 1 3 0) (pos 0) 0 0 2 1
-      ∷ step (X mbx-sts 1 0 0) (pos 0) 0 0 2 0
+      ∷ step (X mbx_sts 1 0 0) (pos 0) 0 0 2 0
       ∷ [])
       1 (pos 0) 3
       -- H_PAR: message number outside 1..count. H_MSG: the message already lies in a mailbox, be it another one than a that has a waiter.
@@ -184,120 +184,120 @@ object_examples = record {
       ∷ step (X snd_msg 3 4 0) (minus 2100) 0 0 1 0
       ∷ step (X snd_msg 2 1 0) (pos 0) 0 0 1 0
       ∷ step (X snd_msg 2 1 0) (minus 6) 0 0 1 0
-      ∷ step (X mbx-sts 2 0 0) (pos 0) 0 1 1 0
-      ∷ step (X rcv-msg 1 0 0) (pos 1) 0 0 2 0
+      ∷ step (X mbx_sts 2 0 0) (pos 0) 0 1 1 0
+      ∷ step (X rcv_msg 1 0 0) (pos 1) 0 0 2 0
       ∷ step (X snd_msg 1 1 0) (minus 6) 0 0 2 0
-      ∷ step (X mbx-sts 1 0 0) (pos 0) 1 0 2 0
-      ∷ step (X prcv-msg 2 0 0) (pos 0) 1 0 2 0
+      ∷ step (X mbx_sts 1 0 0) (pos 0) 1 0 2 0
+      ∷ step (X prcv_msg 2 0 0) (pos 0) 1 0 2 0
       ∷ step (X snd_msg 1 1 0) (pos 0) 0 0 2 1
       ∷ [])
       1 (pos 0) 1
       -- Two tasks wait on a mailbox: first come, first served.
       ∷ case 0 1
-      (step (X rcv-msg 1 0 0) (pos 1) 0 0 2 0
-      ∷ step (X rcv-msg 1 0 0) (pos 1) 0 0 5 0
+      (step (X rcv_msg 1 0 0) (pos 1) 0 0 2 0
+      ∷ step (X rcv_msg 1 0 0) (pos 1) 0 0 5 0
       ∷ step (X snd_msg 1 3 0) (pos 0) 0 0 5 1
-      ∷ step (X mbx-sts 1 0 0) (pos 0) 2 0 5 0
+      ∷ step (X mbx_sts 1 0 0) (pos 0) 2 0 5 0
       ∷ step (X snd_msg 1 2 0) (pos 0) 0 0 5 1
       ∷ [])
       2 (pos 0) 2
       -- 23 get_blk(a), 24 pget_blk(a): w1 is the block longest free. 25 rel_blk(a, b): to the first waiter, else free, behind the other free
       -- ones. H_ILBLK: block number outside the pool, or free. 31 mpl_sts: w2 number of free blocks.
       ∷ case 0 1
-      (step (X mpl-sts 1 0 0) (pos 0) 0 2 1 0
-      ∷ step (X get-blk 1 0 0) (pos 0) 1 0 1 0
-      ∷ step (H pget-blk 1 0 0) (pos 0) 2 0 1 0
-      ∷ step (X pget-blk 1 0 0) (minus 5) 0 0 1 0
-      ∷ step (X mpl-sts 1 0 0) (pos 0) 0 0 1 0
+      (step (X mpl_sts 1 0 0) (pos 0) 0 2 1 0
+      ∷ step (X get_blk 1 0 0) (pos 0) 1 0 1 0
+      ∷ step (H pget_blk 1 0 0) (pos 0) 2 0 1 0
+      ∷ step (X pget_blk 1 0 0) (minus 5) 0 0 1 0
+      ∷ step (X mpl_sts 1 0 0) (pos 0) 0 0 1 0
       ∷ step (X rel_blk 1 3 0) (minus 10) 0 0 1 0
       ∷ step (X rel_blk 1 0 0) (minus 10) 0 0 1 0
       ∷ step (X± rel_blk (pos 1) (minus 1) (pos 0)) (minus 10) 0 0 1 0
       ∷ step (X rel_blk 1 2 0) (pos 0) 0 0 1 0
-      ∷ step (X mpl-sts 1 0 0) (pos 0) 0 1 1 0
+      ∷ step (X mpl_sts 1 0 0) (pos 0) 0 1 1 0
       ∷ step (X rel_blk 1 2 0) (minus 10) 0 0 1 0
       ∷ step (H rel_blk 1 1 0) (pos 0) 0 0 1 0
-      ∷ step (X pget-blk 1 0 0) (pos 0) 2 0 1 0
-      ∷ step (H get-blk 1 0 0) (minus 2629) 0 0 1 0
+      ∷ step (X pget_blk 1 0 0) (pos 0) 2 0 1 0
+      ∷ step (H get_blk 1 0 0) (minus 2629) 0 0 1 0
       ∷ step (H rel_blk 3 9 0) (minus 2100) 0 0 1 0
       ∷ [])
       1 (pos 0) 0
       -- Blocks wear evenly: one that is got and returned again and again takes turns with the one that stays free. Each pool has its own
       -- queue, and a refused return or poll moves nothing in it.
       ∷ case 0 1
-      (step (X get-blk 1 0 0) (pos 0) 1 0 1 0
+      (step (X get_blk 1 0 0) (pos 0) 1 0 1 0
       ∷ step (X rel_blk 1 1 0) (pos 0) 0 0 1 0
-      ∷ step (X get-blk 1 0 0) (pos 0) 2 0 1 0
+      ∷ step (X get_blk 1 0 0) (pos 0) 2 0 1 0
       ∷ step (X rel_blk 1 2 0) (pos 0) 0 0 1 0
       ∷ step (X rel_blk 1 1 0) (minus 10) 0 0 1 0
-      ∷ step (X get-blk 2 0 0) (pos 0) 1 0 1 0
+      ∷ step (X get_blk 2 0 0) (pos 0) 1 0 1 0
       ∷ step (X rel_blk 2 1 0) (pos 0) 0 0 1 0
-      ∷ step (X pget-blk 1 0 0) (pos 0) 1 0 1 0
+      ∷ step (X pget_blk 1 0 0) (pos 0) 1 0 1 0
       ∷ step (X rel_blk 1 1 0) (pos 0) 0 0 1 0
-      ∷ step (X pget-blk 1 0 0) (pos 0) 2 0 1 0
-      ∷ step (X pget-blk 1 0 0) (pos 0) 1 0 1 0
-      ∷ step (X pget-blk 1 0 0) (minus 5) 0 0 1 0
+      ∷ step (X pget_blk 1 0 0) (pos 0) 2 0 1 0
+      ∷ step (X pget_blk 1 0 0) (pos 0) 1 0 1 0
+      ∷ step (X pget_blk 1 0 0) (minus 5) 0 0 1 0
       ∷ step (X rel_blk 1 1 0) (pos 0) 0 0 1 0
       ∷ step (X rel_blk 1 2 0) (pos 0) 0 0 1 0
-      ∷ step (X pget-blk 1 0 0) (pos 0) 1 0 1 0
-      ∷ step (X pget-blk 1 0 0) (pos 0) 2 0 1 0
+      ∷ step (X pget_blk 1 0 0) (pos 0) 1 0 1 0
+      ∷ step (X pget_blk 1 0 0) (pos 0) 2 0 1 0
       ∷ [])
       1 (pos 0) 0
       -- One that goes to a waiter does not stand in the queue: block 2, handed over and then returned, comes behind block 1, returned before.
       ∷ case 0 1
-      (step (X get-blk 1 0 0) (pos 0) 1 0 1 0
-      ∷ step (X get-blk 1 0 0) (pos 0) 2 0 1 0
-      ∷ step (X get-blk 1 0 0) (pos 1) 0 0 2 0
+      (step (X get_blk 1 0 0) (pos 0) 1 0 1 0
+      ∷ step (X get_blk 1 0 0) (pos 0) 2 0 1 0
+      ∷ step (X get_blk 1 0 0) (pos 1) 0 0 2 0
       ∷ step (X rel_blk 1 2 0) (pos 0) 0 0 2 1
       ∷ step (X rel_blk 1 1 0) (pos 0) 0 0 2 0
       ∷ step (X rel_blk 1 2 0) (pos 0) 0 0 2 0
-      ∷ step (X mpl-sts 1 0 0) (pos 0) 0 2 2 0
-      ∷ step (X pget-blk 1 0 0) (pos 0) 1 0 2 0
-      ∷ step (X pget-blk 1 0 0) (pos 0) 2 0 2 0
+      ∷ step (X mpl_sts 1 0 0) (pos 0) 0 2 2 0
+      ∷ step (X pget_blk 1 0 0) (pos 0) 1 0 2 0
+      ∷ step (X pget_blk 1 0 0) (pos 0) 2 0 2 0
       ∷ [])
       1 (pos 0) 2
       -- A returned block goes straight to the first waiter: it is never free in between.
       ∷ case 0 1
-      (step (X get-blk 1 0 0) (pos 0) 1 0 1 0
-      ∷ step (X get-blk 1 0 0) (pos 0) 2 0 1 0
-      ∷ step (X get-blk 1 0 0) (pos 1) 0 0 2 0
-      ∷ step (X mpl-sts 1 0 0) (pos 0) 1 0 2 0
+      (step (X get_blk 1 0 0) (pos 0) 1 0 1 0
+      ∷ step (X get_blk 1 0 0) (pos 0) 2 0 1 0
+      ∷ step (X get_blk 1 0 0) (pos 1) 0 0 2 0
+      ∷ step (X mpl_sts 1 0 0) (pos 0) 1 0 2 0
       ∷ step (X rel_blk 1 2 0) (pos 0) 0 0 2 1
-      ∷ step (X mpl-sts 1 0 0) (pos 0) 0 0 2 0
-      ∷ step (X pget-blk 1 0 0) (minus 5) 0 0 2 0
+      ∷ step (X mpl_sts 1 0 0) (pos 0) 0 0 2 0
+      ∷ step (X pget_blk 1 0 0) (minus 5) 0 0 2 0
       ∷ [])
       1 (pos 0) 2
       -- H_ILBLK though a task waits: a number outside the pool is given to nobody. Two tasks wait: first come, first served.
       ∷ case 0 1
-      (step (X get-blk 2 0 0) (pos 0) 1 0 1 0
-      ∷ step (X get-blk 2 0 0) (pos 1) 0 0 2 0
-      ∷ step (X get-blk 2 0 0) (pos 1) 0 0 5 0
+      (step (X get_blk 2 0 0) (pos 0) 1 0 1 0
+      ∷ step (X get_blk 2 0 0) (pos 1) 0 0 2 0
+      ∷ step (X get_blk 2 0 0) (pos 1) 0 0 5 0
       ∷ step (X rel_blk 2 2 0) (minus 10) 0 0 5 0
       ∷ step (X rel_blk 2 0 0) (minus 10) 0 0 5 0
-      ∷ step (X mpl-sts 2 0 0) (pos 0) 1 0 5 0
+      ∷ step (X mpl_sts 2 0 0) (pos 0) 1 0 5 0
       ∷ step (X rel_blk 2 1 0) (pos 0) 0 0 5 1
-      ∷ step (X mpl-sts 2 0 0) (pos 0) 2 0 5 0
+      ∷ step (X mpl_sts 2 0 0) (pos 0) 2 0 5 0
       ∷ step (X ter_tsk 2 0 0) (pos 0) 0 0 5 0
       ∷ step (X rel_blk 2 1 0) (pos 0) 0 0 5 0
-      ∷ step (X mpl-sts 2 0 0) (pos 0) 0 1 5 0
+      ∷ step (X mpl_sts 2 0 0) (pos 0) 0 1 5 0
       ∷ [])
       1 (pos 0) 1
       -- A wait is for the object that the call names: the second of each kind.
       ∷ case 0 1
-      (step (X wai-sem 2 0 0) (pos 0) 0 0 1 0
-      ∷ step (X wai-sem 2 0 0) (pos 1) 0 0 2 0
-      ∷ step (X rcv-msg 2 0 0) (pos 1) 0 0 5 0
-      ∷ step (X wai-flg 2 8 0) (pos 1) 0 0 4 0
-      ∷ step (X get-blk 2 0 0) (pos 0) 1 0 4 0
-      ∷ step (X get-blk 2 0 0) (pos 1) 0 0 0 0
-      ∷ step (H sem-sts 2 0 0) (pos 0) 1 0 0 0
-      ∷ step (H mbx-sts 2 0 0) (pos 0) 2 0 0 0
-      ∷ step (H flg-sts 2 0 0) (pos 0) 5 5 0 0
-      ∷ step (H mpl-sts 2 0 0) (pos 0) 4 0 0 0
+      (step (X wai_sem 2 0 0) (pos 0) 0 0 1 0
+      ∷ step (X wai_sem 2 0 0) (pos 1) 0 0 2 0
+      ∷ step (X rcv_msg 2 0 0) (pos 1) 0 0 5 0
+      ∷ step (X wai_flg 2 8 0) (pos 1) 0 0 4 0
+      ∷ step (X get_blk 2 0 0) (pos 0) 1 0 4 0
+      ∷ step (X get_blk 2 0 0) (pos 1) 0 0 0 0
+      ∷ step (H sem_sts 2 0 0) (pos 0) 1 0 0 0
+      ∷ step (H mbx_sts 2 0 0) (pos 0) 2 0 0 0
+      ∷ step (H flg_sts 2 0 0) (pos 0) 5 5 0 0
+      ∷ step (H mpl_sts 2 0 0) (pos 0) 4 0 0 0
       ∷ step (H rel_blk 2 1 0) (pos 0) 0 0 4 1
       ∷ step (H set_flg 2 8 0) (pos 0) 1 0 5 1
       ∷ step (H snd_msg 2 3 0) (pos 0) 0 0 5 1
       ∷ step (H sig_sem 2 0 0) (pos 0) 0 0 5 1
-      ∷ step (X sem-sts 2 0 0) (pos 0) 0 0 5 0
+      ∷ step (X sem_sts 2 0 0) (pos 0) 0 0 5 0
       ∷ [])
       5 (pos 0) 13
       -- 26 get_tid: w1 the running task. 27 tsk_sts(a): w1 state (0 DORMANT, 1 READY, 2 RUN), w2 priority.
@@ -334,23 +334,23 @@ object_examples = record {
       ∷ step (X wup_tsk 6 0 0) (minus 2100) 0 0 1 0
       ∷ step (X can_wup 6 0 0) (minus 2100) 0 0 1 0
       ∷ step (X sig_sem 4 0 0) (minus 2100) 0 0 1 0
-      ∷ step (X wai-sem 4 0 0) (minus 2100) 0 0 1 0
-      ∷ step (X preq-sem 4 0 0) (minus 2100) 0 0 1 0
+      ∷ step (X wai_sem 4 0 0) (minus 2100) 0 0 1 0
+      ∷ step (X preq_sem 4 0 0) (minus 2100) 0 0 1 0
       ∷ step (X set_flg 3 1 0) (minus 2100) 0 0 1 0
       ∷ step (X clr_flg 3 1 0) (minus 2100) 0 0 1 0
-      ∷ step (X wai-flg 3 1 0) (minus 2100) 0 0 1 0
-      ∷ step (X pol-flg 3 1 0) (minus 2100) 0 0 1 0
+      ∷ step (X wai_flg 3 1 0) (minus 2100) 0 0 1 0
+      ∷ step (X pol_flg 3 1 0) (minus 2100) 0 0 1 0
       ∷ step (X snd_msg 3 1 0) (minus 2100) 0 0 1 0
-      ∷ step (X rcv-msg 3 0 0) (minus 2100) 0 0 1 0
-      ∷ step (X prcv-msg 3 0 0) (minus 2100) 0 0 1 0
-      ∷ step (X get-blk 3 0 0) (minus 2100) 0 0 1 0
-      ∷ step (X pget-blk 3 0 0) (minus 2100) 0 0 1 0
+      ∷ step (X rcv_msg 3 0 0) (minus 2100) 0 0 1 0
+      ∷ step (X prcv_msg 3 0 0) (minus 2100) 0 0 1 0
+      ∷ step (X get_blk 3 0 0) (minus 2100) 0 0 1 0
+      ∷ step (X pget_blk 3 0 0) (minus 2100) 0 0 1 0
       ∷ step (X rel_blk 3 1 0) (minus 2100) 0 0 1 0
       ∷ step (X tsk_sts 6 0 0) (minus 2100) 0 0 1 0
-      ∷ step (X sem-sts 4 0 0) (minus 2100) 0 0 1 0
-      ∷ step (X flg-sts 3 0 0) (minus 2100) 0 0 1 0
-      ∷ step (X mbx-sts 3 0 0) (minus 2100) 0 0 1 0
-      ∷ step (X mpl-sts 3 0 0) (minus 2100) 0 0 1 0
+      ∷ step (X sem_sts 4 0 0) (minus 2100) 0 0 1 0
+      ∷ step (X flg_sts 3 0 0) (minus 2100) 0 0 1 0
+      ∷ step (X mbx_sts 3 0 0) (minus 2100) 0 0 1 0
+      ∷ step (X mpl_sts 3 0 0) (minus 2100) 0 0 1 0
       ∷ [])
       1 (pos 0) 0
       -- T marks task-only: every other call is served from a handler too.
@@ -365,17 +365,17 @@ object_examples = record {
       ∷ step (H wup_tsk 5 0 0) (pos 0) 0 0 1 0
       ∷ step (H can_wup 5 0 0) (pos 0) 1 0 1 0
       ∷ step (H sig_sem 1 0 0) (pos 0) 0 0 1 0
-      ∷ step (H sem-sts 1 0 0) (pos 0) 0 1 1 0
-      ∷ step (H preq-sem 1 0 0) (pos 0) 0 0 1 0
+      ∷ step (H sem_sts 1 0 0) (pos 0) 0 1 1 0
+      ∷ step (H preq_sem 1 0 0) (pos 0) 0 0 1 0
       ∷ step (H set_flg 1 3 0) (pos 0) 0 0 1 0
       ∷ step (H clr_flg 1 1 0) (pos 0) 0 0 1 0
-      ∷ step (H flg-sts 1 0 0) (pos 0) 0 1 1 0
-      ∷ step (H pol-flg 1 1 0) (pos 0) 1 0 1 0
+      ∷ step (H flg_sts 1 0 0) (pos 0) 0 1 1 0
+      ∷ step (H pol_flg 1 1 0) (pos 0) 1 0 1 0
       ∷ step (H snd_msg 1 2 0) (pos 0) 0 0 1 0
-      ∷ step (H mbx-sts 1 0 0) (pos 0) 0 2 1 0
-      ∷ step (H prcv-msg 1 0 0) (pos 0) 2 0 1 0
-      ∷ step (H pget-blk 1 0 0) (pos 0) 1 0 1 0
-      ∷ step (H mpl-sts 1 0 0) (pos 0) 0 1 1 0
+      ∷ step (H mbx_sts 1 0 0) (pos 0) 0 2 1 0
+      ∷ step (H prcv_msg 1 0 0) (pos 0) 2 0 1 0
+      ∷ step (H pget_blk 1 0 0) (pos 0) 1 0 1 0
+      ∷ step (H mpl_sts 1 0 0) (pos 0) 0 1 1 0
       ∷ step (H rel_blk 1 1 0) (pos 0) 0 0 1 0
       ∷ step (H get_tid 0 0 0) (pos 0) 1 0 1 0
       ∷ step (H tsk_sts 3 0 0) (pos 0) 1 4 1 0
@@ -388,7 +388,7 @@ object_examples = record {
       (replicate 15 (step (H wup_tsk 1 0 0) (pos 0) 0 0 1 0) ++
       step (X wup_tsk 1 0 0) (minus 2097) 0 0 1 0
       ∷ step (X snd_msg 1 1 0) (pos 0) 0 0 1 0
-      ∷ step (X pget-blk 2 0 0) (pos 0) 1 0 1 0
+      ∷ step (X pget_blk 2 0 0) (pos 0) 1 0 1 0
       ∷ step (H sus_tsk 1 0 0) (pos 0) 0 0 2 0
       ∷ step (X slp_tsk 0 0 0) (pos 1) 0 0 5 0
       ∷ step (X slp_tsk 0 0 0) (pos 1) 0 0 4 0
@@ -397,11 +397,11 @@ object_examples = record {
       (X sta_tsk 2 0 0 ∷ X ext_tsk 0 0 0 ∷ X ter_tsk 2 0 0 ∷ X chg_pri 2 2 0
       ∷ X rot_rdq 0 0 0 ∷ X rel_wai 1 0 0 ∷ X sus_tsk 1 0 0 ∷ X rsm_tsk 2 0 0
       ∷ X slp_tsk 0 0 0 ∷ X wai_tsk 0 0 0 ∷ X wup_tsk 1 0 0 ∷ X can_wup 1 0 0
-      ∷ X sig_sem 3 0 0 ∷ X wai-sem 2 0 0 ∷ X preq-sem 1 0 0 ∷ X set_flg 1 1 0
-      ∷ X clr_flg 2 0 0 ∷ X wai-flg 2 5 0 ∷ X pol-flg 1 1 0 ∷ X snd_msg 1 1 0
-      ∷ X rcv-msg 1 0 0 ∷ X prcv-msg 2 0 0 ∷ X get-blk 1 0 0 ∷ X pget-blk 2 0 0
-      ∷ X rel_blk 1 1 0 ∷ X get_tid 0 0 0 ∷ X tsk_sts 1 0 0 ∷ X sem-sts 1 0 0
-      ∷ X flg-sts 1 0 0 ∷ X mbx-sts 1 0 0 ∷ X mpl-sts 1 0 0 ∷ X get_tim 0 0 0
+      ∷ X sig_sem 3 0 0 ∷ X wai_sem 2 0 0 ∷ X preq_sem 1 0 0 ∷ X set_flg 1 1 0
+      ∷ X clr_flg 2 0 0 ∷ X wai_flg 2 5 0 ∷ X pol_flg 1 1 0 ∷ X snd_msg 1 1 0
+      ∷ X rcv_msg 1 0 0 ∷ X prcv_msg 2 0 0 ∷ X get_blk 1 0 0 ∷ X pget_blk 2 0 0
+      ∷ X rel_blk 1 1 0 ∷ X get_tid 0 0 0 ∷ X tsk_sts 1 0 0 ∷ X sem_sts 1 0 0
+      ∷ X flg_sts 1 0 0 ∷ X mbx_sts 1 0 0 ∷ X mpl_sts 1 0 0 ∷ X get_tim 0 0 0
       ∷ H wai_tsk 0 0 0 ∷ []))
       1 (pos 0) 0
       -- H_CALL: call number not 1..39, or context not 0 or 1; before the parameters.
@@ -416,14 +416,14 @@ object_examples = record {
       1 (pos 0) 0
       -- A negative code leaves the state unchanged and the running task as before, as status calls show.
       ∷ case 41 1
-      (step (X preq-sem 1 0 0) (minus 5) 0 0 1 0
-      ∷ step (X sem-sts 1 0 0) (pos 0) 0 0 1 0
-      ∷ step (X pol-flg 2 2 2) (minus 5) 0 0 1 0
-      ∷ step (X flg-sts 2 0 0) (pos 0) 0 5 1 0
+      (step (X preq_sem 1 0 0) (minus 5) 0 0 1 0
+      ∷ step (X sem_sts 1 0 0) (pos 0) 0 0 1 0
+      ∷ step (X pol_flg 2 2 2) (minus 5) 0 0 1 0
+      ∷ step (X flg_sts 2 0 0) (pos 0) 0 5 1 0
       ∷ step (X snd_msg 2 9 0) (minus 2) 0 0 1 0
-      ∷ step (X mbx-sts 2 0 0) (pos 0) 0 0 1 0
+      ∷ step (X mbx_sts 2 0 0) (pos 0) 0 0 1 0
       ∷ step (X rel_blk 1 1 0) (minus 10) 0 0 1 0
-      ∷ step (X mpl-sts 1 0 0) (pos 0) 0 2 1 0
+      ∷ step (X mpl_sts 1 0 0) (pos 0) 0 2 1 0
       ∷ step (X wai_tsk 0 0 0) (minus 3413) 0 0 1 0
       ∷ step (X tsk_sts 1 0 0) (pos 0) 2 2 1 0
       ∷ step (X get_tim 0 0 0) (pos 0) 0 41 1 0
@@ -431,7 +431,7 @@ object_examples = record {
       1 (pos 0) 0
       -- A cell is read by task id: E_NOEXS for a bad id, with word 0.
       ∷ case 0 1
-      (step (X wai-sem 1 0 0) (pos 1) 0 0 2 0
+      (step (X wai_sem 1 0 0) (pos 1) 0 0 2 0
       ∷ [])
       6 (minus 2100) 0
       ∷ [];

@@ -2,7 +2,7 @@
 use Rattle.std.specs.Prelude.{[], ◌∷◌, ◌++◌, map, pos, replicate}
 use Rattle.rules.specs.Codes.{minus}
 use Rattle.rules_examples.specs.Bytes.{example_bytes}
-use Rattle.rules_examples.specs.BenchSheet.{X, H, step, case, Sheet, sta_tsk, ext_tsk, ter_tsk, chg_pri, rot_rdq, rel_wai, sus_tsk, rsm_tsk, slp_tsk, wup_tsk, can_wup, get-blk, pget-blk, tsk_sts, mpl-sts, cre_tsk, del_tsk, exd_tsk}
+use Rattle.rules_examples.specs.BenchSheet.{X, H, step, case, Sheet, sta_tsk, ext_tsk, ter_tsk, chg_pri, rot_rdq, rel_wai, sus_tsk, rsm_tsk, slp_tsk, wup_tsk, can_wup, get_blk, pget_blk, tsk_sts, mpl_sts, cre_tsk, del_tsk, exd_tsk}
 
 -- Calls 33 to 35: tasks that come and go.
 abbrev pub coming_examples : Sheet
@@ -111,10 +111,10 @@ coming_examples = record {
       1 (pos 0) 0
       -- A deleted task's blocks are not returned, as with ext_tsk.
       ∷ case 0 1
-      (step (X get-blk 2 0 0) (pos 0) 1 0 1 0
+      (step (X get_blk 2 0 0) (pos 0) 1 0 1 0
       ∷ step (X exd_tsk 0 0 0) (pos 0) 0 0 2 0
-      ∷ step (X mpl-sts 2 0 0) (pos 0) 0 0 2 0
-      ∷ step (X pget-blk 2 0 0) (minus 5) 0 0 2 0
+      ∷ step (X mpl_sts 2 0 0) (pos 0) 0 0 2 0
+      ∷ step (X pget_blk 2 0 0) (minus 5) 0 0 2 0
       ∷ [])
       1 (minus 2100) 0
       ∷ [];

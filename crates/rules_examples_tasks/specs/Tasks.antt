@@ -7,7 +7,7 @@ use Rattle.rules.specs.View.{View}
 use Rattle.rules.specs.Kernel.{fresh, event}
 use Rattle.rules.specs.Runs.{answers}
 use Rattle.rules_examples.specs.Bytes.{example_bytes}
-use Rattle.rules_examples.specs.BenchSheet.{X±, H±, X, H, step, case, Sheet, sta_tsk, ext_tsk, ter_tsk, chg_pri, rot_rdq, rel_wai, sus_tsk, rsm_tsk, slp_tsk, wai_tsk, wup_tsk, can_wup, sig_sem, wai-sem, snd_msg, rcv-msg, get-blk, get_tid, tsk_sts, sem-sts, mpl-sts, get_tim, alone}
+use Rattle.rules_examples.specs.BenchSheet.{X±, H±, X, H, step, case, Sheet, sta_tsk, ext_tsk, ter_tsk, chg_pri, rot_rdq, rel_wai, sus_tsk, rsm_tsk, slp_tsk, wai_tsk, wup_tsk, can_wup, sig_sem, wai_sem, snd_msg, rcv_msg, get_blk, get_tid, tsk_sts, sem_sts, mpl_sts, get_tim, alone}
 
 -- Calls 1 to 12: tasks. Each case has the paper's words above it.
 abbrev pub task_examples : Sheet
@@ -36,10 +36,10 @@ task_examples = record {
       ∷ case 0 1
       (step (H wup_tsk 1 0 0) (pos 0) 0 0 1 0
       ∷ step (X chg_pri 1 1 0) (pos 0) 0 0 1 0
-      ∷ step (X get-blk 2 0 0) (pos 0) 1 0 1 0
+      ∷ step (X get_blk 2 0 0) (pos 0) 1 0 1 0
       ∷ step (X ext_tsk 0 0 0) (pos 0) 0 0 2 0
       ∷ step (X tsk_sts 1 0 0) (pos 0) 0 2 2 0
-      ∷ step (X mpl-sts 2 0 0) (pos 0) 0 0 2 0
+      ∷ step (X mpl_sts 2 0 0) (pos 0) 0 0 2 0
       ∷ step (X can_wup 1 0 0) (minus 2101) 0 0 2 0
       ∷ step (X sta_tsk 1 0 0) (pos 0) 0 0 2 0
       ∷ step (X can_wup 1 0 0) (pos 0) 0 0 2 0
@@ -53,18 +53,18 @@ task_examples = record {
       ∷ step (X rel_wai 1 0 0) (pos 0) 0 0 2 1
       ∷ step (X rot_rdq 0 0 0) (pos 0) 0 0 5 0
       ∷ step (X rot_rdq 2 0 0) (pos 0) 0 0 1 0
-      ∷ step (X wai-sem 1 0 0) (pos 1) 0 0 2 0
-      ∷ step (X sem-sts 1 0 0) (pos 0) 1 0 2 0
+      ∷ step (X wai_sem 1 0 0) (pos 1) 0 0 2 0
+      ∷ step (X sem_sts 1 0 0) (pos 0) 1 0 2 0
       ∷ step (X ter_tsk 1 0 0) (pos 0) 0 0 2 0
-      ∷ step (X sem-sts 1 0 0) (pos 0) 0 0 2 0
+      ∷ step (X sem_sts 1 0 0) (pos 0) 0 0 2 0
       ∷ step (X tsk_sts 1 0 0) (pos 0) 0 2 2 0
       ∷ step (X sig_sem 1 0 0) (pos 0) 0 0 2 0
-      ∷ step (X sem-sts 1 0 0) (pos 0) 0 1 2 0
+      ∷ step (X sem_sts 1 0 0) (pos 0) 0 1 2 0
       ∷ [])
       1 (minus 3414) 0
       -- The cell is left, be it 0 and 0: E_RLWAI is rel_wai's alone.
       ∷ case 0 1
-      (step (X wai-sem 1 0 0) (pos 1) 0 0 2 0
+      (step (X wai_sem 1 0 0) (pos 1) 0 0 2 0
       ∷ step (X ter_tsk 1 0 0) (pos 0) 0 0 2 0
       ∷ [])
       1 (pos 0) 0
@@ -79,7 +79,7 @@ task_examples = record {
       1 (pos 0) 0
       -- Cell 0 and 0: the message of the last wait is gone too.
       ∷ case 0 1
-      (step (X rcv-msg 1 0 0) (pos 1) 0 0 2 0
+      (step (X rcv_msg 1 0 0) (pos 1) 0 0 2 0
       ∷ step (X snd_msg 1 3 0) (pos 0) 0 0 2 1
       ∷ step (X ter_tsk 1 0 0) (pos 0) 0 0 2 0
       ∷ step (X sta_tsk 1 0 0) (pos 0) 0 0 2 0
@@ -121,13 +121,13 @@ task_examples = record {
       -- New priority, and nothing else of a task that is not READY or RUN: a waiting one, suspended or not, keeps its place in the wait queue,
       -- and a suspended one stays SUSPEND.
       ∷ case 0 1
-      (step (X wai-sem 1 0 0) (pos 1) 0 0 2 0
-      ∷ step (X wai-sem 1 0 0) (pos 1) 0 0 5 0
+      (step (X wai_sem 1 0 0) (pos 1) 0 0 2 0
+      ∷ step (X wai_sem 1 0 0) (pos 1) 0 0 5 0
       ∷ step (X chg_pri 1 1 0) (pos 0) 0 0 5 0
-      ∷ step (X sem-sts 1 0 0) (pos 0) 1 0 5 0
+      ∷ step (X sem_sts 1 0 0) (pos 0) 1 0 5 0
       ∷ step (X sus_tsk 1 0 0) (pos 0) 0 0 5 0
       ∷ step (X chg_pri 1 3 0) (pos 0) 0 0 5 0
-      ∷ step (X sem-sts 1 0 0) (pos 0) 1 0 5 0
+      ∷ step (X sem_sts 1 0 0) (pos 0) 1 0 5 0
       ∷ step (X tsk_sts 1 0 0) (pos 0) 5 3 5 0
       ∷ step (X sig_sem 1 0 0) (pos 0) 0 0 5 1
       ∷ step (X chg_pri 1 1 0) (pos 0) 0 0 5 0
@@ -166,9 +166,9 @@ task_examples = record {
       4 (pos 0) 0
       -- 6 rel_wai(a): the waiting task is released, cell E_RLWAI and 0. E_NOWAI: on a task not waiting (a dormant one too).
       ∷ case 0 1
-      (step (X wai-sem 1 0 0) (pos 1) 0 0 2 0
+      (step (X wai_sem 1 0 0) (pos 1) 0 0 2 0
       ∷ step (X rel_wai 1 0 0) (pos 0) 0 0 2 1
-      ∷ step (X sem-sts 1 0 0) (pos 0) 0 0 2 0
+      ∷ step (X sem_sts 1 0 0) (pos 0) 0 0 2 0
       ∷ step (X tsk_sts 1 0 0) (pos 0) 1 2 2 0
       ∷ step (X rel_wai 1 0 0) (minus 2110) 0 0 2 0
       ∷ step (X rel_wai 2 0 0) (minus 2110) 0 0 2 0
@@ -195,19 +195,19 @@ task_examples = record {
       1 (pos 0) 0
       -- A waiting task keeps its place; WAIT-SUSPEND becomes WAIT; a released task in WAIT-SUSPEND becomes SUSPEND.
       ∷ case 0 1
-      (step (X wai-sem 1 0 0) (pos 1) 0 0 2 0
-      ∷ step (X wai-sem 1 0 0) (pos 1) 0 0 5 0
+      (step (X wai_sem 1 0 0) (pos 1) 0 0 2 0
+      ∷ step (X wai_sem 1 0 0) (pos 1) 0 0 5 0
       ∷ step (X sus_tsk 1 0 0) (pos 0) 0 0 5 0
       ∷ step (X tsk_sts 1 0 0) (pos 0) 5 2 5 0
-      ∷ step (X sem-sts 1 0 0) (pos 0) 1 0 5 0
+      ∷ step (X sem_sts 1 0 0) (pos 0) 1 0 5 0
       ∷ step (X sus_tsk 1 0 0) (minus 4) 0 0 5 0
       ∷ step (X rsm_tsk 1 0 0) (pos 0) 0 0 5 0
       ∷ step (X tsk_sts 1 0 0) (pos 0) 3 2 5 0
-      ∷ step (X sem-sts 1 0 0) (pos 0) 1 0 5 0
+      ∷ step (X sem_sts 1 0 0) (pos 0) 1 0 5 0
       ∷ step (X sus_tsk 1 0 0) (pos 0) 0 0 5 0
       ∷ step (X sig_sem 1 0 0) (pos 0) 0 0 5 1
       ∷ step (X tsk_sts 1 0 0) (pos 0) 4 2 5 0
-      ∷ step (X sem-sts 1 0 0) (pos 0) 2 0 5 0
+      ∷ step (X sem_sts 1 0 0) (pos 0) 2 0 5 0
       ∷ [])
       1 (pos 0) 0
       -- H_NODMT on a waiting, a suspended and the running task; E_NOSUS on a waiting and the running task; E_NOWAI on a suspended one.
@@ -242,7 +242,7 @@ task_examples = record {
       ∷ step (X rot_rdq 3 0 0) (pos 0) 0 0 2 0
       ∷ step (X slp_tsk 0 0 0) (pos 1) 0 0 5 0
       ∷ step (X slp_tsk 0 0 0) (pos 1) 0 0 1 0
-      ∷ step (X wai-sem 1 0 0) (pos 1) 0 0 4 0
+      ∷ step (X wai_sem 1 0 0) (pos 1) 0 0 4 0
       ∷ step (X sus_tsk 1 0 0) (pos 0) 0 0 4 0
       ∷ step (alone tick) (pos 0) 0 0 4 0
       ∷ step (X tsk_sts 1 0 0) (pos 0) 5 3 4 0
@@ -268,7 +268,7 @@ task_examples = record {
       1 (pos 0) 0
       -- Any other task's count rises: one that waits on a semaphore is no sleeper. E_SELF and E_DMT.
       ∷ case 0 1
-      (step (X wai-sem 1 0 0) (pos 1) 0 0 2 0
+      (step (X wai_sem 1 0 0) (pos 1) 0 0 2 0
       ∷ step (X wup_tsk 1 0 0) (pos 0) 0 0 2 0
       ∷ step (X tsk_sts 1 0 0) (pos 0) 3 2 2 0
       ∷ step (X can_wup 1 0 0) (pos 0) 1 0 2 0
@@ -282,13 +282,13 @@ task_examples = record {
       (step (X slp_tsk 0 0 0) (pos 1) 0 0 2 0
       ∷ step (X wup_tsk 1 0 0) (pos 0) 0 0 2 1
       ∷ step (X can_wup 1 0 0) (pos 0) 0 0 2 0
-      ∷ step (X wai-sem 1 0 0) (pos 1) 0 0 5 0
+      ∷ step (X wai_sem 1 0 0) (pos 1) 0 0 5 0
       ∷ step (X wup_tsk 2 0 0) (pos 0) 0 0 5 0
       ∷ step (X chg_pri 2 3 0) (pos 0) 0 0 5 0
       ∷ step (X sig_sem 1 0 0) (pos 0) 0 0 5 1
       ∷ step (X tsk_sts 2 0 0) (pos 0) 1 3 5 0
       ∷ step (X can_wup 2 0 0) (pos 0) 1 0 5 0
-      ∷ step (X wai-sem 1 0 0) (pos 1) 0 0 1 0
+      ∷ step (X wai_sem 1 0 0) (pos 1) 0 0 1 0
       ∷ step (X wup_tsk 5 0 0) (pos 0) 0 0 1 0
       ∷ step (X rel_wai 5 0 0) (pos 0) 0 0 1 1
       ∷ step (X can_wup 5 0 0) (pos 0) 1 0 1 0

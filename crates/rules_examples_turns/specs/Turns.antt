@@ -11,11 +11,11 @@ use Rattle.rules.specs.Runs.{answers, states}
 use Rattle.rules.specs.Ahead.{waits_at, ahead}
 use Rattle.rules_turns.specs.Turns.{gifts}
 use Rattle.rules_examples.specs.Bytes.{example_bytes}
-use Rattle.rules_examples.specs.BenchSheet.{task_call, X, I, Line, step, case, Sheet, chg_pri, rot_rdq, rel_wai, sus_tsk, sig_sem, wai-sem, snd_msg, rcv-msg, get-blk, rel_blk, tsk_sts, sem-sts}
+use Rattle.rules_examples.specs.BenchSheet.{task_call, X, I, Line, step, case, Sheet, chg_pri, rot_rdq, rel_wai, sus_tsk, sig_sem, wai_sem, snd_msg, rcv_msg, get_blk, rel_blk, tsk_sts, sem_sts}
 
 -- tasks 1 and 2 come to wait on semaphore 1, one behind the other; task 5 runs
 abbrev in_line : List Line → List Line
-in_line l = step (X wai-sem 1 0 0) (pos 1) 0 0 2 0 ∷ step (X wai-sem 1 0 0) (pos 1) 0 0 5 0 ∷ l
+in_line l = step (X wai_sem 1 0 0) (pos 1) 0 0 2 0 ∷ step (X wai_sem 1 0 0) (pos 1) 0 0 5 0 ∷ l
 
 -- one is served, and task 5 runs on
 abbrev serves : Line
@@ -29,7 +29,7 @@ turn_examples = record {
       case 0 1
       (in_line (serves
       ∷ step (X tsk_sts 2 0 0) (pos 0) 3 2 5 0
-      ∷ step (X sem-sts 1 0 0) (pos 0) 2 0 5 0
+      ∷ step (X sem_sts 1 0 0) (pos 0) 2 0 5 0
       ∷ serves
       ∷ step (X tsk_sts 2 0 0) (pos 0) 1 2 5 0
       ∷ []))
@@ -39,7 +39,7 @@ turn_examples = record {
       (in_line (step (I sig_sem 1 0 0) (minus 2629) 0 0 5 0
       ∷ step (X sig_sem 4 0 0) (minus 2100) 0 0 5 0
       ∷ step (X sig_sem 2 0 0) (pos 0) 0 0 5 0
-      ∷ step (X sem-sts 1 0 0) (pos 0) 1 0 5 0
+      ∷ step (X sem_sts 1 0 0) (pos 0) 1 0 5 0
       ∷ serves
       ∷ step (X tsk_sts 2 0 0) (pos 0) 3 2 5 0
       ∷ []))
@@ -47,9 +47,9 @@ turn_examples = record {
       -- chg_pri of a waiting task leaves its place: task 1 stays first at a worse priority, and task 2 behind it at a better one.
       ∷ case 0 1
       (in_line (step (X chg_pri 1 4 0) (pos 0) 0 0 5 0
-      ∷ step (X sem-sts 1 0 0) (pos 0) 1 0 5 0
+      ∷ step (X sem_sts 1 0 0) (pos 0) 1 0 5 0
       ∷ step (X chg_pri 2 1 0) (pos 0) 0 0 5 0
-      ∷ step (X sem-sts 1 0 0) (pos 0) 1 0 5 0
+      ∷ step (X sem_sts 1 0 0) (pos 0) 1 0 5 0
       ∷ serves
       ∷ step (X tsk_sts 1 0 0) (pos 0) 1 4 5 0
       ∷ step (X sig_sem 1 0 0) (pos 0) 0 0 2 1
@@ -60,7 +60,7 @@ turn_examples = record {
       ∷ case 0 1
       (in_line (step (X sus_tsk 1 0 0) (pos 0) 0 0 5 0
       ∷ step (X chg_pri 1 4 0) (pos 0) 0 0 5 0
-      ∷ step (X sem-sts 1 0 0) (pos 0) 1 0 5 0
+      ∷ step (X sem_sts 1 0 0) (pos 0) 1 0 5 0
       ∷ serves
       ∷ step (X tsk_sts 1 0 0) (pos 0) 4 4 5 0
       ∷ step (X tsk_sts 2 0 0) (pos 0) 3 2 5 0
@@ -70,7 +70,7 @@ turn_examples = record {
       ∷ case 0 1
       (in_line (step (X rel_wai 2 0 0) (pos 0) 0 0 5 1
       ∷ step (X rot_rdq 0 0 0) (pos 0) 0 0 2 0
-      ∷ step (X wai-sem 1 0 0) (pos 1) 0 0 5 0
+      ∷ step (X wai_sem 1 0 0) (pos 1) 0 0 5 0
       ∷ serves
       ∷ step (X tsk_sts 2 0 0) (pos 0) 3 2 5 0
       ∷ []))
@@ -81,14 +81,14 @@ turn_examples = record {
       ∷ serves
       ∷ step (X rot_rdq 0 0 0) (pos 0) 0 0 1 0
       ∷ step (X rot_rdq 0 0 0) (pos 0) 0 0 2 0
-      ∷ step (X wai-sem 1 0 0) (pos 1) 0 0 5 0
+      ∷ step (X wai_sem 1 0 0) (pos 1) 0 0 5 0
       ∷ step (X tsk_sts 2 0 0) (pos 0) 3 2 5 0
       ∷ []))
       2 (pos 0) 0
       -- The same at a mailbox: the second message is task 2's.
       ∷ case 0 1
-      (step (X rcv-msg 1 0 0) (pos 1) 0 0 2 0
-      ∷ step (X rcv-msg 1 0 0) (pos 1) 0 0 5 0
+      (step (X rcv_msg 1 0 0) (pos 1) 0 0 2 0
+      ∷ step (X rcv_msg 1 0 0) (pos 1) 0 0 5 0
       ∷ step (X snd_msg 1 1 0) (pos 0) 0 0 5 1
       ∷ step (X tsk_sts 2 0 0) (pos 0) 3 2 5 0
       ∷ step (X snd_msg 1 3 0) (pos 0) 0 0 5 1
@@ -96,9 +96,9 @@ turn_examples = record {
       2 (pos 0) 3
       -- And at a pool: its one block goes to task 1, and when it is returned again to task 2.
       ∷ case 0 1
-      (step (X get-blk 2 0 0) (pos 0) 1 0 1 0
-      ∷ step (X get-blk 2 0 0) (pos 1) 0 0 2 0
-      ∷ step (X get-blk 2 0 0) (pos 1) 0 0 5 0
+      (step (X get_blk 2 0 0) (pos 0) 1 0 1 0
+      ∷ step (X get_blk 2 0 0) (pos 1) 0 0 2 0
+      ∷ step (X get_blk 2 0 0) (pos 1) 0 0 5 0
       ∷ step (X rel_blk 2 1 0) (pos 0) 0 0 5 1
       ∷ step (X tsk_sts 2 0 0) (pos 0) 3 2 5 0
       ∷ step (X rel_blk 2 1 0) (pos 0) 0 0 5 1
@@ -113,7 +113,7 @@ abbrev pub signal : Event
 signal = task_call sig_sem (pos 1) (pos 0) (pos 0)
 
 abbrev pub waits : Event
-waits = task_call wai-sem (pos 1) (pos 0) (pos 0)
+waits = task_call wai_sem (pos 1) (pos 0) (pos 0)
 
 abbrev pub turns : Event
 turns = task_call rot_rdq (pos 0) (pos 0) (pos 0)

@@ -1,6 +1,5 @@
 -- `call_judging::alarms` meets its contract. By its test. Assumes nothing.
 use Rattle.call_judging.proofs.Tests.{no_alarms, all_alarms}
-use borrow.Author.Rules.{rules}
 use Rattle.call_judging.proofs.alarms.Goals as goal
 
 pub returns-then-counter-eq0 : goal.returns-then-counter-eq0

@@ -1,7 +1,6 @@
 -- `call_judging::common` meets its contract. The first test that holds decides. Assumes nothing.
 use Rattle.rules.specs.Codes.{number}
 use Rattle.call_judging.proofs.Refused.{none_left, word_stops, word_passes}
-use borrow.Author.Rules.{rules}
 use Rattle.call_judging.proofs.common.Goals as goal
 
 pub returns-then-misplaced : goal.returns-then-misplaced

@@ -1,7 +1,6 @@
 -- `call_judging::is_above` meets its contract. By its test. Assumes nothing.
 use mir.Facts.{to_z-of_z}
 use Rattle.call_judging.proofs.Tests.{above_low, above_high}
-use borrow.Author.Rules.{rules}
 use Rattle.call_judging.proofs.is_above.Goals as goal
 
 pub returns-then-a-lt0 : goal.returns-then-a-lt0

@@ -1,5 +1,4 @@
 -- `call_judging::misplaced` meets its contract. By its tests. Assumes nothing.
-use borrow.Author.Rules.{rules}
 use Rattle.call_judging.proofs.misplaced.Goals as goal
 
 pub returns-then-strict : goal.returns-then-strict

@@ -2,7 +2,6 @@
 use Rattle.memory_columns.specs.Layout as Layout
 use Rattle.memory_columns.specs.Layout.{entry}
 use Rattle.call_judging.proofs.Tests.{absent_free, absent_named}
-use borrow.Author.Rules.{rules}
 use Rattle.call_judging.proofs.names_absent.Goals as goal
 
 pub returns-then-target-lt-ANYONE : goal.returns-then-target-lt-ANYONE

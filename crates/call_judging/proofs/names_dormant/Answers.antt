@@ -2,7 +2,6 @@
 use Rattle.memory_columns.specs.Layout as Layout
 use Rattle.memory_columns.specs.Layout.{entry}
 use Rattle.call_judging.proofs.Tests.{dormant_free, dormant_named}
-use borrow.Author.Rules.{rules}
 use Rattle.call_judging.proofs.names_dormant.Goals as goal
 
 pub returns-then-target-lt-ALIVE : goal.returns-then-target-lt-ALIVE

@@ -5,7 +5,6 @@ use Rattle.rules.specs.State.{mailbox}
 use Rattle.call_words.proofs.Signed.{saying}
 use Rattle.call_judging.proofs.Refused.{word_stops, word_passes}
 use Rattle.call_judging.proofs.Judged.{object_is, message_is}
-use borrow.Author.Rules.{rules}
 use Rattle.call_judging.proofs.on_message.Goals as goal
 
 pub returns-then-is_outside : goal.returns-then-is_outside

@@ -4,7 +4,6 @@ use Rattle.call_words.proofs.Signed.{saying}
 use Rattle.call_judging.proofs.Refused.{word_stops}
 use Rattle.call_judging.specs.Judging.{context_of}
 use Rattle.call_judging.proofs.Judged.{task_is, task_passed}
-use borrow.Author.Rules.{rules}
 use Rattle.call_judging.proofs.on_task.Goals as goal
 
 pub returns-then-is_outside : goal.returns-then-is_outside

@@ -5,7 +5,6 @@ use Rattle.call_words.proofs.Signed.{saying}
 use Rattle.call_judging.proofs.Tests.{time_low, time_fine}
 use Rattle.call_judging.proofs.Refused.{word_stops, word_passes}
 use mathlib.Core.Path.{refl, sym}
-use borrow.Author.Rules.{rules}
 use Rattle.call_judging.proofs.on_time.Goals as goal
 
 pub returns-then-a-lt-FOR_EVER : goal.returns-then-a-lt-FOR_EVER

@@ -1,6 +1,5 @@
 -- `call_objects::first_waiter` meets its contract. It reads the anchor's ring. Assumes nothing.
 use Rattle.call_objects.specs.Waiting.{first_waiter}
-use borrow.Author.Rules.{rules}
 use Rattle.call_objects.proofs.first_waiter.Goals as goal
 
 pub returns : goal.returns

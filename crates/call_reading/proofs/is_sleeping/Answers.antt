@@ -1,5 +1,4 @@
 -- `call_reading::is_sleeping` meets its contract. By its tests. Assumes nothing.
-use borrow.Author.Rules.{rules}
 use Rattle.call_reading.proofs.is_sleeping.Goals as goal
 
 pub returns-then-is_waiting : goal.returns-then-is_waiting

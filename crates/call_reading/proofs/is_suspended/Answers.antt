@@ -1,6 +1,5 @@
 -- `call_reading::is_suspended` meets its contract. By its tests. Assumes nothing.
 use borrow.Author.Tests.{ne_eqb}
-use borrow.Author.Rules.{rules}
 use Rattle.call_reading.proofs.is_suspended.Goals as goal
 
 pub returns-then-s-eq-SUSPEND : goal.returns-then-s-eq-SUSPEND

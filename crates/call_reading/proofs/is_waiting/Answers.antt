@@ -1,6 +1,5 @@
 -- `call_reading::is_waiting` meets its contract. By its tests. Assumes nothing.
 use borrow.Author.Tests.{ne_eqb}
-use borrow.Author.Rules.{rules}
 use Rattle.call_reading.proofs.is_waiting.Goals as goal
 
 pub returns-then-s-eq-WAIT : goal.returns-then-s-eq-WAIT

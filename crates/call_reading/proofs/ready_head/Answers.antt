@@ -1,7 +1,6 @@
 -- `call_reading::ready_head` meets its contract. By its test. Assumes nothing.
 use borrow.Author.Tests.{eq-eqb, ne_eqb}
 use Rattle.call_reading.specs.Reading.{turn_at}
-use borrow.Author.Rules.{rules}
 use Rattle.call_reading.proofs.ready_head.Goals as goal
 
 pub returns-then-p-eq0 : goal.returns-then-p-eq0

@@ -2,7 +2,6 @@
 use mathlib.Core.Path.{sym}
 use borrow.Author.Tests.{eq-eqb, ne_eqb}
 use Rattle.call_reading.specs.Reading.{number_at}
-use borrow.Author.Rules.{rules}
 use Rattle.call_reading.proofs.state_number.Goals as goal
 
 pub returns-then-s-ne-READY : goal.returns-then-s-ne-READY

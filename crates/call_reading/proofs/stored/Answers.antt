@@ -1,7 +1,6 @@
 -- `call_reading::stored` meets its contract. By its test. Assumes nothing.
 use borrow.Author.Tests.{le-leb, lt-leb}
 use Rattle.call_reading.specs.Reading.{wakeups_at}
-use borrow.Author.Rules.{rules}
 use Rattle.call_reading.proofs.stored.Goals as goal
 
 pub returns-then-system-i : goal.returns-then-system-i

@@ -1,6 +1,5 @@
 -- `call_tasks::chg_pri` meets its contract. It is its rule. Assumes nothing.
 use Rattle.call_tasks.proofs.TaskCalls.{chg_done}
-use borrow.Author.Rules.{rules}
 use Rattle.call_tasks.proofs.chg_pri.Goals as goal
 
 pub returns : goal.returns

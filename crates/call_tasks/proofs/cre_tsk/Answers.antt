@@ -1,7 +1,6 @@
 -- `call_tasks::cre_tsk` meets its contract. It is its rule. Assumes nothing.
 use Rattle.rules.specs.Codes.{number}
 use Rattle.call_tasks.proofs.TaskCalls.{cre_there, cre_done}
-use borrow.Author.Rules.{rules}
 use Rattle.call_tasks.proofs.cre_tsk.Goals as goal
 
 pub returns-then-status-ne-ABSENT : goal.returns-then-status-ne-ABSENT

@@ -1,7 +1,6 @@
 -- `call_tasks::del_tsk` meets its contract. It is its rule. Assumes nothing.
 use Rattle.rules.specs.Codes.{number}
 use Rattle.call_tasks.proofs.TaskCalls.{del_alive, del_done}
-use borrow.Author.Rules.{rules}
 use Rattle.call_tasks.proofs.del_tsk.Goals as goal
 
 pub returns-then-status-ne-DORMANT : goal.returns-then-status-ne-DORMANT

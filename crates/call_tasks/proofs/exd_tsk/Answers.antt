@@ -1,6 +1,5 @@
 -- `call_tasks::exd_tsk` meets its contract. It is its rule. Assumes nothing.
 use Rattle.call_tasks.proofs.TaskCalls.{exd_done}
-use borrow.Author.Rules.{rules}
 use Rattle.call_tasks.proofs.exd_tsk.Goals as goal
 
 pub returns : goal.returns

@@ -1,6 +1,5 @@
 -- `call_tasks::get_tid` meets its contract. It is its rule. Assumes nothing.
 use Rattle.call_tasks.proofs.TaskCalls.{tid_done}
-use borrow.Author.Rules.{rules}
 use Rattle.call_tasks.proofs.get_tid.Goals as goal
 
 pub returns : goal.returns

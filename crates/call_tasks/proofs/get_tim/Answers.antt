@@ -1,6 +1,5 @@
 -- `call_tasks::get_tim` meets its contract. It is its rule. Assumes nothing.
 use Rattle.call_tasks.proofs.TaskCalls.{tim_done}
-use borrow.Author.Rules.{rules}
 use Rattle.call_tasks.proofs.get_tim.Goals as goal
 
 pub returns : goal.returns

@@ -1,7 +1,6 @@
 -- `call_tasks::rel_wai` meets its contract. It is its rule. Assumes nothing.
 use Rattle.rules.specs.Codes.{number}
 use Rattle.call_tasks.proofs.TaskCalls.{rel_free, rel_done}
-use borrow.Author.Rules.{rules}
 use Rattle.std.proofs.lemmas.Bool.{not_from_false, not_from_true}
 use Rattle.call_tasks.proofs.rel_wai.Goals as goal
 

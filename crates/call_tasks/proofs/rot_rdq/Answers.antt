@@ -1,6 +1,5 @@
 -- `call_tasks::rot_rdq` meets its contract. It is its rule. Assumes nothing.
 use Rattle.call_tasks.proofs.TaskCalls.{rot_empty, rot_turns}
-use borrow.Author.Rules.{rules}
 use Rattle.call_tasks.proofs.rot_rdq.Goals as goal
 
 pub returns-then-x-eq0 : goal.returns-then-x-eq0

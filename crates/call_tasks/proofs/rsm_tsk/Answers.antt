@@ -1,7 +1,6 @@
 -- `call_tasks::rsm_tsk` meets its contract. It is its rule. Assumes nothing.
 use Rattle.rules.specs.Codes.{number}
 use Rattle.call_tasks.proofs.TaskCalls.{rsm_free, rsm_done}
-use borrow.Author.Rules.{rules}
 use Rattle.std.proofs.lemmas.Bool.{not_from_false, not_from_true}
 use Rattle.call_tasks.proofs.rsm_tsk.Goals as goal
 

@@ -1,7 +1,6 @@
 -- `call_tasks::sta_tsk` meets its contract. It is its rule. Assumes nothing.
 use Rattle.rules.specs.Codes.{number}
 use Rattle.call_tasks.proofs.TaskCalls.{sta_alive, sta_done}
-use borrow.Author.Rules.{rules}
 use Rattle.call_tasks.proofs.sta_tsk.Goals as goal
 
 pub returns-then-status-ne-DORMANT : goal.returns-then-status-ne-DORMANT

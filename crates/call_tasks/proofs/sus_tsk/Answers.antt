@@ -1,7 +1,6 @@
 -- `call_tasks::sus_tsk` meets its contract. It is its rule. Assumes nothing.
 use Rattle.rules.specs.Codes.{number}
 use Rattle.call_tasks.proofs.TaskCalls.{sus_held, sus_done}
-use borrow.Author.Rules.{rules}
 use Rattle.call_tasks.proofs.sus_tsk.Goals as goal
 
 pub returns-then-is_suspended : goal.returns-then-is_suspended

@@ -1,6 +1,5 @@
 -- `call_tasks::tsk_sts` meets its contract. It is its rule. Assumes nothing.
 use Rattle.call_tasks.proofs.TaskCalls.{sts_done}
-use borrow.Author.Rules.{rules}
 use Rattle.call_tasks.proofs.tsk_sts.Goals as goal
 
 pub returns : goal.returns

@@ -1,6 +1,5 @@
 -- `call_wakeups::can_wup` meets its contract. It is its rule. Assumes nothing.
 use Rattle.call_wakeups.proofs.WakeCalls.{can_done}
-use borrow.Author.Rules.{rules}
 use Rattle.call_wakeups.proofs.can_wup.Goals as goal
 
 pub returns : goal.returns

@@ -1,6 +1,5 @@
 -- `call_wakeups::slp_tsk` meets its contract. It is its rule. Assumes nothing.
 use Rattle.call_wakeups.proofs.WakeCalls.{slp_takes, slp_waits}
-use borrow.Author.Rules.{rules}
 use Rattle.call_wakeups.proofs.slp_tsk.Goals as goal
 
 pub returns-then-n-ne0 : goal.returns-then-n-ne0

@@ -2,7 +2,6 @@
 use mir.Facts.{to_z-of_z}
 use Rattle.rules.specs.Codes.{number}
 use Rattle.call_wakeups.proofs.WakeCalls.{wai_sleeps, wai_takes, wai_ends, wai_waits}
-use borrow.Author.Rules.{rules}
 use Rattle.call_wakeups.proofs.wai_tsk.Goals as goal
 
 pub returns-then-a-lt0 : goal.returns-then-a-lt0

@@ -1,7 +1,6 @@
 -- `call_wakeups::wup_tsk` meets its contract. It is its rule. Assumes nothing.
 use Rattle.rules.specs.Codes.{number}
 use Rattle.call_wakeups.proofs.WakeCalls.{wup_wakes, wup_full, wup_counts}
-use borrow.Author.Rules.{rules}
 use Rattle.call_wakeups.proofs.wup_tsk.Goals as goal
 
 pub returns-then-is_sleeping : goal.returns-then-is_sleeping

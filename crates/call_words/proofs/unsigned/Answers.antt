@@ -1,5 +1,4 @@
 -- `call_words::unsigned` meets its contract. By its test. Assumes nothing.
-use borrow.Author.Rules.{rules}
 use Rattle.call_words.proofs.Signed.{below_fits, below_casts, below_next, below_unsigned, plain_casts}
 use Rattle.call_words.proofs.unsigned.Goals as goal
 

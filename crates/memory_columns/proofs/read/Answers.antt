@@ -1,5 +1,4 @@
 use mathlib.Core.Path.{sym}
-use borrow.Author.Rules.{rules}
 use Rattle.memory_rings.proofs.Columns.{col_at, col_past}
 use Rattle.memory_columns.proofs.read.Goals as goal
 

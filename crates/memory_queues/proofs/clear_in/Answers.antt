@@ -1,4 +1,3 @@
-use borrow.Author.Rules.{rules}
 use Rattle.memory_rings.specs.Columns.{col}
 use Rattle.memory_rings.proofs.Halves.{length_cleared}
 use Rattle.memory_queues.proofs.Parts.{part_back}

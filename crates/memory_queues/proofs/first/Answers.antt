@@ -3,7 +3,6 @@ use mathlib.Core.List.{List}
 use mathlib.Core.Path.{◌∙◌, ap}
 use Prim.Native.Nat.{ℕ}
 use Rattle.memory_rings.specs.Links.{first_of}
-use borrow.Author.Rules.{rules}
 use Rattle.memory_queues.proofs.first.Goals as goal
 
 pub returns : goal.returns

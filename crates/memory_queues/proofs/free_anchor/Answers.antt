@@ -1,5 +1,4 @@
 use borrow.Author.Tests.{le-leb, lt-leb}
-use borrow.Author.Rules.{rules}
 use Rattle.memory_queues.proofs.free_anchor.Goals as goal
 
 pub returns-then-pool-le-MAX_POOLS : goal.returns-then-pool-le-MAX_POOLS

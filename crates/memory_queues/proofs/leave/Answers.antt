@@ -1,6 +1,5 @@
 -- `memory_queues::leave` meets its contract. The links, then the mark of the node that was behind. Assumes nothing.
 use Rattle.memory_queues.proofs.Notes.{leave_steps}
-use borrow.Author.Rules.{rules}
 use Rattle.memory_queues.proofs.leave.Goals as goal
 
 pub returns : goal.returns

@@ -3,7 +3,6 @@ use mathlib.Core.Path.{sym, ap}
 use Prim.Native.Nat.{ℕ, ◌+◌}
 use Rattle.memory_columns.specs.declared.Rings.{Rings}
 use Rattle.memory_columns.specs.Layout.{links_of}
-use borrow.Author.Rules.{rules}
 use Rattle.memory_queues.proofs.links_end.Goals as goal
 
 abbrev links_end : Rings → ℕ

@@ -1,5 +1,4 @@
 use borrow.Author.Tests.{le-leb, lt-leb}
-use borrow.Author.Rules.{rules}
 use Rattle.memory_queues.proofs.mail_anchor.Goals as goal
 
 pub returns-then-mailbox-le-MAX_OBJECTS : goal.returns-then-mailbox-le-MAX_OBJECTS

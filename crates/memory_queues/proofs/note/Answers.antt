@@ -1,6 +1,5 @@
 -- `memory_queues::note` meets its contract. By its tests. Assumes nothing.
 use Rattle.memory_queues.proofs.Notes.{note_below, note_past, note_in}
-use borrow.Author.Rules.{rules}
 use Rattle.memory_queues.proofs.note.Goals as goal
 
 pub returns-then-anchor-lt-FIRST_READY : goal.returns-then-anchor-lt-FIRST_READY

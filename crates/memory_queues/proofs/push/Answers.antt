@@ -1,6 +1,5 @@
 -- `memory_queues::push` meets its contract. The links, then the mark. Assumes nothing.
 use Rattle.memory_queues.proofs.Notes.{push_steps}
-use borrow.Author.Rules.{rules}
 use Rattle.memory_queues.proofs.push.Goals as goal
 
 pub returns : goal.returns

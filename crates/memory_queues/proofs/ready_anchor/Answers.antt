@@ -1,5 +1,4 @@
 use borrow.Author.Tests.{le-leb, lt-leb}
-use borrow.Author.Rules.{rules}
 use Rattle.memory_queues.proofs.ready_anchor.Goals as goal
 
 pub returns-then-priority-le-MAX_PRIORITIES : goal.returns-then-priority-le-MAX_PRIORITIES

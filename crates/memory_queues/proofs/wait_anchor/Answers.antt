@@ -1,5 +1,4 @@
 use borrow.Author.Tests.{le-leb, lt-leb}
-use borrow.Author.Rules.{rules}
 use Rattle.memory_queues.specs.Moves.{wait_anchor}
 use Rattle.memory_queues.proofs.wait_anchor.Goals as goal
 

@@ -1,7 +1,6 @@
 -- `memory_rings::first` meets its contract. An anchor that points to itself has no first. Assumes nothing.
 use borrow.Author.Tests.{eq-eqb, ne_eqb}
 use Rattle.memory_rings.specs.Links.{first_of}
-use borrow.Author.Rules.{rules}
 use Rattle.memory_rings.proofs.first.Goals as goal
 
 pub returns-then-f-a : goal.returns-then-f-a

@@ -1,7 +1,6 @@
 -- `memory_rings::leave` meets its contract. An id without a link is left alone, any other is pulled. Assumes nothing.
 use borrow.Author.Tests.{eq-eqb, ne_eqb}
 use Rattle.memory_rings.specs.Links.{left}
-use borrow.Author.Rules.{rules}
 use Rattle.memory_rings.proofs.leave.Goals as goal
 
 pub returns-then-next-ne0 : goal.returns-then-next-ne0

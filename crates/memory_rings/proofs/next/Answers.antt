@@ -1,6 +1,5 @@
 -- `memory_rings::next` meets its contract. The node is read from the first half. Assumes nothing.
 use Rattle.memory_rings.proofs.Halves.{next_at, next_past}
-use borrow.Author.Rules.{rules}
 use Rattle.memory_rings.proofs.next.Goals as goal
 
 pub returns-then-k-links : goal.returns-then-k-links

@@ -1,6 +1,5 @@
 -- `memory_rings::prev` meets its contract. The node is read from the second half. Assumes nothing.
 use Rattle.memory_rings.proofs.Halves.{prev_at, prev_past}
-use borrow.Author.Rules.{rules}
 use Rattle.memory_rings.proofs.prev.Goals as goal
 
 pub returns-then-k-h : goal.returns-then-k-h

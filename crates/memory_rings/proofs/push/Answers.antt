@@ -1,6 +1,5 @@
 -- `memory_rings::push` meets its contract. Its calls give `pushed`, step by step. Assumes nothing.
 use Rattle.memory_rings.specs.Links.{pushed}
-use borrow.Author.Rules.{rules}
 use Rattle.memory_rings.proofs.push.Goals as goal
 
 pub returns : goal.returns

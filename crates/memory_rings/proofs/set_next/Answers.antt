@@ -1,6 +1,5 @@
 -- `memory_rings::set_next` meets its contract. A store into the first half. Assumes nothing.
 use Rattle.memory_rings.proofs.Halves.{set_next_at, set_next_past}
-use borrow.Author.Rules.{rules}
 use Rattle.memory_rings.proofs.set_next.Goals as goal
 
 pub returns-then-k-links : goal.returns-then-k-links

@@ -1,6 +1,5 @@
 -- `memory_rings::set_prev` meets its contract. A store into the second half. Assumes nothing.
 use Rattle.memory_rings.proofs.Halves.{set_prev_at, set_prev_past}
-use borrow.Author.Rules.{rules}
 use Rattle.memory_rings.proofs.set_prev.Goals as goal
 
 pub returns-then-k-h : goal.returns-then-k-h

@@ -1,6 +1,5 @@
 -- `memory_running::best_task` meets its contract. Step by step. Assumes nothing.
 use Rattle.memory_running.proofs.Marks.{best_none, best_first}
-use borrow.Author.Rules.{rules}
 use Rattle.memory_running.proofs.best_task.Goals as goal
 
 pub returns-then-p-eq0 : goal.returns-then-p-eq0

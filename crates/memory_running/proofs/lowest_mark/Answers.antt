@@ -1,7 +1,6 @@
 -- `memory_running::lowest_mark` meets its contract. Below the lowest bit stand as many bits as are 0 there. Assumes nothing.
 use native.Mathlib.Omega.{arith}
 use Rattle.memory_running.proofs.Marks.{lowest_at, lowest_none}
-use borrow.Author.Rules.{rules}
 use Rattle.memory_running.proofs.lowest_mark.Goals as goal
 
 pub returns-then-z-lt32 : goal.returns-then-z-lt32

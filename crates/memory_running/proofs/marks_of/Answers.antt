@@ -1,11 +1,7 @@
 -- `memory_running::marks_of` meets its contract. The priorities that are left give the same marks. Assumes nothing.
-use mathlib.Core.Path.{◌≡◌, refl, ◌∙◌}
-use Prim.Native.Nat.{suc, ◌+◌, ◌≤◌}
+use mathlib.Core.Path.{refl, ◌∙◌}
 use native.Mathlib.Omega.{arith}
-use Rattle.memory_columns.specs.Layout.{max_priorities}
-use Rattle.memory_running.specs.Running.{marks_of}
 use Rattle.memory_running.proofs.Marks.{marks_none, marks_skip, marks_set}
-use borrow.Author.Rules.{rules}
 use Rattle.memory_running.proofs.marks_of.Goals as goal
 use Rattle.memory_running.proofs.marks_of.Goals.{then-first-ne0, else-first-ne0}
 

@@ -1,11 +1,7 @@
-use mathlib.Core.Path.{◌≡◌, refl, ◌∙◌}
-use mathlib.Core.Logic.{⊎_elim}
+use mathlib.Core.Path.{◌≡◌}
 use Prim.Native.Nat.{suc, ◌+◌, ◌≤◌}
-use native.Mathlib.Omega.{arith}
 use Rattle.memory_columns.specs.Layout.{max_priorities}
 use Rattle.memory_running.specs.Running.{marks_of}
-use Rattle.memory_running.proofs.Marks.{marks_none, marks_skip, marks_set}
-use borrow.Author.Rules.{rules}
 use Rattle.memory_running.proofs.marks_of.Given as goal
 
 abbrev pub invariant-loop-left : goal.invariant-loop-left

@@ -1,6 +1,5 @@
 -- `memory_running::ready_marks` meets its contract. Of the priorities that there are. Assumes nothing.
 use Rattle.memory_running.specs.Running.{ready_marks}
-use borrow.Author.Rules.{rules}
 use Rattle.memory_running.proofs.ready_marks.Goals as goal
 
 pub returns : goal.returns

@@ -1,6 +1,5 @@
 -- `memory_running::running_task` meets its contract. By whether a handler is open. Assumes nothing.
 use Rattle.memory_running.proofs.Marks.{running_best, running_interrupted}
-use borrow.Author.Rules.{rules}
 use Rattle.memory_running.proofs.running_task.Goals as goal
 
 pub returns-then-is_open : goal.returns-then-is_open

@@ -1,5 +1,4 @@
 use mathlib.Core.Path.{◌∙◌}
-use borrow.Author.Rules.{rules}
 use Rattle.memory_tasks.specs.Moves.{readied}
 use Rattle.memory_tasks.proofs.make_ready.Goals as goal
 

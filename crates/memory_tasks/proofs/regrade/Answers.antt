@@ -1,6 +1,5 @@
 use mathlib.Core.Path.{◌∙◌}
 use borrow.Author.Tests.{eq-eqb, ne_eqb}
-use borrow.Author.Rules.{rules}
 use Rattle.memory_tasks.specs.Moves.{regraded}
 use Rattle.memory_tasks.proofs.regrade.Goals as goal
 

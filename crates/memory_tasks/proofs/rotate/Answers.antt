@@ -1,5 +1,4 @@
 use mathlib.Core.Path.{◌∙◌}
-use borrow.Author.Rules.{rules}
 use Rattle.memory_tasks.specs.Moves.{rotated}
 use Rattle.memory_tasks.proofs.rotate.Goals as goal
 

@@ -1,4 +1,3 @@
-use borrow.Author.Rules.{rules}
 use Rattle.memory_time.proofs.Steps.{age_one}
 use Rattle.memory_time.proofs.age.Goals as goal
 

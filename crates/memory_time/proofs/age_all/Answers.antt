@@ -1,5 +1,4 @@
 use mathlib.Core.Path.{◌∙◌}
-use borrow.Author.Rules.{rules}
 use Rattle.memory_time.specs.Elapsing.{aged_all}
 use Rattle.memory_time.proofs.age_all.Goals as goal
 

@@ -1,8 +1,5 @@
-use Prim.Native.Nat.{◌+◌, ◌-◌, ◌≤◌}
-use mathlib.Core.Path.{◌≡◌, ◌∙◌}
+use mathlib.Core.Path.{◌∙◌}
 use native.Mathlib.Omega.{arith}
-use borrow.Author.Rules.{rules}
-use Rattle.memory_time.specs.Elapsing.{aged_from}
 use Rattle.memory_time.proofs.Steps.{age_first, age_none, age_next}
 use Rattle.memory_time.proofs.age_tasks.Goals as goal
 

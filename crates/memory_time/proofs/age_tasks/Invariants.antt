@@ -1,9 +1,6 @@
 use Prim.Native.Nat.{◌+◌, ◌-◌, ◌≤◌}
-use mathlib.Core.Path.{◌≡◌, ◌∙◌}
-use native.Mathlib.Omega.{arith}
-use borrow.Author.Rules.{rules}
+use mathlib.Core.Path.{◌≡◌}
 use Rattle.memory_time.specs.Elapsing.{aged_from}
-use Rattle.memory_time.proofs.Steps.{age_first, age_none, age_next}
 use Rattle.memory_time.proofs.age_tasks.Given as goal
 
 abbrev pub invariant-loop-t : goal.invariant-loop-t

@@ -1,4 +1,3 @@
-use borrow.Author.Rules.{rules}
 use Rattle.memory_time.proofs.Steps.{count_none, count_up, count_round}
 use Rattle.memory_time.proofs.step_counter.Goals as goal
 

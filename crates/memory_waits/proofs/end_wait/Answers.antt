@@ -1,5 +1,4 @@
 use mathlib.Core.Path.{◌∙◌}
-use borrow.Author.Rules.{rules}
 use Rattle.memory_waits.proofs.end_wait.Goals as goal
 
 pub returns : goal.returns

@@ -1,6 +1,5 @@
 use mathlib.Core.Path.{◌∙◌}
 use borrow.Author.Tests.{eq-eqb, ne_eqb}
-use borrow.Author.Rules.{rules}
 use Rattle.memory_waits.specs.Waits.{released}
 use Rattle.memory_waits.proofs.release.Goals as goal
 

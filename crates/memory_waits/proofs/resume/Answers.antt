@@ -1,5 +1,4 @@
 use borrow.Author.Tests.{eq-eqb, ne_eqb}
-use borrow.Author.Rules.{rules}
 use Rattle.memory_waits.specs.Waits.{resumed}
 use Rattle.memory_waits.proofs.resume.Goals as goal
 

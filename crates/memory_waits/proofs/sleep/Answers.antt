@@ -1,5 +1,4 @@
 use mathlib.Core.Path.{◌∙◌}
-use borrow.Author.Rules.{rules}
 use Rattle.memory_waits.specs.Waits.{slept}
 use Rattle.memory_waits.proofs.sleep.Goals as goal
 

@@ -1,5 +1,4 @@
 use mathlib.Core.Path.{◌∙◌}
-use borrow.Author.Rules.{rules}
 use Rattle.memory_waits.specs.Waits.{awaiting}
 use Rattle.memory_waits.proofs.write_wait.Goals as goal
 

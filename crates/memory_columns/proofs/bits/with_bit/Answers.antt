@@ -1,5 +1,4 @@
 -- `memory_columns::bits::with_bit` meets its contract. By its tests. Assumes nothing.
-use borrow.Author.Rules.{rules}
 use borrow.Author.Tests.{le-ltb, lt-ltb}
 use Rattle.memory_columns.proofs.OneBit.{one_bit}
 use Rattle.memory_columns.proofs.bits.with_bit.Goals as goal

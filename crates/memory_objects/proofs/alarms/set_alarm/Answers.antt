@@ -1,5 +1,4 @@
 use mathlib.Core.Path.{◌∙◌}
-use borrow.Author.Rules.{rules}
 use Rattle.memory_objects.specs.Moves.{alarmed}
 use Rattle.memory_objects.proofs.alarms.set_alarm.Goals as goal
 

@@ -1,5 +1,4 @@
 use mathlib.Core.Path.{◌∙◌}
-use borrow.Author.Rules.{rules}
 use Rattle.memory_objects.specs.Moves.{nested}
 use Rattle.memory_objects.proofs.handlers.nest.Goals as goal
 

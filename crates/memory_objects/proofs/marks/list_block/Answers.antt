@@ -1,6 +1,5 @@
 -- `memory_objects::marks::list_block` meets its contract. By its test. Assumes nothing.
 use Rattle.memory_objects.proofs.Steps.{block_last, block_off}
-use borrow.Author.Rules.{rules}
 use Rattle.memory_objects.proofs.marks.list_block.Goals as goal
 
 pub returns-then-yes : goal.returns-then-yes

@@ -1,4 +1,3 @@
-use borrow.Author.Rules.{rules}
 use Rattle.memory_objects.proofs.Steps.{block_none, block_past, block_in}
 use Rattle.memory_objects.proofs.marks.mark_block.Goals as goal
 

@@ -1,5 +1,4 @@
 use mathlib.Core.Path.{◌∙◌}
-use borrow.Author.Rules.{rules}
 use Rattle.memory_objects.proofs.marks.post.Goals as goal
 
 pub returns : goal.returns

@@ -1,0 +1,15 @@
+use mathlib.Core.Path.{◌≡◌, refl}
+use Prim.Native.Nat.{◌-◌, ◌≤◌}
+use native.Mathlib.Omega.{arith}
+use lib.ListN.{length, length-set}
+use borrow.Author.Rules.{rules}
+use Rattle.call_reading.specs.Reading.{number_at}
+use Rattle.kernel_cells.specs.Promises.{Listed}
+use Rattle.kernel_cells.proofs.Listing.{none_listed, one_listed, all_listed}
+use Rattle.kernel_cells.proofs.list_states.Given as goal
+
+abbrev pub invariant-loop-i : goal.invariant-loop-i
+invariant-loop-i l = Listed (number_at l.words) l.i l.initial.out l.out × (l.i ≤ l.n) × (length l.out ≡ length l.initial.out)
+
+abbrev pub decreases-loop-i : goal.decreases-loop-i
+decreases-loop-i l = l.n - l.i

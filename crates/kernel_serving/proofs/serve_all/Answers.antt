@@ -1,0 +1,40 @@
+-- `kernel_serving::serve_all` meets its contract: event by event. Assumes nothing.
+use mathlib.Core.Path.{refl}
+use Prim.Native.Nat.{◌-◌}
+use native.Mathlib.Omega.{arith}
+use borrow.Author.Rules.{rules}
+use Rattle.memory_picture.specs.Picture.{memory}
+use Rattle.kernel_steps.specs.Written.{lent}
+use Rattle.kernel_serving.proofs.Written.{Turning, begins, goes_on, ends}
+use Rattle.kernel_serving.proofs.serve_all.Goals as goal
+
+pub loop-i-init : goal.loop-i-init
+loop-i-init c = record { running = λ K _. begins _ _ K; codes = refl; answers = refl }
+
+pub serve_one-runs-requires : goal.serve_one-runs-requires
+serve_one-runs-requires c =
+    let Q = c.count-n.ensures in
+    (omega (arith, c.loop-i-test.true, Q.0), omega (arith, c.loop-i-test.true, Q.1, c.loop-i.invariant.codes), omega (arith, c.loop-i-test.true, Q.2, c.loop-i.invariant.answers))
+
+pub loop-i-smaller : goal.loop-i-smaller
+loop-i-smaller c = omega arith
+
+pub loop-i-preserved : goal.loop-i-preserved
+loop-i-preserved c =
+    let h = c.loop-i.invariant in
+    let Q = c.count-n.ensures in
+    record {
+      running = λ K P. let R = h.running K P in goes_on P (omega (arith, c.loop-i-test.true, Q.0)) R (c.serve_one-runs.ensures R.known);
+      codes = omega (arith, c.codes-1.given, h.codes);
+      answers = omega (arith, c.answers-1.given, h.answers);
+    }
+
+pub shape_of-codes : goal.shape_of-codes
+shape_of-codes c = c.loop-i.invariant.codes
+
+pub shape_of-answers : goal.shape_of-answers
+shape_of-answers c = c.loop-i.invariant.answers
+
+pub returns : goal.returns
+returns c =
+    λ K P. let Q = c.count-n.ensures.3 P.codes P.answers in ends P (omega (arith, c.loop-i-test.false, Q)) (c.loop-i.invariant.running K P)
