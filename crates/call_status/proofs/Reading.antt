@@ -1,6 +1,6 @@
 -- What the words say is stored in an object is what the view shows there, over the kind. Assumes nothing.
 use mathlib.Core.List.{List}
-use mathlib.Core.Path.{◌≡◌, refl, sym, ap, ◌∙◌}
+use mathlib.Core.Path.{◌≡◌, sym, ◌∙◌}
 use Prim.Native.Nat.{ℕ}
 use lib.IntN.{pos}
 use Rattle.rules.specs.State.{Kind, semaphore, flag, mailbox, pool}

@@ -56,11 +56,11 @@ chain_words m (k ∷ l) C = (C.0.words, chain_words k.left l C.1)
 pub chain_holds : {m : Memory} {v : View} (l : List Link) → Holds m v → Chain m l → Holds (last_memory m l) (states v (map (λ k. k.event) l))
 unfolding states
 chain_holds [] H C = H
-chain_holds (k ∷ l) H C = chain_holds l (step_holds H C.0) C.1
+chain_holds {m = m} {v = v} (k ∷ l) H C = chain_holds {m = k.left} {v = (event v k.event).next} l (step_holds H C.0) C.1
 
 -- whatever is read of the replies is so of the answers
 pub chain_says : {A : Type 0} (f : Reply → A) {m : Memory} {v : View} (l : List Link) → Holds m v → Chain m l
     → map (λ k. f k.reply) l ≡ map (λ a. f (told a)) (answers v (map (λ k. k.event) l))
 unfolding answers
 chain_says f [] H C = refl
-chain_says f (k ∷ l) H C = λ z. f (step_says H C.0 z) ∷ chain_says f l (step_holds H C.0) C.1 z
+chain_says {A = A} f {m = m} {v = v} (k ∷ l) H C = λ z. f (step_says H C.0 z) ∷ chain_says {A = A} f {m = k.left} {v = (event v k.event).next} l (step_holds H C.0) C.1 z

@@ -125,7 +125,7 @@ chain_block_once m A (k ∷ l) C = (
 -- what is seen of a chain is the rules' history
 history_seen : {m : Memory} {v : View} (l : List Link) → Holds m v → Chain m l → seen_all m l ≡ history v (map (λ k. k.event) l)
 history_seen [] H C = refl
-history_seen {m} {v} (k ∷ l) H C = λ z. one z ∷ history_seen l (step_holds H C.0) C.1 z
+history_seen {m} {v} (k ∷ l) H C = λ z. one z ∷ history_seen {m = k.left} {v = (event v k.event).next} l (step_holds H C.0) C.1 z
   where
     one : seen m k ≡ happening v k.event
     one = λ z. record {
@@ -151,7 +151,7 @@ broken_on_code : (a : ℤ) {m : Memory} {v : View} (l : List Link) → Holds m v
 broken_on_code a [] H C B = cell_is H a B
 broken_on_code a {m} {v} (k ∷ l) H C B = (
   cell_is H a B.0,
-  rw (shown H, shown after) (unless (is_fresh (task v.body (nat a)).state (task (event v k.event).next.body (nat a)).state) (broken_on_code a l after C.1) B.1),
+  rw (shown H, shown after) (unless (is_fresh (task v.body (nat a)).state (task (event v k.event).next.body (nat a)).state) (broken_on_code a {m = k.left} {v = (event v k.event).next} l after C.1) B.1),
 )
   where
     after : Holds k.left (event v k.event).next

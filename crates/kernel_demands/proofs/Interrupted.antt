@@ -28,7 +28,7 @@ none_open (in_handler n i) e = absurd (true≢false e)
 -- while task i is the interrupted one
 until_return : (i : ℕ) {m : Memory} {v : View} (l : List Link) → Holds m v → Interrupts i v.body.handlers → Chain m l → UntilReturn i l
 until_return i [] H h C = tt
-until_return i {m} {v} (k ∷ l) H h C = go (open_in k.left) refl (until_return i l after)
+until_return i {m} {v} (k ∷ l) H h C = go (open_in k.left) refl (until_return i {m = k.left} {v = (event v k.event).next} l after)
   where
     sound : Sound v
     sound = subst Sound H.view H.accepted.sound

@@ -30,13 +30,13 @@ module _ (k : Kind) (o : ℕ) where
 
   gifts_same : {m : Memory} {v : View} (l : List Link) → Holds m v → Chain m l → gifts_on_code k o l ≡ gifts k o v (map (λ x. x.event) l)
   gifts_same [] H C = refl
-  gifts_same (x ∷ l) H C = λ z. once (gave_same x l H C z) + gifts_same l (step_holds H C.0) C.1 z
+  gifts_same {m = m} {v = v} (x ∷ l) H C = λ z. once (gave_same x l H C z) + gifts_same {m = x.left} {v = (event v x.event).next} l (step_holds H C.0) C.1 z
 
   leaves_on_code : (i : ℕ) {m : Memory} {v : View} (l : List Link) → Holds m v → Chain m l → Leaves k o i v (map (λ x. x.event) l) → LeavesOnCode k o i l
   leaves_on_code i [] H C L = L
-  leaves_on_code i {v = v} (x ∷ l) H C L =
+  leaves_on_code i {m = m} {v = v} (x ∷ l) H C L =
       rw (ap (λ (w : View). waits_at w k o i) after.view)
-      (whether (waits_at (event v x.event).next k o i) (leaves_on_code i l after C.1) (λ f g. cell_is after (pos i) (f (sym (gave_same x l H C) ∙ g))) L)
+      (whether (waits_at (event v x.event).next k o i) (leaves_on_code i {m = x.left} {v = (event v x.event).next} l after C.1) (λ f g. cell_is after (pos i) (f (sym (gave_same x l H C) ∙ g))) L)
     where
       after : Holds x.left (event v x.event).next
       after = step_holds H C.0

@@ -1,5 +1,5 @@
 -- What differs between two runs of the same events, as text. An answer is its five numbers, as a recorded run lists them: code, w1, w2, running task, released.
-use Rattle.std.specs.Prelude.{Bool, false, cond, not, ◌||◌, List, [], ◌∷◌, ◌++◌, ℕ, suc, eqb, ℤ, length}
+use Rattle.std.specs.Prelude.{Bool, false, cond, not, ◌||◌, List, [], ◌∷◌, ◌++◌, ℕ, suc, ℤ, length}
 use Rattle.rules.specs.Codes.{same}
 use Rattle.run_text.specs.Lines.{digits, decimal, signed, fields, event_line, count_line}
 

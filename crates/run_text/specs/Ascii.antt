@@ -1,6 +1,5 @@
 -- Quoted text as bytes.
 use Rattle.std.specs.Prelude.{List, ℕ}
-use mathlib.Core.List as List
 use Prim.Native.Char.{code}
 use Prim.Native.String.{String, [], ◌∷◌}
 

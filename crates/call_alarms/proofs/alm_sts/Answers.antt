@@ -1,6 +1,5 @@
 -- `call_alarms::alm_sts` meets its contract. It is its rule. Assumes nothing.
 use Rattle.call_alarms.proofs.AlarmCalls.{sts_idle, sts_used}
-use borrow.Author.Rules.{rules}
 use Rattle.call_alarms.proofs.alm_sts.Goals as goal
 
 pub returns-then-alarm_due-eq0 : goal.returns-then-alarm_due-eq0

@@ -1,7 +1,6 @@
 -- `call_alarms::can_alm` meets its contract. It is its rule. Assumes nothing.
 use Rattle.rules.specs.Codes.{number}
 use Rattle.call_alarms.proofs.AlarmCalls.{can_idle, can_done}
-use borrow.Author.Rules.{rules}
 use Rattle.call_alarms.proofs.can_alm.Goals as goal
 
 pub returns-then-alarm_due-eq0 : goal.returns-then-alarm_due-eq0

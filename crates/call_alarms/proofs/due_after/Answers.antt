@@ -3,7 +3,6 @@ use native.Mathlib.Omega.{arith}
 use borrow.Author.Tests.{eq-eqb, ne_eqb}
 use Rattle.call_alarms.specs.Setting.{due_after}
 use Rattle.call_alarms.proofs.AlarmCalls.{fits_due}
-use borrow.Author.Rules.{rules}
 use Rattle.call_alarms.proofs.due_after.Goals as goal
 
 pub returns-then-size-eq0 : goal.returns-then-size-eq0

@@ -1,6 +1,5 @@
 -- `call_alarms::set_abs` meets its contract. It is its rule. Assumes nothing.
 use Rattle.call_alarms.proofs.AlarmCalls.{abs_done}
-use borrow.Author.Rules.{rules}
 use Rattle.call_alarms.proofs.set_abs.Goals as goal
 
 pub returns : goal.returns

@@ -1,7 +1,6 @@
 -- `call_alarms::set_alm` meets its contract. It is its rule. Assumes nothing.
 use Rattle.rules.specs.Codes.{number}
 use Rattle.call_alarms.proofs.AlarmCalls.{set_used, set_done}
-use borrow.Author.Rules.{rules}
 use Rattle.call_alarms.proofs.set_alm.Goals as goal
 
 pub returns-then-alarm_due-ne0 : goal.returns-then-alarm_due-ne0

@@ -1,6 +1,5 @@
 -- `call_alarms::set_rel` meets its contract. It is its rule. Assumes nothing.
 use Rattle.call_alarms.proofs.AlarmCalls.{rel_done}
-use borrow.Author.Rules.{rules}
 use Rattle.call_alarms.proofs.set_rel.Goals as goal
 
 pub returns : goal.returns

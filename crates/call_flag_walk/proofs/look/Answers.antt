@@ -1,6 +1,5 @@
 -- `call_flag_walk::look` meets its contract. By its test. Assumes nothing.
 use native.Mathlib.Omega.{arith}
-use borrow.Author.Rules.{rules}
 use Rattle.call_flag_walk.proofs.FlagSteps.{look_skips, look_serves}
 use Rattle.std.proofs.lemmas.Bool.{not_from_false, not_from_true}
 use Rattle.call_flag_walk.proofs.look.Goals as goal

@@ -1,10 +1,6 @@
 -- `call_flag_walk::serve` meets its contract. What is left of the walk is the same at each turn. Assumes nothing.
-use mathlib.Core.Bool.{false}
-use Prim.Native.Nat.{◌+◌, ◌≤◌}
-use mathlib.Core.Path.{◌≡◌, ◌∙◌}
+use mathlib.Core.Path.{◌∙◌}
 use native.Mathlib.Omega.{arith}
-use borrow.Author.Rules.{rules}
-use Rattle.call_flag_walk.specs.Serving.{made, walked, served}
 use Rattle.call_flag_walk.proofs.FlagSteps.{walk_none, walk_ends, walk_cleared, walk_on, serve_starts}
 use Rattle.call_flag_walk.proofs.serve.Goals as goal
 

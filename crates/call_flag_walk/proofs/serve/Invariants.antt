@@ -1,10 +1,7 @@
 use mathlib.Core.Bool.{false}
 use Prim.Native.Nat.{◌+◌, ◌≤◌}
-use mathlib.Core.Path.{◌≡◌, ◌∙◌}
-use native.Mathlib.Omega.{arith}
-use borrow.Author.Rules.{rules}
+use mathlib.Core.Path.{◌≡◌}
 use Rattle.call_flag_walk.specs.Serving.{made, walked, served}
-use Rattle.call_flag_walk.proofs.FlagSteps.{walk_none, walk_ends, walk_cleared, walk_on, serve_starts}
 use Rattle.call_flag_walk.proofs.serve.Given as goal
 
 abbrev pub invariant-loop-left : goal.invariant-loop-left

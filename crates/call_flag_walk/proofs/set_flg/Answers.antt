@@ -1,6 +1,5 @@
 -- `call_flag_walk::set_flg` meets its contract. The walk performs the acts of the rule. Assumes nothing.
 use Rattle.call_flag_walk.proofs.FlagWalk.{set_done}
-use borrow.Author.Rules.{rules}
 use Rattle.call_flag_walk.proofs.set_flg.Goals as goal
 
 pub returns : goal.returns

@@ -1,6 +1,5 @@
 -- `call_flags::clr_flg` meets its contract. It is its rule. Assumes nothing.
 use Rattle.call_flags.proofs.FlagCalls.{clr_done}
-use borrow.Author.Rules.{rules}
 use Rattle.call_flags.proofs.clr_flg.Goals as goal
 
 pub returns : goal.returns

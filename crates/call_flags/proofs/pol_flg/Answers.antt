@@ -2,7 +2,6 @@
 use Rattle.rules.specs.Codes.{number}
 use Rattle.call_objects.proofs.Taking.{poll_refused}
 use Rattle.call_flags.proofs.FlagCalls.{unmet, pattern_taken}
-use borrow.Author.Rules.{rules}
 use Rattle.std.proofs.lemmas.Bool.{not_from_false, not_from_true}
 use Rattle.call_flags.proofs.pol_flg.Goals as goal
 

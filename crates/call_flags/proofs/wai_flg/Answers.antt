@@ -2,7 +2,6 @@
 use Rattle.rules.specs.State.{flag}
 use Rattle.call_objects.proofs.Taking.{caller_waits}
 use Rattle.call_flags.proofs.FlagCalls.{unmet, pattern_taken}
-use borrow.Author.Rules.{rules}
 use Rattle.std.proofs.lemmas.Bool.{not_from_false, not_from_true}
 use Rattle.call_flags.proofs.wai_flg.Goals as goal
 

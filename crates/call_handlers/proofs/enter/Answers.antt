@@ -2,7 +2,6 @@
 use native.Mathlib.Omega.{arith}
 use Rattle.rules.specs.Codes.{number}
 use Rattle.call_handlers.proofs.Handlers.{enter_refused, enter_done}
-use borrow.Author.Rules.{rules}
 use Rattle.call_handlers.proofs.enter.Goals as goal
 
 pub returns-then-depth-ge-MAX_DEPTH : goal.returns-then-depth-ge-MAX_DEPTH

@@ -1,7 +1,6 @@
 -- `call_handlers::leave` meets its contract. By the depth. Assumes nothing.
 use Rattle.rules.specs.Codes.{number}
 use Rattle.call_handlers.proofs.Handlers.{leave_refused, leave_last, leave_inner}
-use borrow.Author.Rules.{rules}
 use Rattle.call_handlers.proofs.leave.Goals as goal
 
 pub returns-then-depth-eq0 : goal.returns-then-depth-eq0

@@ -1,6 +1,5 @@
 -- `call_mailboxes::first_message` meets its contract. It reads the anchor's ring. Assumes nothing.
 use Rattle.call_objects.specs.Waiting.{first_message}
-use borrow.Author.Rules.{rules}
 use Rattle.call_mailboxes.proofs.first_message.Goals as goal
 
 pub returns : goal.returns

@@ -2,7 +2,6 @@
 use Rattle.rules.specs.State.{mailbox}
 use Rattle.call_objects.proofs.Taking.{caller_waits}
 use Rattle.call_mailboxes.proofs.MailboxCalls.{none_taken, message_taken}
-use borrow.Author.Rules.{rules}
 use Rattle.call_mailboxes.proofs.rcv_msg.Goals as goal
 
 pub returns-then-j-eq0 : goal.returns-then-j-eq0

@@ -1,7 +1,6 @@
 -- `call_mailboxes::snd_msg` meets its contract. It is its rule. Assumes nothing.
 use Rattle.rules.specs.Codes.{number}
 use Rattle.call_mailboxes.proofs.MailboxCalls.{snd_laid, snd_serves, snd_posts}
-use borrow.Author.Rules.{rules}
 use Rattle.call_mailboxes.proofs.snd_msg.Goals as goal
 
 pub returns-then-mark_of-ne0 : goal.returns-then-mark_of-ne0

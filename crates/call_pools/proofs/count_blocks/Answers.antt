@@ -1,11 +1,8 @@
 -- `call_pools::count_blocks` meets its contract. What is counted and the bits that are left are all. Assumes nothing.
-use mathlib.Core.Path.{◌≡◌, ◌∙◌}
-use Prim.Native.Nat.{◌+◌, ◌≤◌}
+use mathlib.Core.Path.{◌∙◌}
 use native.Mathlib.Nat.{zero-add}
 use native.Mathlib.Omega.{arith}
-use Rattle.call_pools.specs.Blocks.{bit_count}
 use Rattle.call_pools.proofs.Blocks.{count_done, count_on}
-use borrow.Author.Rules.{rules}
 use Rattle.call_pools.proofs.count_blocks.Goals as goal
 
 pub loop-left-init : goal.loop-left-init

@@ -1,10 +1,6 @@
-use mathlib.Core.Path.{◌≡◌, ◌∙◌}
+use mathlib.Core.Path.{◌≡◌}
 use Prim.Native.Nat.{◌+◌, ◌≤◌}
-use native.Mathlib.Nat.{zero-add}
-use native.Mathlib.Omega.{arith}
 use Rattle.call_pools.specs.Blocks.{bit_count}
-use Rattle.call_pools.proofs.Blocks.{count_done, count_on}
-use borrow.Author.Rules.{rules}
 use Rattle.call_pools.proofs.count_blocks.Given as goal
 
 abbrev pub invariant-loop-left : goal.invariant-loop-left

@@ -1,6 +1,5 @@
 -- `call_pools::first_block` meets its contract. By its test. Assumes nothing.
 use Rattle.call_pools.proofs.PoolCalls.{block_none, block_some}
-use borrow.Author.Rules.{rules}
 use Rattle.call_pools.proofs.first_block.Goals as goal
 
 pub returns-then-x-before : goal.returns-then-x-before

@@ -2,7 +2,6 @@
 use Rattle.rules.specs.State.{pool}
 use Rattle.call_objects.proofs.Taking.{caller_waits}
 use Rattle.call_pools.proofs.PoolCalls.{none_taken, block_taken}
-use borrow.Author.Rules.{rules}
 use Rattle.call_pools.proofs.get_blk.Goals as goal
 
 pub returns-then-k-eq0 : goal.returns-then-k-eq0

@@ -1,6 +1,5 @@
 -- `call_pools::is_not_out` meets its contract. By its tests. Assumes nothing.
 use Rattle.call_pools.proofs.Blocks.{out_zero, out_above, out_wide, out_bit}
-use borrow.Author.Rules.{rules}
 use Rattle.call_pools.proofs.is_not_out.Goals as goal
 
 pub returns-then-k-eq0 : goal.returns-then-k-eq0

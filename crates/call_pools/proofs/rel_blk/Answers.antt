@@ -1,7 +1,6 @@
 -- `call_pools::rel_blk` meets its contract. It is its rule. Assumes nothing.
 use Rattle.rules.specs.Codes.{number}
 use Rattle.call_pools.proofs.PoolCalls.{rel_bad, rel_serves, rel_frees}
-use borrow.Author.Rules.{rules}
 use Rattle.call_pools.proofs.rel_blk.Goals as goal
 
 pub returns-then-is_not_out : goal.returns-then-is_not_out

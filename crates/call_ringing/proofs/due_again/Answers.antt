@@ -1,6 +1,5 @@
 -- `call_ringing::due_again` meets its contract. By its test. Assumes nothing.
 use Rattle.call_ringing.proofs.Firing.{again_once, again_more}
-use borrow.Author.Rules.{rules}
 use Rattle.call_ringing.proofs.due_again.Goals as goal
 
 pub returns-then-period-eq0 : goal.returns-then-period-eq0

@@ -2,7 +2,6 @@
 use native.Mathlib.Omega.{arith}
 use Rattle.call_words.proofs.Signed.{signed}
 use Rattle.call_ringing.proofs.Firing.{fire_not, fire_done}
-use borrow.Author.Rules.{rules}
 use Rattle.std.proofs.lemmas.Bool.{not_from_false, not_from_true}
 use Rattle.call_ringing.proofs.fire.Goals as goal
 

@@ -1,6 +1,5 @@
 -- `call_ringing::is_due` meets its contract. By its test. Assumes nothing.
 use Rattle.call_ringing.proofs.Firing.{due_idle, due_now}
-use borrow.Author.Rules.{rules}
 use Rattle.call_ringing.proofs.is_due.Goals as goal
 
 pub returns-then-due-eq0 : goal.returns-then-due-eq0

@@ -1,9 +1,6 @@
 -- `call_ringing::ring` meets its contract. What is left to ring, and the count with it, is the same at each turn. Assumes nothing.
-use Prim.Native.Nat.{◌+◌, ◌<◌}
-use mathlib.Core.Path.{◌≡◌}
 use native.Mathlib.Omega.{arith}
-use borrow.Author.Rules.{rules}
-use Rattle.call_ringing.proofs.Ringing.{AllLeft, ring_starts, ring_ends, ring_step}
+use Rattle.call_ringing.proofs.Ringing.{ring_starts, ring_ends, ring_step}
 use Rattle.call_ringing.proofs.ring.Goals as goal
 
 pub loop-left-init : goal.loop-left-init

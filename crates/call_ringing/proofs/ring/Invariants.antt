@@ -1,8 +1,6 @@
 use Prim.Native.Nat.{◌+◌, ◌<◌}
 use mathlib.Core.Path.{◌≡◌}
-use native.Mathlib.Omega.{arith}
-use borrow.Author.Rules.{rules}
-use Rattle.call_ringing.proofs.Ringing.{AllLeft, ring_starts, ring_ends, ring_step}
+use Rattle.call_ringing.proofs.Ringing.{AllLeft}
 use Rattle.call_ringing.proofs.ring.Given as goal
 
 abbrev pub invariant-loop-left : goal.invariant-loop-left

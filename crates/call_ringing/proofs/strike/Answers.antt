@@ -1,7 +1,6 @@
 -- `call_ringing::strike` meets its contract. It is its rule. Assumes nothing.
 use Rattle.rules.specs.Codes.{number}
 use Rattle.call_ringing.proofs.Firing.{strike_absent, strike_starts, strike_dormant, strike_wakes}
-use borrow.Author.Rules.{rules}
 use Rattle.call_ringing.proofs.strike.Goals as goal
 
 pub returns-then-s-eq-ABSENT : goal.returns-then-s-eq-ABSENT

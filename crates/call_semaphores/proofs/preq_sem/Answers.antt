@@ -2,7 +2,6 @@
 use Rattle.rules.specs.Codes.{number}
 use Rattle.call_objects.proofs.Taking.{poll_refused}
 use Rattle.call_semaphores.proofs.SemaphoreCalls.{none_taken, one_taken}
-use borrow.Author.Rules.{rules}
 use Rattle.call_semaphores.proofs.preq_sem.Goals as goal
 
 pub returns-then-n-eq0 : goal.returns-then-n-eq0

@@ -1,7 +1,6 @@
 -- `call_semaphores::sig_sem` meets its contract. It is its rule. Assumes nothing.
 use Rattle.rules.specs.Codes.{number}
 use Rattle.call_semaphores.proofs.SemaphoreCalls.{sig_serves, sig_full, sig_counts}
-use borrow.Author.Rules.{rules}
 use Rattle.call_semaphores.proofs.sig_sem.Goals as goal
 
 pub returns-then-x-ne0 : goal.returns-then-x-ne0

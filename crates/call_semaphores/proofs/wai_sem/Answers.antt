@@ -2,7 +2,6 @@
 use Rattle.rules.specs.State.{semaphore}
 use Rattle.call_objects.proofs.Taking.{caller_waits}
 use Rattle.call_semaphores.proofs.SemaphoreCalls.{none_taken, one_taken}
-use borrow.Author.Rules.{rules}
 use Rattle.call_semaphores.proofs.wai_sem.Goals as goal
 
 pub returns-then-n-eq0 : goal.returns-then-n-eq0

@@ -1,6 +1,5 @@
 -- `call_status::obj_sts` meets its contract. It is its rule, for every kind. Assumes nothing.
 use Rattle.call_status.proofs.Reading.{status_told}
-use borrow.Author.Rules.{rules}
 use Rattle.call_status.proofs.obj_sts.Goals as goal
 
 pub returns : goal.returns

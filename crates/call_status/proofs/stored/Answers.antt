@@ -3,7 +3,6 @@ use mathlib.Core.Path.{◌∙◌, ap}
 use borrow.Author.Tests.{ne_eqb}
 use Rattle.call_pools.specs.Blocks.{bit_count}
 use Rattle.call_status.specs.Status.{stored_at}
-use borrow.Author.Rules.{rules}
 use Rattle.std.proofs.Common.{arith}
 use Rattle.call_status.proofs.stored.Goals as goal
 

@@ -1,10 +1,5 @@
 -- `call_tick::any_last` meets its contract. What was seen so far and the rest of the column say is the same at each turn. Assumes nothing.
-use mathlib.Core.Bool.{◌||◌}
-use mathlib.Core.Path.{◌≡◌}
-use Prim.Native.Nat.{◌+◌, ◌-◌, ◌≤◌}
 use native.Mathlib.Omega.{arith}
-use borrow.Author.Rules.{rules}
-use Rattle.call_tick.specs.Ticking.{any_from, has_one}
 use Rattle.call_tick.proofs.Ticks.{any_first, any_next, any_last, one_next}
 use Rattle.call_tick.proofs.any_last.Goals as goal
 

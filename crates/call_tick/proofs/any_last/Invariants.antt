@@ -1,10 +1,7 @@
 use mathlib.Core.Bool.{◌||◌}
 use mathlib.Core.Path.{◌≡◌}
 use Prim.Native.Nat.{◌+◌, ◌-◌, ◌≤◌}
-use native.Mathlib.Omega.{arith}
-use borrow.Author.Rules.{rules}
 use Rattle.call_tick.specs.Ticking.{any_from, has_one}
-use Rattle.call_tick.proofs.Ticks.{any_first, any_next, any_last, one_next}
 use Rattle.call_tick.proofs.any_last.Given as goal
 
 abbrev pub invariant-loop-i : goal.invariant-loop-i

@@ -1,12 +1,7 @@
 -- `call_tick::any_left` meets its contract. What the bits so far and the rest of the column say is the same at each turn. Assumes nothing.
-use mathlib.Core.Bool.{not, ◌||◌}
-use mathlib.Core.Path.{◌≡◌}
-use Prim.Native.Nat.{◌+◌, ◌-◌, ◌≤◌}
+use mathlib.Core.Bool.{not}
 use native.Mathlib.Omega.{arith}
 use lib.Dec.{eqb}
-use borrow.Author.Rules.{rules}
-use Rattle.memory_columns.specs.Layout.{max_tasks}
-use Rattle.call_tick.specs.Ticking.{any_from, has_left}
 use Rattle.call_tick.proofs.Ticks.{any_first, any_next, any_last, left_next_lem}
 use Rattle.call_tick.proofs.any_left.Goals as goal
 

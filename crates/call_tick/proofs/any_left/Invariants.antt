@@ -1,12 +1,9 @@
 use mathlib.Core.Bool.{not, ◌||◌}
 use mathlib.Core.Path.{◌≡◌}
 use Prim.Native.Nat.{◌+◌, ◌-◌, ◌≤◌}
-use native.Mathlib.Omega.{arith}
 use lib.Dec.{eqb}
-use borrow.Author.Rules.{rules}
 use Rattle.memory_columns.specs.Layout.{max_tasks}
 use Rattle.call_tick.specs.Ticking.{any_from, has_left}
-use Rattle.call_tick.proofs.Ticks.{any_first, any_next, any_last, left_next_lem}
 use Rattle.call_tick.proofs.any_left.Given as goal
 
 abbrev pub invariant-loop-i : goal.invariant-loop-i

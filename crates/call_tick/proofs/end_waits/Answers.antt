@@ -1,6 +1,5 @@
 -- `call_tick::end_waits` meets its contract. Where nobody has his last tick the pass would change nothing. Assumes nothing.
 use native.Mathlib.Omega.{arith}
-use borrow.Author.Rules.{rules}
 use Rattle.call_tick.proofs.Ticks.{end_none}
 use Rattle.call_tick.proofs.end_waits.Goals as goal
 

@@ -1,6 +1,5 @@
 -- `call_tick::expire` meets its contract. By its test. Assumes nothing.
 use native.Mathlib.Omega.{arith}
-use borrow.Author.Rules.{rules}
 use Rattle.call_tick.proofs.Ticks.{expire_yes, expire_no}
 use Rattle.call_tick.proofs.expire.Goals as goal
 

@@ -1,10 +1,7 @@
 -- `call_tick::expire_all` meets its contract. What is left of the pass, and the count with it, is the same at each turn. Assumes nothing.
-use Prim.Native.Nat.{◌+◌, ◌≤◌}
-use mathlib.Core.Path.{◌≡◌, refl}
+use mathlib.Core.Path.{refl}
 use native.Mathlib.Omega.{arith}
-use borrow.Author.Rules.{rules}
-use Rattle.call_tick.specs.Ticking.{expired, expiries}
-use Rattle.call_tick.proofs.Ticks.{Along, expire_none, expire_step}
+use Rattle.call_tick.proofs.Ticks.{expire_none, expire_step}
 use Rattle.call_tick.proofs.expire_all.Goals as goal
 
 pub loop-left-init : goal.loop-left-init

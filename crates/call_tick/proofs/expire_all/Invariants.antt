@@ -1,9 +1,7 @@
 use Prim.Native.Nat.{◌+◌, ◌≤◌}
-use mathlib.Core.Path.{◌≡◌, refl}
-use native.Mathlib.Omega.{arith}
-use borrow.Author.Rules.{rules}
+use mathlib.Core.Path.{◌≡◌}
 use Rattle.call_tick.specs.Ticking.{expired, expiries}
-use Rattle.call_tick.proofs.Ticks.{Along, expire_none, expire_step}
+use Rattle.call_tick.proofs.Ticks.{Along}
 use Rattle.call_tick.proofs.expire_all.Given as goal
 
 abbrev pub invariant-loop-left : goal.invariant-loop-left

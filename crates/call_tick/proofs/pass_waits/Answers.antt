@@ -1,6 +1,5 @@
 -- `call_tick::pass_waits` meets its contract. Where nothing is left to anybody neither pass would change anything. Assumes nothing.
 use native.Mathlib.Omega.{arith}
-use borrow.Author.Rules.{rules}
 use Rattle.call_tick.proofs.Ticks.{pass_none, pass_some, pass_count}
 use Rattle.call_tick.proofs.pass_waits.Goals as goal
 

@@ -1,6 +1,5 @@
 -- `call_tick::tick` meets its contract. `pass_waits` performs the releases, with `step_clock` and `step_counter` the rest of the time, then `ring` the alarms. Assumes nothing.
 use Rattle.call_tick.proofs.Ticks.{tick_alone, tick_rings}
-use borrow.Author.Rules.{rules}
 use Rattle.call_tick.proofs.tick.Goals as goal
 
 pub returns-then-counter-eq0 : goal.returns-then-counter-eq0

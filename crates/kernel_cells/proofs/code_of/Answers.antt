@@ -2,6 +2,7 @@
 use borrow.Author.Tests.{ne_eqb}
 use Rattle.rules.specs.Codes.{number}
 use Rattle.memory_picture.specs.Picture.{code_of}
+use Rattle.std.proofs.Common.{arith}
 use Rattle.kernel_cells.proofs.code_of.Goals as goal
 
 pub returns-in-0 : goal.returns-in-0
@@ -18,4 +19,4 @@ returns-in-2 c = rw c.in-2.is
 
 pub returns-in_default : goal.returns-in_default
 unfolding number code_of
-returns-in_default c = let r = c.in-0.rest in rw (ne_eqb _ 0 r.0.0.1, ne_eqb _ 1 r.0.1, ne_eqb _ 2 r.1)
+returns-in_default c = rw (ne_eqb c.args.kept 0 (omega arith), ne_eqb c.args.kept 1 (omega arith), ne_eqb c.args.kept 2 (omega arith))

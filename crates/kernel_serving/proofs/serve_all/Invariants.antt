@@ -8,8 +8,7 @@ use Rattle.kernel_serving.proofs.Written.{Turning, begins, goes_on, ends}
 use Rattle.kernel_serving.proofs.serve_all.Given as goal
 
 abbrev pub invariant-loop-i : goal.invariant-loop-i
-invariant-loop-i l =
-    Turning l.events l.found l.me l.runs l.i (lent (memory l.initial.words l.initial.messages) l.initial.codes l.initial.answers) (lent (memory l.words l.messages) l.codes l.answers)
+invariant-loop-i l = Turning l.events l.found l.me l.runs l.i (lent (memory l.initial.words l.initial.messages) l.initial.codes l.initial.answers) (lent (memory l.words l.messages) l.codes l.answers)
 
 abbrev pub decreases-loop-i : goal.decreases-loop-i
 decreases-loop-i l = l.n - l.i
