@@ -15,7 +15,7 @@ use Rattle.run_month.specs.Monthly.{sum_at}
 use Rattle.run_tally.specs.Tables.{Flat}
 use Rattle.run_reading.specs.Recorded.{most_events, Head, Item, begins, occurs, refuses, event_bytes, event_in, event_items, items_behind, read_head, items_of}
 use Rattle.run_reading.proofs.Reach.{Parts, head_parts}
-use Rattle.run_text.specs.Text.{Stage, unstarted, at, onward}
+use Rattle.run_text.specs.Text.{Stage, unstarted, at, onward, queues}
 use Rattle.run_figures.specs.Figures.{none, seen_from, figures_of}
 use Rattle.run_totals.specs.Adding.{sum, row, part, totalled, occurring, ran, ran_with, RecordsOf, over}
 use Rattle.run_totals.proofs.Rows.{Shaped, AllProper, rows_add, codes_add, all_shaped, state_proper, code_proper}
@@ -26,10 +26,10 @@ use Rattle.run_totals.proofs.Kept.{seen, run_having, run_seen}
 seen_proper : (x : Stage View) (l : List Item) → AllProper (seen_from x l)
 unfolding seen_from onward
 seen_proper x [] = tt
-seen_proper unstarted (begins h ∷ l) = seen_proper _ l
-seen_proper (at v) (begins h ∷ l) = seen_proper _ l
+seen_proper unstarted (begins h ∷ l) = seen_proper (onward queues unstarted (begins h)) l
+seen_proper (at v) (begins h ∷ l) = seen_proper (onward queues (at v) (begins h)) l
 seen_proper unstarted (occurs n e ∷ l) = seen_proper unstarted l
-seen_proper (at v) (occurs n e ∷ l) = (record { state = λ i h. state_proper _ _; code = code_proper _ }, seen_proper _ l)
+seen_proper (at v) (occurs n e ∷ l) = (record { state = λ i h. state_proper _ _; code = code_proper _ }, seen_proper (onward queues (at v) (occurs n e)) l)
 seen_proper unstarted (refuses f p ∷ l) = seen_proper unstarted l
 seen_proper (at v) (refuses f p ∷ l) = seen_proper (at v) l
 
