@@ -30,7 +30,6 @@ use denote.Slice.{slice_val, ShrSlice, MutSlice, Room, finally, shr_slice_vals, 
 use denote.Signature.{plain}
 use denote.Steps.{peeks, heard, nothing}
 use denote.Enum.Laws as EL
-use denote.Triple.Statement.{Contract, Triple}
 use denote.Triple.Call.{calls_at}
 use denote.Triple.Entry.{Vals, on_entry}
 use denote.Triple.Spec.{Meets, triple_of}
@@ -54,8 +53,8 @@ use Rattle.export_numbers.proofs.report_number.Symbol.{name as #export_numbers·
 use Rattle.export_numbers.proofs.report_number.Met as number-thm
 use Rattle.okrozumba.specs.contracts.okrozumba_month.Key.{name as #okrozumba·okrozumba_month}
 use Rattle.okrozumba.specs.contracts.okrozumba_month as exported
-use Rattle.okrozumba.proofs.okrozumba_month.Statement as stated
 use Rattle.okrozumba.proofs.okrozumba_month.Code as code
+use Rattle.okrozumba.proofs.okrozumba_month.Goals as goal
 
 abbrev stayed : Stays (exported.ended).signature.params (exported.ended).kept
 stayed = (stay_none_slice (0 ∷ []) tt (plain (λ _. R.the_row)) yes, (gave_slice (1 ∷ []) tt (plain (λ _. u32)), tt))
