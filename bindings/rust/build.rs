@@ -1,4 +1,4 @@
-//! Finds the archive: in the folder that OKROZUMBA_ARCHIVE names, else where `rt staticlib okrozumba` of this repository writes it.
+//! Finds the archive: in the folder that OKROZUMBA_ARCHIVE names, else where `rt lib --cpu x86-64` in crates/okrozumba of this repository writes it.
 use std::env;
 use std::path::{Path, PathBuf};
 
@@ -7,7 +7,7 @@ fn folder() -> PathBuf {
         Some(named) => PathBuf::from(named),
         None => {
             Path::new(&env::var_os("CARGO_MANIFEST_DIR").expect("cargo names the package's folder"))
-                .join("../../target/staticlib")
+                .join("../../crates/okrozumba/out")
         }
     }
 }
@@ -17,7 +17,7 @@ fn main() {
     println!("cargo:rerun-if-env-changed=OKROZUMBA_ARCHIVE");
     println!("cargo:rerun-if-changed={}", archive.display());
     if !archive.exists() {
-        panic!("{} is missing: run `rt staticlib okrozumba` in the repository's root, or set OKROZUMBA_ARCHIVE", archive.display());
+        panic!("{} is missing: run `rt lib --cpu x86-64` in crates/okrozumba, or set OKROZUMBA_ARCHIVE", archive.display());
     }
     println!("cargo:rustc-link-search=native={}", folder().display());
     println!("cargo:rustc-link-lib=static=okrozumba");

@@ -1,7 +1,7 @@
 /* The figures of two recorded runs, each counted in parts of seven bytes, and the month of both. From the repository's root:
 
-       rt staticlib okrozumba
-       cc -std=c11 -Wall -Wextra -Iinclude examples/c/figures.c target/staticlib/libokrozumba.a -o target/figures_example
+       (cd crates/okrozumba && rt lib --cpu x86-64) && mkdir -p target
+       cc -std=c11 -Wall -Wextra -Iinclude examples/c/figures.c crates/okrozumba/out/libokrozumba.a -o target/figures_example
        target/figures_example
 
    It prints:

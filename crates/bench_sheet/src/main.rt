@@ -29,8 +29,12 @@ use crate::text::{first_byte, nth, say, word};
 use crate::turns::{
     ENTRY, HANDLED, HANDLER, LIST_WORDS, RETURN, TASK, TICK, at_once, happen, stray,
 };
-use libc::STDIN_FILENO;
 use memory_columns::STATE_WORDS;
+use std::io::Print;
+use streams::read_full;
+
+// Room for the table.
+const SPACE: usize = 65536;
 
 // The kind of a line that is no event.
 const NO_EVENT: i32 = 9;
@@ -52,6 +56,7 @@ fn kind_of(letter: u8) -> i32 {
 
 // A line that makes another state; gives whether it is one.
 fn prepared(
+    out: &impl Print,
     line: &[u8],
     letter: u8,
     setup: &[u8; 160],
@@ -60,17 +65,17 @@ fn prepared(
 ) -> bool {
     match letter {
         b'F' => {
-            start(line, setup, words, messages);
+            start(out, line, setup, words, messages);
             true
         }
         b'W' => {
             overwrite(words, word(line, 1) as usize, word(line, 2));
-            look(words, messages);
+            look(out, words, messages);
             true
         }
         b'M' => {
             overwrite(messages, word(line, 1) as usize, word(line, 2));
-            look(words, messages);
+            look(out, words, messages);
             true
         }
         _ => false,
@@ -79,6 +84,7 @@ fn prepared(
 
 // Does what a line says; gives how many events stand in the list then.
 fn obey(
+    out: &impl Print,
     line: &[u8],
     setup: &mut [u8; 160],
     words: &mut [u32; STATE_WORDS],
@@ -88,13 +94,13 @@ fn obey(
     list: &mut [i32; LIST_WORDS],
     n: usize,
 ) -> usize {
-    say(line);
+    say(out, line);
     let letter = first_byte(line);
     let kind = kind_of(letter);
     if kind != NO_EVENT {
-        return happen(line, kind, words, messages, list, n);
+        return happen(out, line, kind, words, messages, list, n);
     }
-    if prepared(line, letter, setup, words, messages) {
+    if prepared(out, line, letter, setup, words, messages) {
         *first_words = *words;
         *first_messages = *messages;
         return 0;
@@ -102,14 +108,30 @@ fn obey(
     match letter {
         b'S' => {
             lay(setup, line);
-            say(b"\n");
+            say(out, b"\n");
         }
-        b'P' => stray(words, messages, nth(line, 1), nth(line, 2), nth(line, 3)),
-        b'C' => cell(words, messages, nth(line, 1)),
-        b'A' => damages(words, messages, word(line, 1)),
-        b'E' => at_once(line, false, setup, first_words, first_messages, list, n),
-        b'R' => at_once(line, true, setup, first_words, first_messages, list, n),
-        _ => say(b"\n"),
+        b'P' => stray(
+            out,
+            words,
+            messages,
+            nth(line, 1),
+            nth(line, 2),
+            nth(line, 3),
+        ),
+        b'C' => cell(out, words, messages, nth(line, 1)),
+        b'A' => damages(out, words, messages, word(line, 1)),
+        b'E' => at_once(
+            out,
+            line,
+            false,
+            setup,
+            first_words,
+            first_messages,
+            list,
+            n,
+        ),
+        b'R' => at_once(out, line, true, setup, first_words, first_messages, list, n),
+        _ => say(out, b"\n"),
     }
     n
 }
@@ -129,7 +151,7 @@ fn line_end(text: &[u8], from: usize) -> usize
     i
 }
 
-fn play(text: &[u8]) {
+fn play(out: &impl Print, text: &[u8]) {
     let mut setup = [0u8; 160];
     let mut words = [0u32; STATE_WORDS];
     let mut messages = [0u32; 256];
@@ -141,6 +163,7 @@ fn play(text: &[u8]) {
     while at < text.len() {
         let end = line_end(text, at);
         n = obey(
+            out,
             &text[at..end],
             &mut setup,
             &mut words,
@@ -157,8 +180,8 @@ fn play(text: &[u8]) {
     }
 }
 
-fn main() {
-    let mut space = io::large_buffer();
-    let n = io::read_full(STDIN_FILENO, &mut space);
-    play(&space[..n]);
+fn main(rt: HostRuntime) {
+    let mut space = [0u8; SPACE];
+    let n = read_full(&mut rt.stdin(), &mut space);
+    play(&rt.stdout(), &space[..n]);
 }

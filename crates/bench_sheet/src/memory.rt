@@ -3,8 +3,9 @@ ghost use Rattle.std.specs.Prelude.{◌≤◌};
 
 use crate::text::{field, say, signed, upto, word};
 use kernel_start::Started;
-use libc::STDOUT_FILENO;
 use memory_columns::STATE_WORDS;
+use std::io::Print;
+use streams::print_decimal;
 
 // Word i of the setup.
 fn lay_word(setup: &mut [u8; 160], i: usize, w: u32) {
@@ -24,42 +25,48 @@ pub fn lay(setup: &mut [u8; 160], line: &[u8]) {
     }
 }
 
-pub fn fault(digit: u32, place: usize) {
-    field(b": refused S", digit);
-    say(b" at ");
-    io::print_decimal(STDOUT_FILENO, place as u64);
+pub fn fault(out: &impl Print, digit: u32, place: usize) {
+    field(out, b": refused S", digit);
+    say(out, b" at ");
+    print_decimal(out, place as u64);
 }
 
 // What a state shows at once: whether it is sound, and who runs.
-pub fn look(words: &[u32; STATE_WORDS], messages: &[u32; 256]) {
+pub fn look(out: &impl Print, words: &[u32; STATE_WORDS], messages: &[u32; 256]) {
     if check_state::accepts(words, messages) {
-        say(b", sound");
+        say(out, b", sound");
     } else {
-        say(b", damaged");
+        say(out, b", damaged");
     }
-    field(b", runs ", kernel_cells::running(words, messages));
-    say(b"\n");
+    field(out, b", runs ", kernel_cells::running(words, messages));
+    say(out, b"\n");
 }
 
 // A start over as many bytes of the setup as the line says.
-pub fn start(line: &[u8], setup: &[u8], words: &mut [u32; STATE_WORDS], messages: &mut [u32; 256]) {
+pub fn start(
+    out: &impl Print,
+    line: &[u8],
+    setup: &[u8],
+    words: &mut [u32; STATE_WORDS],
+    messages: &mut [u32; 256],
+) {
     let n = upto(line, 1, 160);
     if setup.len() < n {
         return;
     }
     match kernel_start::start(&setup[0..n], words, messages) {
-        Started::Fresh => say(b": fresh"),
-        Started::Refused(digit, place) => fault(digit, place),
+        Started::Fresh => say(out, b": fresh"),
+        Started::Refused(digit, place) => fault(out, digit, place),
     }
-    look(words, messages);
+    look(out, words, messages);
 }
 
-pub fn cell(words: &[u32; STATE_WORDS], messages: &[u32; 256], task: i32) {
+pub fn cell(out: &impl Print, words: &[u32; STATE_WORDS], messages: &[u32; 256], task: i32) {
     let cell = kernel_cells::cell(words, messages, task);
-    say(b": ");
-    signed(cell.code);
-    field(b" ", cell.word);
-    say(b"\n");
+    say(out, b": ");
+    signed(out, cell.code);
+    field(out, b" ", cell.word);
+    say(out, b"\n");
 }
 
 pub fn overwrite(words: &mut [u32], at: usize, v: u32) {
@@ -93,9 +100,9 @@ fn sweep(words: &mut [u32; STATE_WORDS], messages: &[u32; 256], v: u32) -> u32 {
     found
 }
 
-pub fn damages(words: &mut [u32; STATE_WORDS], messages: &[u32; 256], v: u32) {
-    field(b": ", sweep(words, messages, v));
-    say(b" times damaged\n");
+pub fn damages(out: &impl Print, words: &mut [u32; STATE_WORDS], messages: &[u32; 256], v: u32) {
+    field(out, b": ", sweep(words, messages, v));
+    say(out, b" times damaged\n");
 }
 
 fn same_words(a: &[u32], b: &[u32]) -> bool {

@@ -1,31 +1,32 @@
 // Writing, and reading the numbers of a line.
 ghost use Rattle.std.specs.Prelude.{◌≤◌};
 
-use libc::STDOUT_FILENO;
+use std::io::Print;
+use streams::{print_decimal, write_all};
 
 // ---- writing
 
-pub fn say(text: &[u8]) {
-    io::write_all(STDOUT_FILENO, text);
+pub fn say(out: &impl Print, text: &[u8]) {
+    write_all(out, text);
 }
 
-pub fn number(x: u32) {
-    io::print_decimal(STDOUT_FILENO, x as u64);
+pub fn number(out: &impl Print, x: u32) {
+    print_decimal(out, x as u64);
 }
 
-pub fn signed(x: i32) {
+pub fn signed(out: &impl Print, x: i32) {
     let bits = call_words::bits_of(x);
     if x < 0 {
-        say(b"-");
-        io::print_decimal(STDOUT_FILENO, 4294967296 - bits as u64);
+        say(out, b"-");
+        print_decimal(out, 4294967296 - bits as u64);
     } else {
-        number(bits);
+        number(out, bits);
     }
 }
 
-pub fn field(name: &[u8], x: u32) {
-    say(name);
-    number(x);
+pub fn field(out: &impl Print, name: &[u8], x: u32) {
+    say(out, name);
+    number(out, x);
 }
 
 // ---- reading

@@ -4,6 +4,7 @@ use crate::text::{field, nth, say, signed, upto};
 use kernel_batches::{Batch, Ran};
 use kernel_steps::Answer;
 use memory_columns::STATE_WORDS;
+use std::io::Print;
 
 // The kinds of events in a list.
 pub const TASK: i32 = 0;
@@ -81,25 +82,25 @@ fn served(
 }
 
 // Says what is to be, or that it is not so.
-fn verdict(text: &[u8], holds: bool) {
+fn verdict(out: &impl Print, text: &[u8], holds: bool) {
     if !holds {
-        say(b", NOT");
+        say(out, b", NOT");
     }
-    say(text);
+    say(out, text);
 }
 
 // An answer, and whether the state is as it was: so it must be if the event was refused.
-fn tell(r: Answer, same: bool) {
-    say(b": ");
-    signed(r.code);
-    field(b" ", r.w1);
-    field(b" ", r.w2);
-    field(b", runs ", r.running);
-    field(b", released ", r.released);
+fn tell(out: &impl Print, r: Answer, same: bool) {
+    say(out, b": ");
+    signed(out, r.code);
+    field(out, b" ", r.w1);
+    field(out, b" ", r.w2);
+    field(out, b", runs ", r.running);
+    field(out, b", released ", r.released);
     if r.code < 0 {
-        verdict(b", unchanged", same);
+        verdict(out, b", unchanged", same);
     }
-    say(b"\n");
+    say(out, b"\n");
 }
 
 // What comes of a line, and how many events stand in the list then.
@@ -145,6 +146,7 @@ fn handled(
 
 // Does the event of a line, or its three, and tells what came of it; gives how many events stand in the list then.
 pub fn happen(
+    out: &impl Print,
     line: &[u8],
     kind: i32,
     words: &mut [u32; STATE_WORDS],
@@ -160,6 +162,7 @@ pub fn happen(
         alone(line, kind, words, messages, list, n)
     };
     tell(
+        out,
         turn.answer,
         same_memory(words, messages, &old_words, &old_messages),
     );
@@ -168,6 +171,7 @@ pub fn happen(
 
 // A call from any context; a list has calls from tasks and handlers alone.
 pub fn stray(
+    out: &impl Print,
     words: &mut [u32; STATE_WORDS],
     messages: &mut [u32; 256],
     context: i32,
@@ -177,32 +181,36 @@ pub fn stray(
     let old_words = *words;
     let old_messages = *messages;
     let r = kernel_events::call(words, messages, context, number, a, 0, 0);
-    tell(r, same_memory(words, messages, &old_words, &old_messages));
+    tell(
+        out,
+        r,
+        same_memory(words, messages, &old_words, &old_messages),
+    );
 }
 
 // ---- at once
 
-fn said(text: &[u8], ok: bool) -> bool {
-    say(text);
+fn said(out: &impl Print, text: &[u8], ok: bool) -> bool {
+    say(out, text);
     ok
 }
 
 // Says what came of a batch; gives whether it was done.
-fn done(b: Batch) -> bool {
+fn done(out: &impl Print, b: Batch) -> bool {
     match b {
-        Batch::Done => said(b": done", true),
-        Batch::Ragged => said(b": ragged", false),
-        Batch::FewCodes => said(b": few codes", false),
-        Batch::FewWords => said(b": few words", false),
+        Batch::Done => said(out, b": done", true),
+        Batch::Ragged => said(out, b": ragged", false),
+        Batch::FewCodes => said(out, b": few codes", false),
+        Batch::FewWords => said(out, b": few words", false),
     }
 }
 
-fn ran(r: Ran) -> bool {
+fn ran(out: &impl Print, r: Ran) -> bool {
     match r {
-        Ran::Done => done(Batch::Done),
-        Ran::Unfit(b) => done(b),
+        Ran::Done => done(out, Batch::Done),
+        Ran::Unfit(b) => done(out, b),
         Ran::Refused(digit, place) => {
-            fault(digit, place);
+            fault(out, digit, place);
             false
         }
     }
@@ -264,6 +272,7 @@ fn short(line: &[u8], k: u32, whole: usize) -> usize {
 // The first n events of the list at once, by `run` over the setup or by `events`, with the lengths that the line says. Gives whether
 // they were done.
 fn batch(
+    out: &impl Print,
     line: &[u8],
     by_run: bool,
     setup: &[u8],
@@ -294,26 +303,33 @@ fn batch(
         return false;
     }
     if by_run {
-        return ran(kernel_batches::run(
-            &setup[0..bytes],
+        return ran(
+            out,
+            kernel_batches::run(
+                &setup[0..bytes],
+                words,
+                messages,
+                &list[0..e],
+                &mut codes[0..c],
+                &mut answers[0..a],
+            ),
+        );
+    }
+    done(
+        out,
+        kernel_batches::events(
             words,
             messages,
             &list[0..e],
             &mut codes[0..c],
             &mut answers[0..a],
-        ));
-    }
-    done(kernel_batches::events(
-        words,
-        messages,
-        &list[0..e],
-        &mut codes[0..c],
-        &mut answers[0..a],
-    ))
+        ),
+    )
 }
 
 // A batch that is done must answer and leave the state as the events one by one do, one that is not must leave all as it was.
 pub fn at_once(
+    out: &impl Print,
     line: &[u8],
     by_run: bool,
     setup: &[u8; 160],
@@ -327,6 +343,7 @@ pub fn at_once(
     let mut codes = [77i32; EVENTS];
     let mut answers = [77u32; ANSWER_WORDS];
     let ok = batch(
+        out,
         line,
         by_run,
         setup,
@@ -342,8 +359,9 @@ pub fn at_once(
     let m = if ok { n } else { 0 };
     let same = replayed(&mut one_words, &mut one_messages, list, m, &codes, &answers);
     verdict(
+        out,
         b", as one by one",
         same && same_memory(&one_words, &one_messages, &all_words, &all_messages),
     );
-    say(b"\n");
+    say(out, b"\n");
 }

@@ -5,22 +5,23 @@
 
 ghost use Rattle.std.specs.Prelude.{◌≤◌, length};
 
-use libc::{STDIN_FILENO, STDOUT_FILENO};
 use run_compare_reading::INPUT;
 use run_compare_text::{TEXT, Told};
+use std::io::Print;
+use streams::{read_full, write_all};
 
-fn show(text: &[u8], n: usize)
+fn show(out: &impl Print, text: &[u8], n: usize)
     requires { n ≤ length text.now }
 {
-    io::write_all(STDOUT_FILENO, &text[..n]);
+    write_all(out, &text[..n]);
 }
 
-fn main() {
+fn main(rt: HostRuntime) {
     let mut input = [0u8; INPUT];
-    let n = io::read_full(STDIN_FILENO, &mut input);
+    let n = read_full(&mut rt.stdin(), &mut input);
     let mut text = [0u8; TEXT];
     let told = run_compare::compare(&input[..n], &mut text);
     if let Told::Written(k) = told {
-        show(&text, k);
+        show(&rt.stdout(), &text, k);
     }
 }

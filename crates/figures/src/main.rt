@@ -2,30 +2,32 @@
 // tasks, with single spaces. An input that cannot be read is named on standard error, and nothing is written.
 #![tactic(auto)]
 
-use libc::{STDIN_FILENO, STDOUT_FILENO};
 use run_files::count_file;
 use run_month::{COUNTS, Record};
+use std::io::Print;
+use streams::{fail, print_decimal, write_all};
 
-fn write_record(r: Record) {
+fn write_record(out: &impl Print, r: Record) {
     let counts = r.counts;
     let mut i: usize = 0;
     while i < COUNTS {
-        io::print_decimal(STDOUT_FILENO, counts[i] as u64);
-        io::write_all(STDOUT_FILENO, b" ");
+        print_decimal(out, counts[i] as u64);
+        write_all(out, b" ");
         i += 1;
     }
 }
 
-fn main() {
-    let run = count_file(STDIN_FILENO);
-    if !run.is_read {
-        os::fail(b"standard input");
+fn main(rt: HostRuntime) {
+    let run = count_file(&mut rt.stdin());
+    if let Some(failure) = run.failure {
+        fail(&rt.stderr(), b"standard input", failure);
         return;
     }
+    let out = rt.stdout();
     let record = run.record;
-    write_record(record);
-    io::print_decimal(STDOUT_FILENO, run.events);
-    io::write_all(STDOUT_FILENO, b" ");
-    io::print_decimal(STDOUT_FILENO, run.tasks as u64);
-    io::write_all(STDOUT_FILENO, b"\n");
+    write_record(&out, record);
+    print_decimal(&out, run.events);
+    write_all(&out, b" ");
+    print_decimal(&out, run.tasks as u64);
+    write_all(&out, b"\n");
 }

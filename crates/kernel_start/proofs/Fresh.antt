@@ -1,7 +1,7 @@
 -- The start: the memory that it lays for an accepted setup shows the fresh state. Each freed block and each started task is an act of the rules. Assumes nothing.
 use Prim.Native.Nat.{ℕ, zero, suc, ◌+◌, ◌-◌, ◌*◌, ◌≤◌}
 use mathlib.Core.Bool.{Bool, true, false, cond}
-use mathlib.Core.List.{List, [], ◌∷◌, ◌++◌, map}
+use mathlib.Core.List.{List, [], ◌∷◌, map}
 use mathlib.Core.Logic.{inr}
 use mathlib.Core.Path.{◌≡◌, refl, sym, ap, ◌∙◌, subst}
 use native.Mathlib.Omega.{arith}
@@ -11,7 +11,7 @@ use borrow.Author.Tests.{le-leb}
 use Rattle.rules.specs.Ids.{of, from, ids, In}
 use Rattle.rules.specs.State.{pool, Task, Body, task, nobody, is_absent}
 use Rattle.rules.specs.Setup.{word_at, Entry, Read, got, refused, Setup, setup}
-use Rattle.rules.specs.Acts.{Act, start, mark, after}
+use Rattle.rules.specs.Acts.{start, mark, after}
 use Rattle.rules.specs.Places.{awaits, tabulate}
 use Rattle.rules.specs.View.{View, act, acts}
 use Rattle.rules.specs.Kernel.{idle_task, idle, frees, starts, begins, fresh}

@@ -4,10 +4,11 @@
 
 ghost use Rattle.std.specs.Prelude.{◌≤◌, length};
 
-use libc::{STDIN_FILENO, STDOUT_FILENO};
 use memory_columns::{MESSAGE_WORDS, STATE_WORDS};
 use run_reading::HEAD;
 use run_stream::NUMBERS;
+use std::io::{Print, Read};
+use streams::{read_some, write_all};
 
 // The bytes that are read at once, and those of the lines that are written at once.
 const INPUT: usize = 65536;
@@ -17,14 +18,15 @@ const OUTPUT: usize = 65536;
 // Of what `part` says: there was no room for the rest.
 const FULL: u32 = 6;
 
-fn show(text: &[u8], n: usize)
+fn show(out: &impl Print, text: &[u8], n: usize)
     requires { n ≤ length text.now }
 {
-    io::write_all(STDOUT_FILENO, &text[..n]);
+    write_all(out, &text[..n]);
 }
 
 // A part of what was read. Gives how many bytes were taken, or none where the run was refused.
 fn play_part(
+    out: &impl Print,
     numbers: &mut [u32; NUMBERS],
     held: &mut [u8; HEAD],
     words: &mut [u32; STATE_WORDS],
@@ -35,7 +37,7 @@ fn play_part(
     ensures { result ≤ length bytes.now }
 {
     let p = run_recorder::part(numbers, held, words, messages, bytes, text);
-    show(text, p.written);
+    show(out, text, p.written);
     if p.number == 0 {
         return p.taken;
     }
@@ -47,6 +49,7 @@ fn play_part(
 
 // All of what was read, in as many parts as it takes. Is more to be read?
 fn play_read(
+    out: &impl Print,
     numbers: &mut [u32; NUMBERS],
     held: &mut [u8; HEAD],
     words: &mut [u32; STATE_WORDS],
@@ -56,7 +59,7 @@ fn play_read(
 ) -> bool {
     let mut i: usize = 0;
     while i < bytes.len() {
-        let n = play_part(numbers, held, words, messages, &bytes[i..], text);
+        let n = play_part(out, numbers, held, words, messages, &bytes[i..], text);
         if n == 0 {
             return false;
         }
@@ -67,6 +70,8 @@ fn play_read(
 
 // Reads once and plays what came. Is more to be read?
 fn play_some(
+    input: &mut impl Read,
+    out: &impl Print,
     numbers: &mut [u32; NUMBERS],
     held: &mut [u8; HEAD],
     words: &mut [u32; STATE_WORDS],
@@ -74,8 +79,7 @@ fn play_some(
     file: &mut [u8; INPUT],
     text: &mut [u8; OUTPUT],
 ) -> bool {
-    let got = libc::read(STDIN_FILENO, file);
-    let n = io::count(got, file);
+    let n = read_some(input, file);
     if n == 0 {
         return false;
     }
@@ -83,11 +87,13 @@ fn play_some(
     if INPUT < n {
         return false;
     }
-    play_read(numbers, held, words, messages, &all[..n], text)
+    play_read(out, numbers, held, words, messages, &all[..n], text)
 }
 
 // A proved loop has to end, and nothing says that an input does. So the loop counts its turns down, from a number that no run uses up.
 fn play_all(
+    input: &mut impl Read,
+    out: &impl Print,
     numbers: &mut [u32; NUMBERS],
     held: &mut [u8; HEAD],
     words: &mut [u32; STATE_WORDS],
@@ -97,7 +103,7 @@ fn play_all(
 ) {
     let mut turns = u64::MAX;
     while turns > 0 {
-        if play_some(numbers, held, words, messages, file, text) {
+        if play_some(input, out, numbers, held, words, messages, file, text) {
             turns -= 1;
         } else {
             turns = 0;
@@ -106,14 +112,20 @@ fn play_all(
 }
 
 // The line of a refusal at the end.
-fn play_end(numbers: &mut [u32; NUMBERS], held: &[u8; HEAD], text: &mut [u8; OUTPUT]) {
+fn play_end(
+    out: &impl Print,
+    numbers: &mut [u32; NUMBERS],
+    held: &[u8; HEAD],
+    text: &mut [u8; OUTPUT],
+) {
     let p = run_recorder::end(numbers, held, text);
     if p.number < FULL - 1 {
-        show(text, p.written);
+        show(out, text, p.written);
     }
 }
 
-fn main() {
+fn main(rt: HostRuntime) {
+    let out = rt.stdout();
     let mut numbers = [0u32; NUMBERS];
     let mut held = [0u8; HEAD];
     let mut words = [0u32; STATE_WORDS];
@@ -122,6 +134,8 @@ fn main() {
     let mut text = [0u8; OUTPUT];
     run_stream::begin(&mut numbers);
     play_all(
+        &mut rt.stdin(),
+        &out,
         &mut numbers,
         &mut held,
         &mut words,
@@ -129,5 +143,5 @@ fn main() {
         &mut file,
         &mut text,
     );
-    play_end(&mut numbers, &held, &mut text);
+    play_end(&out, &mut numbers, &held, &mut text);
 }

@@ -8,9 +8,13 @@ use run_month::Record;
 use run_reading::HEAD;
 use run_stream::{Completed, NUMBERS, at_end, begin};
 use run_tally::{CODES, STATES, TASKS, flat};
+use std::io::{Error, Read};
+
+// The bytes that are read at once.
+const BUFFER: usize = 65536;
 
 // What became of a file: its record, how many events ran and how many tasks its setup has; the run's refusal, fault and
-// place, or 0; and whether all of it was read.
+// place, or 0; and why not all of it was read, if it was not.
 #[derive(Clone, Copy)]
 pub struct Run {
     pub record: Record,
@@ -18,16 +22,16 @@ pub struct Run {
     pub tasks: u32,
     pub number: u32,
     pub place: usize,
-    pub is_read: bool,
+    pub failure: Option<Error>,
 }
 
-// What came of a part: its refusal, if it was that; whether there is more; whether the file could be read.
+// What came of a part: its refusal, if it was that; whether there is more; why the file could not be read, if so.
 #[derive(Clone, Copy)]
 struct Part {
     number: u32,
     place: usize,
     goes_on: bool,
-    is_read: bool,
+    failure: Option<Error>,
 }
 
 fn taken(c: Counted) -> Part {
@@ -35,23 +39,23 @@ fn taken(c: Counted) -> Part {
         number: c.number,
         place: c.place,
         goes_on: c.number == 0,
-        is_read: true,
+        failure: None,
     }
 }
 
 // The end of the file, or a failure to read it.
-fn ended(got: isize) -> Part {
+fn ended(failure: Option<Error>) -> Part {
     Part {
         number: 0,
         place: 0,
         goes_on: false,
-        is_read: got == 0,
+        failure,
     }
 }
 
 // Reads once, and counts what came.
 fn next_part(
-    fd: i32,
+    file: &mut impl Read,
     numbers: &mut [u32; NUMBERS],
     held: &mut [u8; HEAD],
     words: &mut [u32; STATE_WORDS],
@@ -59,19 +63,18 @@ fn next_part(
     table: &mut [[u32; STATES]; TASKS],
     codes: &mut [u32; CODES],
 ) -> Part {
-    let mut buf = io::large_buffer();
-    let got = libc::read(fd, &mut buf);
-    if got <= 0 {
-        return ended(got);
+    let mut buf = [0u8; BUFFER];
+    match file.read(&mut buf) {
+        Err(failure) => ended(Some(failure)),
+        Ok(0) => ended(None),
+        Ok(n) => taken(count(numbers, held, words, messages, table, codes, &buf[..n])),
     }
-    let n = io::count(got, &buf);
-    taken(count(numbers, held, words, messages, table, codes, &buf[..n]))
 }
 
 // To the end, or to a refusal. A loop has to end and nothing says that a file does: it counts its turns down, from a
 // number that no run uses up.
 fn all_parts(
-    fd: i32,
+    file: &mut impl Read,
     numbers: &mut [u32; NUMBERS],
     held: &mut [u8; HEAD],
     words: &mut [u32; STATE_WORDS],
@@ -80,9 +83,9 @@ fn all_parts(
     codes: &mut [u32; CODES],
 ) -> Part {
     let mut turns = u64::MAX;
-    let mut part = next_part(fd, numbers, held, words, messages, table, codes);
+    let mut part = next_part(file, numbers, held, words, messages, table, codes);
     while turns > 0 && part.goes_on {
-        part = next_part(fd, numbers, held, words, messages, table, codes);
+        part = next_part(file, numbers, held, words, messages, table, codes);
         turns -= 1;
     }
     part
@@ -98,7 +101,7 @@ fn at_last(part: Part, numbers: &[u32; NUMBERS], held: &[u8; HEAD]) -> Part {
             number,
             place,
             goes_on: false,
-            is_read: part.is_read,
+            failure: part.failure,
         },
         _ => part,
     }
@@ -119,7 +122,7 @@ fn events(codes: [u32; CODES]) -> u64 {
     n
 }
 
-pub fn count_file(fd: i32) -> Run {
+pub fn count_file(file: &mut impl Read) -> Run {
     let mut numbers = [0u32; NUMBERS];
     begin(&mut numbers);
     let mut held = [0u8; HEAD];
@@ -128,7 +131,7 @@ pub fn count_file(fd: i32) -> Run {
     let mut table = [[0u32; STATES]; TASKS];
     let mut codes = [0u32; CODES];
     let part = all_parts(
-        fd,
+        file,
         &mut numbers,
         &mut held,
         &mut words,
@@ -144,6 +147,6 @@ pub fn count_file(fd: i32) -> Run {
         tasks: system(&words, memory_columns::TASKS),
         number: last.number,
         place: last.place,
-        is_read: last.is_read,
+        failure: last.failure,
     }
 }

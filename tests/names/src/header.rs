@@ -16,28 +16,28 @@ const RECORDING: &str = "run_recorder/specs/Recording.antt";
 
 /// A name of the header, a file, and the left side of the clause there that has the number.
 const NUMBERS: [(&str, &str, &str); 34] = [
-    ("STATE_WORDS", LAYOUT, "stateWords"),
-    ("MESSAGES", LAYOUT, "maxMessages"),
-    ("HELD", "run_reading/specs/Recorded.antt", "headBytes"),
-    ("LINE", "run_text/specs/Lines.antt", "longestLine"),
-    ("TASKS", "run_figures/specs/Figures.antt", "mostTasks"),
+    ("STATE_WORDS", LAYOUT, "state_words"),
+    ("MESSAGES", LAYOUT, "max_messages"),
+    ("HELD", "run_reading/specs/Recorded.antt", "head_bytes"),
+    ("LINE", "run_text/specs/Lines.antt", "longest_line"),
+    ("TASKS", "run_figures/specs/Figures.antt", "most_tasks"),
     ("STATES", "run_tally/specs/Tables.antt", "states"),
     ("COUNTS", MONTHLY, "counts"),
-    ("RECORDS", MONTHLY, "mostRecords"),
+    ("RECORDS", MONTHLY, "most_records"),
     (
         "COMPARE_TEXT",
         "run_compare_text/specs/Output.antt",
-        "longestText",
+        "longest_text",
     ),
-    ("DORMANT", TASKS, "stateNumber dormant run"),
-    ("WAIT", TASKS, "stateNumber (waiting w) run"),
-    ("SUSPEND", TASKS, "stateNumber suspended run"),
+    ("DORMANT", TASKS, "state_number dormant run"),
+    ("WAIT", TASKS, "state_number (waiting w) run"),
+    ("SUSPEND", TASKS, "state_number suspended run"),
     (
         "WAIT_SUSPEND",
         TASKS,
-        "stateNumber (waiting-suspended w) run",
+        "state_number (waiting_suspended w) run",
     ),
-    ("ABSENT", TASKS, "stateNumber absent run"),
+    ("ABSENT", TASKS, "state_number absent run"),
     ("S1", SETUP, "digit S1"),
     ("S2", SETUP, "digit S2"),
     ("S3", SETUP, "digit S3"),
@@ -45,19 +45,19 @@ const NUMBERS: [(&str, &str, &str); 34] = [
     ("TAKEN", RECORDING, "taken"),
     ("CLOSED", RECORDING, "S5"),
     ("FULL", RECORDING, "full"),
-    ("RAGGED", BATCHES, "batchNumber Batch.Ragged"),
-    ("FEW_CODES", BATCHES, "batchNumber Batch.FewCodes"),
-    ("FEW_WORDS", BATCHES, "batchNumber Batch.FewWords"),
+    ("RAGGED", BATCHES, "batch_number Batch.Ragged"),
+    ("FEW_CODES", BATCHES, "batch_number Batch.FewCodes"),
+    ("FEW_WORDS", BATCHES, "batch_number Batch.FewWords"),
     ("T1", MONTHLY, "digit Many"),
     ("T2", MONTHLY, "digit Size"),
     ("T3", MONTHLY, "digit Beyond"),
-    ("GOOD_CURVE", CURVES, "judgedNumber Judged.Good"),
-    ("BAD_CURVE", CURVES, "judgedNumber (Judged.BadPoint k)"),
-    ("LIGHT_SET", LIGHTS, "newsNumber Set"),
-    ("LIGHT_WAITS", LIGHTS, "newsNumber Waits"),
-    ("LIGHT_STAYS", LIGHTS, "newsNumber Stays"),
-    ("LIGHT_NO_SLOT", LIGHTS, "newsNumber NoSlot"),
-    ("LIGHT_BAD_CURVE", LIGHTS, "newsNumber (BadCurve k)"),
+    ("GOOD_CURVE", CURVES, "judged_number Judged.Good"),
+    ("BAD_CURVE", CURVES, "judged_number (Judged.BadPoint k)"),
+    ("LIGHT_SET", LIGHTS, "news_number Set"),
+    ("LIGHT_WAITS", LIGHTS, "news_number Waits"),
+    ("LIGHT_STAYS", LIGHTS, "news_number Stays"),
+    ("LIGHT_NO_SLOT", LIGHTS, "news_number NoSlot"),
+    ("LIGHT_BAD_CURVE", LIGHTS, "news_number (BadCurve k)"),
 ];
 
 /// Each number beside its definition's.
@@ -143,7 +143,7 @@ fn codes(text: &str) -> Vec<(String, Option<i64>)> {
     named.collect()
 }
 
-/// The rows of the table, from 1: `staTsk v a` is STA_TSK.
+/// The rows of the table, from 1: `sta_tsk_row v a` is STA_TSK.
 fn calls(text: &str) -> Vec<(String, Option<i64>)> {
     let rows = text
         .lines()
@@ -153,19 +153,13 @@ fn calls(text: &str) -> Vec<(String, Option<i64>)> {
     let names = rows.filter_map(|l| l.trim().trim_start_matches('∷').split_whitespace().next());
     names
         .enumerate()
-        .map(|(i, name)| (snake(name), Some(i as i64 + 1)))
+        .map(|(i, name)| (call_of(name), Some(i as i64 + 1)))
         .collect()
 }
 
-fn snake(name: &str) -> String {
-    let parts = name.chars().flat_map(|c| {
-        if c.is_uppercase() {
-            vec!['_', c]
-        } else {
-            vec![c]
-        }
-    });
-    parts.collect::<String>().to_uppercase()
+/// The header's name of a row's call.
+fn call_of(row: &str) -> String {
+    row.strip_suffix("_row").unwrap_or(row).to_uppercase()
 }
 
 /// The number of a line of the header that defines the name.

@@ -211,6 +211,9 @@ fn collect(root: &Path, folder: &Path, files: &mut Vec<String>) {
     };
     for entry in entries.flatten() {
         let path = folder.join(entry.file_name());
+        if path.ends_with("out") {
+            continue; // what rt makes of a crate
+        }
         if entry.path().is_dir() {
             collect(root, &path, files);
         } else if let Some(name) = path.to_str() {

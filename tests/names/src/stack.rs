@@ -6,7 +6,7 @@ use std::process::Command;
 
 use crate::{problem, Problem, Report};
 
-const ARCHIVE: &str = "target/staticlib/libokrozumba.a";
+const ARCHIVE: &str = "crates/okrozumba/out/libokrozumba.a";
 const DOCUMENT: &str = "docs/BELIEVE.md";
 
 /// A call leaves its return address there.

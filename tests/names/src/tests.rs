@@ -23,7 +23,7 @@ uint32_t okrozumba_running(const uint32_t words[OKROZUMBA_STATE_WORDS],
 
 const GOOD: &str = "| Sentence | Where |
 |---|---|
-| starts | `rules/specs/Tasks.antt:sta-tsk`, `:Task`, `:fast`, `kernel_cells/src/lib.rt:running`, `okrozumba_running` |
+| starts | `rules/specs/Tasks.antt:sta_tsk`, `:Task`, `:fast`, `kernel_cells/src/lib.rt:running`, `okrozumba_running` |
 | shut out | `rules/always_task_1`, `1 sta_tsk`, `0 E_OK`, `-3414 E_RLWAI` |
 ";
 
@@ -43,7 +43,7 @@ fn problems(name: &str, trace: &str) -> Vec<String> {
     );
     write(&root, "include/okrozumba.h", HEADER);
     write(&root, "crates/rules/src/lib.rt", "// no code\n");
-    let tasks = "pub record Task : Type 0 where\n  slow fast : Task\n-- sta-gone : no\nunfoldable pub sta-tsk : Task\nsta-tsk = use-gone\n";
+    let tasks = "pub record Task : Type 0 where\n  slow fast : Task\n-- sta_gone : no\nunfoldable pub sta_tsk : Task\nsta_tsk = use_gone\n";
     write(&root, "crates/rules/specs/Tasks.antt", tasks);
     write(
         &root,
@@ -56,7 +56,7 @@ fn problems(name: &str, trace: &str) -> Vec<String> {
         "pub fn running(words: &[u32; 4]) -> u32\nfn hidden() -> u32\n",
     );
     write(&root, "docs/TRACE.md", trace);
-    write(&root, "docs/AUDIT.md", "- `rules`, `sta-tsk`\n");
+    write(&root, "docs/AUDIT.md", "- `rules`, `sta_tsk`\n");
     write(&root, "docs/BELIEVE.md", "- `rules/specs`\n");
     let report = check(&Repository::at(&root));
     fs::remove_dir_all(&root).unwrap();
@@ -70,7 +70,7 @@ fn all_is_found() {
 
 #[test]
 fn a_name_that_is_not_declared() {
-    for bad in ["sta-gone", "use-gone", "sta_tsk"] {
+    for bad in ["sta_gone", "use_gone", "sta-tsk"] {
         let told = problems(
             "undeclared",
             &format!("{GOOD}| x | `rules/specs/Tasks.antt:{bad}` |\n"),
@@ -86,7 +86,7 @@ fn a_file_a_crate_a_word_that_is_not_there() {
         "rules/specs/Task.antt:Task",
         "rule/specs/Tasks.antt:Task",
         "rules/specs/Task.antt",
-        "sta-gone",
+        "sta_gone",
         "rules::start",
     ] {
         let told = problems("gone", &format!("{GOOD}\nSee `{bad}`.\n"));
@@ -102,7 +102,7 @@ fn a_file_a_crate_a_word_that_is_not_there() {
 fn what_was_moved_is_told_with_its_place() {
     let told = problems(
         "moved",
-        &format!("{GOOD}| x | `rules/proofs/Tasks.antt:sta-tsk` |\n"),
+        &format!("{GOOD}| x | `rules/proofs/Tasks.antt:sta_tsk` |\n"),
     );
     assert!(told[0].ends_with("there is no file crates/rules/proofs/Tasks.antt; it is in crates/rules/specs/Tasks.antt"), "{told:?}");
 }
@@ -228,7 +228,7 @@ fn a_number_of_the_header_that_is_not_the_definitions() {
     write(
         &root,
         "crates/rules/specs/Table.antt",
-        "table v me a b c =\n    staTsk v a\n    ∷ extTsk v me\n    ∷ []\n",
+        "table v me a b c =\n    sta_tsk_row v a\n    ∷ ext_tsk_row v me\n    ∷ []\n",
     );
     let report = header::check(&Repository::at(&root));
     fs::remove_dir_all(&root).unwrap();

@@ -10,7 +10,7 @@ use std::fs;
 use std::io::Write;
 use std::process::{Command, Stdio};
 
-const COMPARE: &str = concat!(env!("CARGO_MANIFEST_DIR"), "/../target/bin/compare");
+const COMPARE: &str = concat!(env!("CARGO_MANIFEST_DIR"), "/../crates/compare/out/compare");
 
 /// Inputs, each beside its text.
 const SHIPPED: &str = concat!(env!("CARGO_MANIFEST_DIR"), "/../examples/compare");
@@ -27,7 +27,7 @@ const SPARE: usize = 40;
 const SENTINEL: u8 = 0xa5;
 
 fn program(input: &[u8]) -> Result<Vec<u8>, String> {
-    let said = |e: std::io::Error| format!("{COMPARE}: {e}; `rt check compare` makes it");
+    let said = |e: std::io::Error| format!("{COMPARE}: {e}; `rt run` in crates/compare makes it");
     let mut program = Command::new(COMPARE)
         .stdin(Stdio::piped())
         .stdout(Stdio::piped())

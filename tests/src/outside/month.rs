@@ -8,8 +8,8 @@ use std::fs::{self, File};
 use std::path::PathBuf;
 use std::process::{Command, Output};
 
-const FIGURES: &str = concat!(env!("CARGO_MANIFEST_DIR"), "/../target/bin/figures");
-const MONTH: &str = concat!(env!("CARGO_MANIFEST_DIR"), "/../target/bin/month");
+const FIGURES: &str = concat!(env!("CARGO_MANIFEST_DIR"), "/../crates/figures/out/figures");
+const MONTH: &str = concat!(env!("CARGO_MANIFEST_DIR"), "/../crates/month/out/month");
 const FOLDER: &str = concat!(env!("CARGO_MANIFEST_DIR"), "/../target/outside/month");
 
 const RUNS: usize = 64;
@@ -17,7 +17,7 @@ const EVENTS_MOST: u32 = 1500;
 const EVENT: usize = 20;
 
 fn said(e: std::io::Error) -> String {
-    format!("{e}; `rt check figures month` makes the programs")
+    format!("{e}; `rt run` in crates/figures and in crates/month makes the programs")
 }
 
 fn month(files: &[PathBuf]) -> Result<Output, String> {

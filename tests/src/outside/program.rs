@@ -5,7 +5,7 @@ use std::sync::mpsc;
 use std::thread;
 use std::time::Duration;
 
-const PLAY: &str = concat!(env!("CARGO_MANIFEST_DIR"), "/../target/bin/play");
+const PLAY: &str = concat!(env!("CARGO_MANIFEST_DIR"), "/../crates/play/out/play");
 /// A line that isn't there by then never comes.
 const PATIENCE: Duration = Duration::from_secs(20);
 
@@ -18,7 +18,7 @@ fn begun() -> Result<(Child, ChildStdin), String> {
         .stdin(Stdio::piped())
         .stdout(Stdio::piped())
         .spawn()
-        .map_err(|e| format!("{PLAY}: {e}; `rt check play` makes it"))?;
+        .map_err(|e| format!("{PLAY}: {e}; `rt run` in crates/play makes it"))?;
     let input = program.stdin.take().expect("it was asked for");
     Ok((program, input))
 }

@@ -1,5 +1,4 @@
 use Rattle.kernel_fresh.proofs.Steps.{empty_steps}
-use borrow.Author.Rules.{rules}
 use Rattle.kernel_fresh.proofs.empty_all.Goals as goal
 
 pub returns : goal.returns

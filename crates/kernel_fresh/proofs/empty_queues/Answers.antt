@@ -1,10 +1,6 @@
 -- Invariant: what is left, from here, is the whole from the start.
-use Prim.Native.Nat.{◌+◌}
-use mathlib.Core.Path.{◌≡◌, refl, ◌∙◌}
+use mathlib.Core.Path.{refl, ◌∙◌}
 use native.Mathlib.Omega.{arith}
-use borrow.Author.Rules.{rules}
-use Rattle.memory_queues.specs.Moves.{emptied as emptiedAt}
-use Rattle.kernel_fresh.specs.Laying.{in_turn}
 use Rattle.kernel_fresh.proofs.Steps.{turn_none, turn_step}
 use Rattle.kernel_fresh.proofs.empty_queues.Goals as goal
 

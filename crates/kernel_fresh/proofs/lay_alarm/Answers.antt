@@ -1,5 +1,4 @@
 use mathlib.Core.Path.{◌∙◌}
-use borrow.Author.Rules.{rules}
 use Rattle.kernel_fresh.specs.Laying.{laid_alarm}
 use Rattle.kernel_fresh.proofs.lay_alarm.Goals as goal
 

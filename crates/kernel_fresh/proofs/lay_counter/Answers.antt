@@ -1,4 +1,3 @@
-use borrow.Author.Rules.{rules}
 use borrow.Author.Tests.{eq-eqb, ne_eqb}
 use Rattle.kernel_fresh.specs.Laying.{laid_counter}
 use Rattle.kernel_fresh.proofs.lay_counter.Goals as goal

@@ -1,5 +1,4 @@
 use Rattle.kernel_fresh.proofs.Steps.{entry_steps}
-use borrow.Author.Rules.{rules}
 use Rattle.kernel_fresh.proofs.lay_entries.Goals as goal
 
 pub returns : goal.returns

@@ -1,5 +1,4 @@
 -- `kernel_fresh::lay_entry` meets its contract. By the section. Assumes nothing.
-use borrow.Author.Rules.{rules}
 use Rattle.kernel_fresh.specs.Laying.{laid_semaphore, laid_flag, laid_pool}
 use Rattle.kernel_fresh.proofs.lay_entry.Goals as goal
 

@@ -1,5 +1,4 @@
 use Rattle.kernel_fresh.proofs.Steps.{plan_small, laid_steps}
-use borrow.Author.Rules.{rules}
 use Rattle.kernel_fresh.proofs.lay_plan.Goals as goal
 
 pub lay_entries-requires : goal.lay_entries-requires

@@ -1,9 +1,6 @@
 -- Invariant: what is left, from here, is the whole from the start.
-use Prim.Native.Nat.{◌+◌, ◌≤◌}
-use mathlib.Core.Path.{◌≡◌, refl, ◌∙◌}
+use mathlib.Core.Path.{refl, ◌∙◌}
 use native.Mathlib.Omega.{arith}
-use borrow.Author.Rules.{rules}
-use Rattle.kernel_fresh.specs.Laying.{in_turn, laid_entry}
 use Rattle.kernel_fresh.proofs.Steps.{turn_none, turn_step}
 use Rattle.kernel_fresh.proofs.lay_section.Goals as goal
 

@@ -1,9 +1,6 @@
 use Prim.Native.Nat.{◌+◌, ◌≤◌}
-use mathlib.Core.Path.{◌≡◌, refl, ◌∙◌}
-use native.Mathlib.Omega.{arith}
-use borrow.Author.Rules.{rules}
+use mathlib.Core.Path.{◌≡◌}
 use Rattle.kernel_fresh.specs.Laying.{in_turn, laid_entry}
-use Rattle.kernel_fresh.proofs.Steps.{turn_none, turn_step}
 use Rattle.kernel_fresh.proofs.lay_section.Given as goal
 
 abbrev pub invariant-loop-left : goal.invariant-loop-left

@@ -1,6 +1,5 @@
 use mathlib.Core.Path.{◌∙◌}
 use Rattle.kernel_fresh.specs.Laying.{laid_task}
-use borrow.Author.Rules.{rules}
 use Rattle.kernel_fresh.proofs.lay_task.Goals as goal
 
 pub returns : goal.returns

@@ -1,7 +1,6 @@
 use Prim.Native.Nat.{◌+◌}
 use native.Mathlib.Omega.{arith}
 use Rattle.kernel_fresh.proofs.Steps.{word_past}
-use borrow.Author.Rules.{rules}
 use Rattle.kernel_fresh.proofs.word_at.Goals as goal
 
 pub returns-then-end-at : goal.returns-then-end-at

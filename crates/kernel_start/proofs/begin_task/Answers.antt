@@ -1,5 +1,4 @@
 use Rattle.kernel_start.proofs.Steps.{begin_yes, begin_no}
-use borrow.Author.Rules.{rules}
 use Rattle.kernel_start.proofs.begin_task.Goals as goal
 
 pub returns-then-word_at-eq1 : goal.returns-then-word_at-eq1

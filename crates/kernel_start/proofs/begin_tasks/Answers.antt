@@ -1,10 +1,6 @@
 -- Invariant: what is left, from here, is the whole from the start.
-use Prim.Native.Nat.{◌+◌, ◌≤◌}
-use mathlib.Core.Path.{◌≡◌, refl, ◌∙◌}
+use mathlib.Core.Path.{refl, ◌∙◌}
 use native.Mathlib.Omega.{arith}
-use borrow.Author.Rules.{rules}
-use Rattle.kernel_fresh.specs.Laying.{in_turn}
-use Rattle.kernel_start.specs.Starting.{begun}
 use Rattle.kernel_fresh.proofs.Steps.{turn_none, turn_step}
 use Rattle.kernel_start.proofs.begin_tasks.Goals as goal
 

@@ -1,10 +1,7 @@
 use Prim.Native.Nat.{◌+◌, ◌≤◌}
-use mathlib.Core.Path.{◌≡◌, refl, ◌∙◌}
-use native.Mathlib.Omega.{arith}
-use borrow.Author.Rules.{rules}
+use mathlib.Core.Path.{◌≡◌}
 use Rattle.kernel_fresh.specs.Laying.{in_turn}
 use Rattle.kernel_start.specs.Starting.{begun}
-use Rattle.kernel_fresh.proofs.Steps.{turn_none, turn_step}
 use Rattle.kernel_start.proofs.begin_tasks.Given as goal
 
 abbrev pub invariant-loop-left : goal.invariant-loop-left

@@ -1,6 +1,5 @@
 -- `kernel_start::free_pool` meets its contract. The blocks that the entry says. Assumes nothing.
 use Rattle.kernel_start.proofs.Steps.{free_steps}
-use borrow.Author.Rules.{rules}
 use Rattle.kernel_start.proofs.free_pool.Goals as goal
 
 pub returns : goal.returns

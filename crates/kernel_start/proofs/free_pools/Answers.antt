@@ -1,11 +1,7 @@
 -- Invariant: what is left, from here, is the whole from the start.
-use Prim.Native.Nat.{◌+◌, ◌≤◌}
-use mathlib.Core.Path.{◌≡◌, refl, ◌∙◌}
+use mathlib.Core.Path.{refl, ◌∙◌}
 use native.Mathlib.Omega.{arith}
-use Rattle.kernel_fresh.specs.Laying.{in_turn}
 use Rattle.kernel_fresh.proofs.Steps.{turn_none, turn_step}
-use Rattle.kernel_start.specs.Starting.{freed_pool}
-use borrow.Author.Rules.{rules}
 use Rattle.kernel_start.proofs.free_pools.Goals as goal
 
 pub loop-left-init : goal.loop-left-init

@@ -1,6 +1,5 @@
 use mathlib.Core.Path.{refl}
 use Rattle.kernel_start.proofs.Steps.{tasks_small, pools_small, fresh_steps}
-use borrow.Author.Rules.{rules}
 use Rattle.kernel_start.proofs.lay_fresh.Goals as goal
 
 pub free_pools-requires : goal.free_pools-requires

@@ -1,5 +1,4 @@
 use Rattle.kernel_start.proofs.Fresh.{start_refused, start_fresh}
-use borrow.Author.Rules.{rules}
 use Rattle.kernel_start.proofs.start.Goals as goal
 
 pub returns-in-Bad : goal.returns-in-Bad
