@@ -1,6 +1,6 @@
 /* Okrozumba, a small uITRON kernel: its functions for C and C++.
 
-   `rt lib` in crates/okrozumba proves the kernel and writes out/libokrozumba.a there, which defines them for x86-64 Linux. The archive
+   `rt lib --cpu x86-64` in crates/okrozumba proves the kernel and writes out/libokrozumba.a there, which defines them for x86-64 Linux. The archive
    asks of the C library no more than memset and memcpy and keeps nothing between calls: all there is of a kernel is the okrozumba_state
    that the caller owns. Each function has a section of its own, so that a linker can leave out those that nobody calls. okrozumba_calls.h has
    the calls by name, over that state.

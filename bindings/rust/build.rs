@@ -1,4 +1,4 @@
-//! Finds the archive: in the folder that OKROZUMBA_ARCHIVE names, else where `rt lib` in crates/okrozumba of this repository writes it.
+//! Finds the archive: in the folder that OKROZUMBA_ARCHIVE names, else where `rt lib --cpu x86-64` in crates/okrozumba of this repository writes it.
 use std::env;
 use std::path::{Path, PathBuf};
 
@@ -17,7 +17,7 @@ fn main() {
     println!("cargo:rerun-if-env-changed=OKROZUMBA_ARCHIVE");
     println!("cargo:rerun-if-changed={}", archive.display());
     if !archive.exists() {
-        panic!("{} is missing: run `rt lib` in crates/okrozumba, or set OKROZUMBA_ARCHIVE", archive.display());
+        panic!("{} is missing: run `rt lib --cpu x86-64` in crates/okrozumba, or set OKROZUMBA_ARCHIVE", archive.display());
     }
     println!("cargo:rustc-link-search=native={}", folder().display());
     println!("cargo:rustc-link-lib=static=okrozumba");

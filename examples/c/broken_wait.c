@@ -1,6 +1,6 @@
 /* A wait that is broken off, and what the kernel says of it. From the repository's root:
 
-       (cd crates/okrozumba && rt lib); mkdir -p target
+       (cd crates/okrozumba && rt lib --cpu x86-64) && mkdir -p target
        cc -std=c11 -Wall -Wextra -Iinclude examples/c/broken_wait.c crates/okrozumba/out/libokrozumba.a -o target/broken_wait
        target/broken_wait
 

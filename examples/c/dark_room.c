@@ -1,7 +1,7 @@
 /* A dark room: a light sensor's readings arrive as messages, a cloth covers the sensor, the wait for the next reading is broken off, and the
    display keeps its level. From the repository's root:
 
-       (cd crates/okrozumba && rt lib); mkdir -p target
+       (cd crates/okrozumba && rt lib --cpu x86-64) && mkdir -p target
        cc -std=c11 -Wall -Wextra -Iinclude examples/c/dark_room.c crates/okrozumba/out/libokrozumba.a -o target/dark_room
        target/dark_room
 

@@ -1,6 +1,6 @@
 /* The figures of two recorded runs, each counted in parts of seven bytes, and the month of both. From the repository's root:
 
-       (cd crates/okrozumba && rt lib); mkdir -p target
+       (cd crates/okrozumba && rt lib --cpu x86-64) && mkdir -p target
        cc -std=c11 -Wall -Wextra -Iinclude examples/c/figures.c crates/okrozumba/out/libokrozumba.a -o target/figures_example
        target/figures_example
 

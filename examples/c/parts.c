@@ -1,6 +1,6 @@
 /* A recorded run that comes in parts of seven bytes, each of its lines printed as soon as it is there. From the repository's root:
 
-       (cd crates/okrozumba && rt lib); mkdir -p target
+       (cd crates/okrozumba && rt lib --cpu x86-64) && mkdir -p target
        cc -std=c11 -Wall -Wextra -Iinclude examples/c/parts.c crates/okrozumba/out/libokrozumba.a -o target/parts
        target/parts
 

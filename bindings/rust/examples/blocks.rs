@@ -1,6 +1,6 @@
 //! Blocks of a pool, taken and returned, and what came of it. From the repository's root:
 //!
-//!     (cd crates/okrozumba && rt lib)
+//!     (cd crates/okrozumba && rt lib --cpu x86-64)
 //!     cargo run --offline --manifest-path bindings/rust/Cargo.toml --example blocks
 //!
 //! It prints:

@@ -1,6 +1,6 @@
 //! A recorded run that comes in parts: its lines go to standard output as they come. From the repository's root:
 //!
-//!     (cd crates/okrozumba && rt lib)
+//!     (cd crates/okrozumba && rt lib --cpu x86-64)
 //!     cargo run --offline --manifest-path bindings/rust/Cargo.toml --example parts
 //!
 //! It prints:

@@ -13,9 +13,9 @@
 //!
 //! # The archive
 //!
-//! `rt lib`, in the repository's folder `crates/okrozumba`, proves the kernel and writes `out/libokrozumba.a` there, for x86-64 Linux; the
-//! build script links that. Set `OKROZUMBA_ARCHIVE` to another folder with a `libokrozumba.a` to link that one. The archive needs no more of
-//! the C library than `memset` and `memcpy`.
+//! `rt lib --cpu x86-64`, in the repository's folder `crates/okrozumba`, proves the kernel and writes `out/libokrozumba.a` there, for x86-64
+//! Linux; the build script links that. Set `OKROZUMBA_ARCHIVE` to another folder with a `libokrozumba.a` to link that one. The archive needs
+//! no more of the C library than `memset` and `memcpy`.
 //!
 //! # Example
 //!

@@ -14,7 +14,7 @@ use Rattle.rules.specs.Events.{Event, tick, enter, exit, call}
 use Rattle.rules.specs.View.{View}
 use Rattle.rules.specs.Answers.{answer}
 use Rattle.rules.specs.Broken.{broken, BreaksOff}
-use Rattle.rules.specs.Kernel.{Outcome, next, served, event, cell}
+use Rattle.rules.specs.Kernel.{Outcome, served, event, cell}
 use Rattle.rules.proofs.Broken.{stays_broken, broken_read}
 use Rattle.rules.specs.Table.{judge}
 use Rattle.rules.proofs.Events.{cell_reads, event_served, event_next}

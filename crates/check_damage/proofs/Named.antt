@@ -19,7 +19,7 @@ use Rattle.rules.specs.Breach.{Breach, breach_at, Ranged, ranged?, Stands, InPla
 use Rattle.rules.proofs.Ids.{length_ids}
 use Rattle.rules.proofs.Lines.{shape_tabulate}
 use Rattle.rules.proofs.Breach.{breach_number}
-use Rattle.memory_rings.specs.Links.{first_of as headNode}
+use Rattle.memory_rings.specs.Links.{first_of as head_node}
 use Rattle.memory_rings.specs.Rings.{walk, line_of}
 use Rattle.memory_columns.specs.declared.Rings.{Rings}
 use Rattle.memory_columns.specs.declared.Rings.TheVariants.{Tasks, Messages, Blocks}
@@ -67,8 +67,8 @@ pool_long n m = go (eqb (m / 2 ^ n) 0)
     go false h = absurd (omega (arith, h.0))
 
 -- the line of an anchor is empty just where no node is its first
-first_law : (n : ℕ) (nx : List ℕ) (a : ℕ) → Known n (line_of n nx a) → Decides (eqb (headNode nx a) 0) (some? (line_of n nx a) ≡ false)
-unfolding line_of walk headNode
+first_law : (n : ℕ) (nx : List ℕ) (a : ℕ) → Known n (line_of n nx a) → Decides (eqb (head_node nx a) 0) (some? (line_of n nx a) ≡ false)
+unfolding line_of walk head_node
 first_law n nx a = go (eqb (get_or nx a 0) a) refl
   where
     go : (t : Bool) → eqb (get_or nx a 0) a ≡ t
@@ -242,7 +242,7 @@ module _ (b msgs : List ℕ) (size : length b ≡ state_words) (R : Ranges b msg
   -- ---- a waiter
 
   module _ (K : (q : Place) → Exists u q → Known (many (body_shown b msgs) q) (line v q)) where
-    mailbox_law : (o : ℕ) → In o (Counts.many b Layout.mailboxes) → Decides (eqb (headNode (words Layout.mail_next b) (mail_anchor o)) 0) (some? (line v (mail o)) ≡ false)
+    mailbox_law : (o : ℕ) → In o (Counts.many b Layout.mailboxes) → Decides (eqb (head_node (words Layout.mail_next b) (mail_anchor o)) 0) (some? (line v (mail o)) ≡ false)
     mailbox_law o h = rw (at, line_is b msgs (mail o) r, is_line) (first_law (messages_shown b) (words Layout.mail_next b) (anchor (mail o)) k)
       where
         r : Exists u (mail o)

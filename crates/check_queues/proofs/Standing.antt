@@ -12,7 +12,7 @@ use lib.ListN.{length}
 use borrow.Author.Tests.{eqb-true, eq-eqb, ne_eqb, le-leb}
 use Rattle.rules.specs.Ids.{of, In}
 use Rattle.rules.specs.State.{Kind, semaphore, flag, mailbox, pool, Wait, on, Store, Body, task, nobody, objects, wait_of, is_absent}
-use Rattle.rules.specs.Places.{Place, ready_at, waiters, mail, free_in, many as manyAt, lies, belongs, Exists, population}
+use Rattle.rules.specs.Places.{Place, ready_at, waiters, mail, free_in, many as many_at, lies, belongs, Exists, population}
 use Rattle.rules.specs.Sound.{LiesWell, WaitNumbers, SoundTask, Queue}
 use Rattle.rules.proofs.Ids.{of_ids, length_ids, inside}
 use Rattle.memory_rings.specs.Links.{half}
@@ -433,10 +433,10 @@ module _ (b msgs : List ℕ) (size : length b ≡ state_words) (R : Ranges b msg
 
   -- ---- the lines shown
 
-  counted : (q : Place) (n : ℕ) (l : List ℕ) → manyAt (body_shown b msgs) q ≡ n → Keeps n (belongs (body_shown b msgs) q) l → Queue (body_shown b msgs) q l
-  counted q n l e k = let k' : Keeps (manyAt (body_shown b msgs) q) (belongs (body_shown b msgs) q) l = subst (λ (x : ℕ). Keeps x (belongs (body_shown b msgs) q) l) (sym e) k in record { known = k'.0; stands = k'.1 }
+  counted : (q : Place) (n : ℕ) (l : List ℕ) → many_at (body_shown b msgs) q ≡ n → Keeps n (belongs (body_shown b msgs) q) l → Queue (body_shown b msgs) q l
+  counted q n l e k = let k' : Keeps (many_at (body_shown b msgs) q) (belongs (body_shown b msgs) q) l = subst (λ (x : ℕ). Keeps x (belongs (body_shown b msgs) q) l) (sym e) k in record { known = k'.0; stands = k'.1 }
 
-  recounted : (q : Place) (n : ℕ) (l : List ℕ) → manyAt (body_shown b msgs) q ≡ n → Queue (body_shown b msgs) q l → Keeps n (belongs (body_shown b msgs) q) l
+  recounted : (q : Place) (n : ℕ) (l : List ℕ) → many_at (body_shown b msgs) q ≡ n → Queue (body_shown b msgs) q l → Keeps n (belongs (body_shown b msgs) q) l
   recounted q n l e k = subst (λ (x : ℕ). Keeps x (belongs (body_shown b msgs) q) l) e (k.known, k.stands)
 
   many_tasks : length (body_shown b msgs).tasks ≡ tasks_shown b

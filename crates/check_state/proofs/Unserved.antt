@@ -12,7 +12,7 @@ use lib.ListN.{length}
 use borrow.Author.Tests.{eqb-true, eqb-false, eq-eqb, le-leb}
 use Rattle.rules.specs.Ids.{of, In, once, times}
 use Rattle.rules.specs.State.{Kind, semaphore, flag, mailbox, pool, Wait, asleep, timed, on, Store, wait_of}
-use Rattle.rules.specs.Places.{Place, mail, many as manyAt, lies, belongs, population}
+use Rattle.rules.specs.Places.{Place, mail, many as many_at, lies, belongs, population}
 use Rattle.rules.specs.Objects.{met, free}
 use Rattle.rules.specs.Sound.{WaitNumbers, any_lies, would_serve, Unserved, Queue}
 use Rattle.rules.proofs.Ids.{of_ids, length_ids}
@@ -149,7 +149,7 @@ module _ (b msgs : List ℕ) (size : length b ≡ state_words) (R : Ranges b msg
       first : first_of (words Layout.mail_next b) (mail_anchor o) ≡ head_of line 0
       first = ap (first_of (words Layout.mail_next b)) at ∙ first_law M (anchor (mail o)) (used_at (mail o) h)
 
-      held : Keeps (manyAt (body_shown b msgs) (mail o)) (belongs (body_shown b msgs) (mail o)) line
+      held : Keeps (many_at (body_shown b msgs) (mail o)) (belongs (body_shown b msgs) (mail o)) line
       held = let k = K (mail o) (h, refl) in (k.known, k.stands)
 
       empty : (head_of line 0 ≡ 0) ↔ ((j : ℕ) → In j (messages_shown b) → belongs (body_shown b msgs) (mail o) j ≡ false)

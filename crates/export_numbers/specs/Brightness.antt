@@ -1,9 +1,7 @@
 -- The answers of the brightness functions in numbers, as the exported functions give them.
 use Rattle.std.specs.Prelude.{◌≡◌, ℕ}
 use Rattle.brightness_curve.specs.declared.Judged.{Judged}
-use Rattle.brightness_curve.specs.declared.Judged.TheVariants as Judged
 use Rattle.brightness_curve.specs.declared.Leveled.{Leveled}
-use Rattle.brightness_curve.specs.declared.Leveled.TheVariants as Leveled
 use Rattle.brightness_light.specs.declared.Shown.{Shown}
 use Rattle.brightness_light.specs.Lights.{news_number, news_point}
 use Rattle.export_numbers.specs.declared.Display.{Display}

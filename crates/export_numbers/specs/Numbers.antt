@@ -1,7 +1,6 @@
 -- The answers of `start` and `compare` in numbers, as the exported functions give them.
 use Rattle.std.specs.Prelude.{ℕ}
 use Rattle.kernel_start.specs.declared.Started.{Started}
-use Rattle.kernel_start.specs.declared.Started.TheVariants as Started
 use Rattle.run_compare_text.specs.declared.Told.{Told}
 use Rattle.run_compare_text.specs.declared.Told.TheVariants.{Written, Short}
 

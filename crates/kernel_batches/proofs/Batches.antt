@@ -16,7 +16,6 @@ use Rattle.kernel_steps.specs.Written.{Lent, lent, RanThrough, Room}
 use Rattle.kernel_batches.specs.declared.Batch.{Batch}
 use Rattle.kernel_batches.specs.declared.Batch.TheVariants.{Done, Ragged, FewCodes, FewWords}
 use Rattle.kernel_batches.specs.declared.Ran.{Ran}
-use Rattle.kernel_batches.specs.declared.Ran.TheVariants as Ran
 use Rattle.kernel_batches.specs.declared.Ran.TheVariants.{Unfit}
 use Rattle.kernel_batches.specs.Batches.{fit_of, fitted, BatchedAs, Batched, RunsAs, RunsFrom}
 

@@ -5,9 +5,7 @@ use Rattle.memory_picture.specs.Picture.{Memory}
 use Rattle.kernel_start.specs.declared.Started.TheVariants.{Fresh}
 use Rattle.kernel_start.specs.Starting.{Starts}
 use Rattle.kernel_batches.specs.declared.Batch.{Batch}
-use Rattle.kernel_batches.specs.declared.Batch.TheVariants as Batch
 use Rattle.kernel_batches.specs.declared.Ran.{Ran}
-use Rattle.kernel_batches.specs.declared.Ran.TheVariants as Ran
 pub use Rattle.kernel_steps.specs.Written.{Lent, lent, codes_of, words_of, RanThrough}
 unfoldable pub use Rattle.kernel_steps.specs.Written.{over}
 

@@ -15,7 +15,7 @@ use Rattle.rules.specs.State.{Body, task}
 use Rattle.rules.specs.Setup.{got, setup, Setup}
 use Rattle.rules.specs.Events.{Event, call, nat, AllWords}
 use Rattle.rules.specs.View.{View, running}
-use Rattle.rules.specs.Kernel.{Outcome, next, served, event}
+use Rattle.rules.specs.Kernel.{Outcome, served, event}
 use Rattle.rules.specs.Plain.{Plain, view_of, plain_fresh, plain_next, plain_answer}
 use Rattle.rules.specs.Blocks.{is_free, Happened, granted, gave_back, AllAccounted}
 use Rattle.rules_runs.specs.Wear.{happening, history, WornEvenly}

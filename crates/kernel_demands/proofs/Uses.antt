@@ -12,9 +12,7 @@ use Rattle.kernel_start.specs.declared.Started.{Started}
 use Rattle.kernel_start.specs.declared.Started.TheVariants.{Fresh, Refused}
 use Rattle.kernel_steps.specs.Steps.{Link, Chain, last_memory}
 use Rattle.kernel_batches.specs.declared.Batch.{Batch}
-use Rattle.kernel_batches.specs.declared.Batch.TheVariants as Batch
 use Rattle.kernel_batches.specs.declared.Ran.{Ran}
-use Rattle.kernel_batches.specs.declared.Ran.TheVariants as Ran
 use Rattle.kernel_batches.specs.Batches.{Lent, lent, fitted, BatchedAs, Batched, RunsAs, RunsFrom}
 use Rattle.kernel_demands.specs.Uses.{Kept, Demanded, RunDemanded, Turn, one, many, Mix, batch_links, mix_links, MixDemanded}
 use Rattle.kernel_demands.proofs.Chains.{start_holds}

@@ -9,7 +9,6 @@ use Rattle.kernel_start.specs.Starting.{Starts}
 use Rattle.kernel_start.specs.declared.Started.TheVariants.{Fresh}
 use Rattle.kernel_steps.specs.Steps.{Reply, Step, Link}
 use Rattle.kernel_batches.specs.declared.Batch.{Batch}
-use Rattle.kernel_batches.specs.declared.Batch.TheVariants as Batch
 use Rattle.kernel_batches.specs.Batches.{Lent, lent, RanThrough, fitted, BatchedAs, Batched}
 use Rattle.kernel_demands.specs.Demands.{Demand3OnCode, BrokenOnCode, OnlyRelWaiOnCode, BlocksOnce, WornEvenlyOnCode, InterruptedOnCode}
 use Rattle.kernel_demands.specs.Turns.{InTurnOnCode}

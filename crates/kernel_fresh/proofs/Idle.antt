@@ -18,7 +18,7 @@ use Rattle.memory_columns.specs.declared.Rings.TheVariants.{Tasks, Messages, Blo
 use Rattle.memory_columns.specs.Layout as Layout
 use Rattle.memory_columns.specs.Layout.{Column, max_alarms, at_most, ready_node, mail_node, free_node, next_of, prev_of, links_of, fits, clear, words, entry, Only}
 use Rattle.memory_columns.proofs.Frame.{Sized, words_length, put_only, only_none, only_both, only_on}
-use Rattle.memory_queues.specs.Moves.{emptied as emptiedAt}
+use Rattle.memory_queues.specs.Moves.{emptied as emptied_at}
 use Rattle.memory_queues.proofs.Relinks.{emptied_law}
 use Rattle.kernel_fresh.specs.Laying.{in_turn, counted, word_of_id, laid_task, laid_semaphore, laid_flag, laid_pool, laid_alarm, laid_counter, entered, anchors_of, emptied_queues, emptied}
 use Rattle.kernel_fresh.proofs.Turns.{Within, turn_size, turn_only, turn_length, turn_below, turn_right, turn_at_lem, queues_within}
@@ -276,7 +276,7 @@ queues_only [] b h = only_none (links_of Tasks ∷ []) b
 queues_only ((a, n) ∷ l) b h = only_on (turn_only (queues_within Tasks) n a b h) (queues_only l _ (turn_size (queues_within Tasks) n a b h))
 
 -- of the next nodes, or of the previous ones
-module _ (R : List ℕ → List ℕ) (w : (a : ℕ) (b : List ℕ) → Sized b → R (emptiedAt Tasks a b) ≡ set (R b) a a) (j : ℕ) where
+module _ (R : List ℕ → List ℕ) (w : (a : ℕ) (b : List ℕ) → Sized b → R (emptied_at Tasks a b) ≡ set (R b) a a) (j : ℕ) where
   queues_before : (l : List (ℕ × ℕ)) (b : List ℕ) → Sized b → Before j l → get_or (R (emptied_queues l b)) j 0 ≡ get_or (R b) j 0
   unfolding emptied_queues
   queues_before [] b h k = refl
@@ -312,7 +312,7 @@ module _ (p : Plan) (b : List ℕ) (h : Sized b) where
   queues = emptied_queues (anchors_of p) b
 
   abbrev mailed : List ℕ
-  mailed = in_turn (emptiedAt Messages) p.mailboxes (mail_node 1) queues
+  mailed = in_turn (emptied_at Messages) p.mailboxes (mail_node 1) queues
 
   queued_size : Sized queues
   queued_size = queues_size (anchors_of p) b h
@@ -336,7 +336,7 @@ module _ (p : Plan) (b : List ℕ) (h : Sized b) where
 
   module _ (j : ℕ) where
     -- of one direction of the rings of a sort
-    link : (r : Rings) (d : Column) → (d ≡ next_of r) ⊎ (d ≡ prev_of r) → ((a : ℕ) (c : List ℕ) → Sized c → words d (emptiedAt r a c) ≡ set (words d c) a a) → fits d ≡ true → j < d.width → InUse p r j → entry d (emptied p b) j ≡ j
+    link : (r : Rings) (d : Column) → (d ≡ next_of r) ⊎ (d ≡ prev_of r) → ((a : ℕ) (c : List ℕ) → Sized c → words d (emptied_at r a c) ≡ set (words d c) a a) → fits d ≡ true → j < d.width → InUse p r j → entry d (emptied p b) j ≡ j
     unfolding emptied
     link Tasks d e w k r m = ap (λ (l : List ℕ). get_or l j 0) (after_mails.kept d (clear_of e)) ∙ queues_among (words d) w j (anchors_of p) b h (rw (words_length d b h k) r) m
       where

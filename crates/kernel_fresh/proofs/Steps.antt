@@ -12,7 +12,7 @@ use Rattle.setup_plan.proofs.Plans.{plan_fits}
 use Rattle.memory_columns.specs.declared.Rings.TheVariants.{Tasks, Messages, Blocks}
 use Rattle.memory_columns.specs.Layout as Layout
 use Rattle.memory_columns.specs.Layout.{system, state_words, ready_node, wait_node, mail_node, free_node, put}
-use Rattle.memory_queues.specs.Moves.{emptied as emptiedAt}
+use Rattle.memory_queues.specs.Moves.{emptied as emptied_at}
 use Rattle.kernel_fresh.specs.Laying.{in_turn, counted, laid_task, laid_semaphore, laid_flag, laid_pool, laid_counter, entered, emptied_queues, emptied, laid}
 
 -- ---- loops over ids
@@ -52,10 +52,10 @@ pub entry_steps : (s : List ℕ) (p : Plan) (b : List ℕ) {b₁ b₂ b₃ b₄ 
 unfolding entered
 entry_steps s p b e₁ e₂ e₃ e₄ e₅ = e₅ ∙ rw (e₄, e₃, e₂, e₁)
 
-pub empty_steps : (p : Plan) (b : List ℕ) {b₁ b₂ b₃ b₄ b₅ b₆ b₇ : List ℕ} → b₁ ≡ in_turn (emptiedAt Tasks) p.priorities (ready_node 1) b
-    → b₂ ≡ in_turn (emptiedAt Tasks) p.semaphores (wait_node Layout.semaphores 1) b₁ → b₃ ≡ in_turn (emptiedAt Tasks) p.flags (wait_node Layout.flags 1) b₂
-    → b₄ ≡ in_turn (emptiedAt Tasks) p.mailboxes (wait_node Layout.mailboxes 1) b₃ → b₅ ≡ in_turn (emptiedAt Tasks) p.pools (wait_node Layout.pools 1) b₄
-    → b₆ ≡ in_turn (emptiedAt Messages) p.mailboxes (mail_node 1) b₅ → b₇ ≡ in_turn (emptiedAt Blocks) p.pools (free_node 1) b₆ → b₇ ≡ emptied p b
+pub empty_steps : (p : Plan) (b : List ℕ) {b₁ b₂ b₃ b₄ b₅ b₆ b₇ : List ℕ} → b₁ ≡ in_turn (emptied_at Tasks) p.priorities (ready_node 1) b
+    → b₂ ≡ in_turn (emptied_at Tasks) p.semaphores (wait_node Layout.semaphores 1) b₁ → b₃ ≡ in_turn (emptied_at Tasks) p.flags (wait_node Layout.flags 1) b₂
+    → b₄ ≡ in_turn (emptied_at Tasks) p.mailboxes (wait_node Layout.mailboxes 1) b₃ → b₅ ≡ in_turn (emptied_at Tasks) p.pools (wait_node Layout.pools 1) b₄
+    → b₆ ≡ in_turn (emptied_at Messages) p.mailboxes (mail_node 1) b₅ → b₇ ≡ in_turn (emptied_at Blocks) p.pools (free_node 1) b₆ → b₇ ≡ emptied p b
 unfolding emptied emptied_queues
 empty_steps p b e₁ e₂ e₃ e₄ e₅ e₆ e₇ = e₇ ∙ rw (e₆, e₅, e₄, e₃, e₂, e₁)
 

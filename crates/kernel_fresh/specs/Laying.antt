@@ -5,7 +5,7 @@ use Rattle.setup_plan.specs.declared.Plan.{Plan}
 use Rattle.memory_columns.specs.declared.Rings.TheVariants as Rings
 use Rattle.memory_columns.specs.Layout as Layout
 use Rattle.memory_columns.specs.Layout.{state_words, max_alarms, at_most, ready_node, wait_node, mail_node, free_node, put}
-use Rattle.memory_queues.specs.Moves.{emptied as emptiedAt}
+use Rattle.memory_queues.specs.Moves.{emptied as emptied_at}
 use Rattle.kernel_fresh.specs.declared.Section.{Section}
 use Rattle.kernel_fresh.specs.declared.Section.TheVariants.{Tasks, Semaphores, Flags, Pools, Alarms}
 
@@ -70,11 +70,11 @@ anchors_of p =
 
 unfoldable pub emptied_queues : List (ℕ × ℕ) → List ℕ → List ℕ
 emptied_queues [] b = b
-emptied_queues ((a, n) ∷ l) b = emptied_queues l (in_turn (emptiedAt Rings.Tasks) n a b)
+emptied_queues ((a, n) ∷ l) b = emptied_queues l (in_turn (emptied_at Rings.Tasks) n a b)
 
 -- then the mailboxes, and the queues of free blocks
 unfoldable pub emptied : Plan → List ℕ → List ℕ
-emptied p b = in_turn (emptiedAt Rings.Blocks) p.pools (free_node 1) (in_turn (emptiedAt Rings.Messages) p.mailboxes (mail_node 1) (emptied_queues (anchors_of p) b))
+emptied p b = in_turn (emptied_at Rings.Blocks) p.pools (free_node 1) (in_turn (emptied_at Rings.Messages) p.mailboxes (mail_node 1) (emptied_queues (anchors_of p) b))
 
 -- all of it, in a memory of zeros; no block is free and no task started yet
 unfoldable pub laid : List ℕ → Plan → List ℕ

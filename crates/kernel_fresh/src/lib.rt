@@ -6,7 +6,7 @@ ghost use Rattle.std.specs.Prelude.{◌≡◌, ◌+◌, ◌≤◌, ◌<◌, leng
 ghost use Rattle.rules.specs.Setup.{word_at};
 ghost use Rattle.setup_plan.specs.Layout.{plan_of, PlanFits};
 ghost use Rattle.memory_columns.specs.Layout.{max_priorities, max_tasks, max_objects, max_pools};
-ghost use Rattle.memory_queues.specs.Moves.{emptied as emptiedAt};
+ghost use Rattle.memory_queues.specs.Moves.{emptied as emptied_at};
 ghost use Rattle.kernel_fresh.specs.Laying.{in_turn, counted, word_of_id, laid_task, laid_alarm, laid_entry};
 ghost use Rattle.kernel_fresh.specs.Laying.{laid_counter, entered, emptied, laid};
 
@@ -157,7 +157,7 @@ fn lay_entries(bytes: &[u8], p: Plan, words: &mut [u32; STATE_WORDS])
 // The queues of n anchors are made empty.
 fn empty_queues(words: &mut [u32; STATE_WORDS], rings: Rings, first: u32, n: u32)
     requires { first + n < 4294967296 }
-    ensures { words.new ≡ in_turn (emptiedAt rings) n first words.old }
+    ensures { words.new ≡ in_turn (emptied_at rings) n first words.old }
 {
     let mut a = first;
     let mut left = n;

@@ -18,7 +18,7 @@ use Rattle.run_text.specs.Output.{Wrote}
 use Rattle.run_text.proofs.Laid.{laid_over}
 use Rattle.run_recorder.specs.declared.Parted.{Parted}
 use Rattle.run_recorder.specs.Running.{Ran}
-use Rattle.run_recorder.specs.Recording.{taken, Ends, EndsRefused, EndsQuiet}
+use Rattle.run_recorder.specs.Recording.{Ends, EndsRefused, EndsQuiet}
 use Rattle.run_recorder.proofs.Items.{ran_one}
 
 -- ---- a refusal's line

@@ -13,7 +13,7 @@ use Rattle.check_damage.specs.declared.Breach.{Breach}
 use Rattle.check_damage.specs.Judged.{Judged}
 use Rattle.kernel_start.specs.declared.Started.{Started}
 use Rattle.kernel_start.specs.Starting.{Starts, Holds}
-use Rattle.kernel_steps.specs.Steps.{Reply, reply}
+use Rattle.kernel_steps.specs.Steps.{Reply}
 use Rattle.kernel_steps.specs.Serving.{Serves}
 use Rattle.kernel_serving.proofs.Served.{known_on, known_first}
 use Rattle.kernel_demands.specs.Demands.{figures}

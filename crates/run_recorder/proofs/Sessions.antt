@@ -9,7 +9,6 @@ use lib.ListN.{length, take, drop}
 use borrow.Author.Tests.{lt-leb, leb-true, leb-false}
 use Rattle.rules.specs.Setup.{S1, S2, S3, S4, Read, got, refused}
 use Rattle.rules.specs.View.{View}
-use Rattle.rules.specs.Answers.{numbers}
 use Rattle.memory_picture.specs.Picture.{Memory}
 use Rattle.kernel_steps.specs.Steps.{Reply}
 use Rattle.kernel_demands.specs.Demands.{figures}

@@ -2,7 +2,6 @@
 use mir.Facts.{to_z-of_z}
 use Rattle.kernel_steps.specs.Steps.{reply_of}
 use Rattle.brightness.proofs.Promised.{refused, asked}
-use borrow.Author.Rules.{rules}
 use Rattle.brightness.proofs.receive.Goals as goal
 
 pub returns-in-BadPoint : goal.returns-in-BadPoint

@@ -1,7 +1,6 @@
 -- `brightness::resumed`: by what was judged. Assumes nothing.
 use mir.Facts.{to_z-of_z}
 use Rattle.brightness.proofs.Promised.{refused_again, read}
-use borrow.Author.Rules.{rules}
 use Rattle.brightness.proofs.resumed.Goals as goal
 
 pub returns-in-BadPoint : goal.returns-in-BadPoint

@@ -4,7 +4,6 @@ use lib.IntN.{pos}
 use mir.Syntax.{w32}
 use mir.Facts.{to_z-of_z}
 use borrow.Author.Tests.{le-leb, lt-leb}
-use borrow.Author.Rules.{rules}
 use Rattle.brightness.proofs.task_word.Goals as goal
 
 pub returns-then-task-gt-MAX_ID : goal.returns-then-task-gt-MAX_ID

@@ -4,7 +4,6 @@ use Rattle.memory_picture.specs.Picture.{memory}
 use Rattle.kernel_batches.specs.declared.Batch.TheVariants.{Ragged, FewCodes, FewWords}
 use Rattle.kernel_batches.specs.Batches.{lent}
 use Rattle.kernel_batches.proofs.Batches.{is_done, batch_done, batch_none}
-use borrow.Author.Rules.{rules}
 use Rattle.kernel_batches.proofs.events.Goals as goal
 
 pub run_all-requires : goal.run_all-requires

@@ -3,7 +3,6 @@ use Rattle.memory_picture.specs.Picture.{memory}
 use Rattle.kernel_serving.proofs.Served.{known_first}
 use Rattle.kernel_batches.specs.Batches.{lent}
 use Rattle.kernel_batches.proofs.Batches.{fit_room}
-use borrow.Author.Rules.{rules}
 use Rattle.kernel_batches.proofs.run_all.Goals as goal
 
 pub returns : goal.returns

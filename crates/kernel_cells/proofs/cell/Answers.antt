@@ -1,11 +1,9 @@
 -- `kernel_cells::cell` meets its contract. By the verdict on the memory and the id. Assumes nothing.
 use mathlib.Core.Path.{◌∙◌}
 use mir.Facts.{to_z-of_z}
-use borrow.Author.Tests.{not-true, not-false}
 use Rattle.rules.specs.Codes.{number}
 use Rattle.call_words.proofs.Signed.{saying}
 use Rattle.kernel_cells.proofs.Promised.{unreadable, foreign, absent, readable}
-use borrow.Author.Rules.{rules}
 use mir.Syntax.{w32}
 use Rattle.kernel_cells.proofs.cell.Goals as goal
 

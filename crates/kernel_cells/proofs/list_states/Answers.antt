@@ -1,11 +1,7 @@
 -- `kernel_cells::list_states` meets its contract. The tasks before i are listed. Assumes nothing.
-use mathlib.Core.Path.{◌≡◌, refl}
-use Prim.Native.Nat.{◌-◌, ◌≤◌}
+use mathlib.Core.Path.{refl}
 use native.Mathlib.Omega.{arith}
-use lib.ListN.{length, length-set}
-use borrow.Author.Rules.{rules}
-use Rattle.call_reading.specs.Reading.{number_at}
-use Rattle.kernel_cells.specs.Promises.{Listed}
+use lib.ListN.{length-set}
 use Rattle.kernel_cells.proofs.Listing.{none_listed, one_listed, all_listed}
 use Rattle.kernel_cells.proofs.list_states.Goals as goal
 

@@ -1,11 +1,8 @@
-use mathlib.Core.Path.{◌≡◌, refl}
+use mathlib.Core.Path.{◌≡◌}
 use Prim.Native.Nat.{◌-◌, ◌≤◌}
-use native.Mathlib.Omega.{arith}
-use lib.ListN.{length, length-set}
-use borrow.Author.Rules.{rules}
+use lib.ListN.{length}
 use Rattle.call_reading.specs.Reading.{number_at}
 use Rattle.kernel_cells.specs.Promises.{Listed}
-use Rattle.kernel_cells.proofs.Listing.{none_listed, one_listed, all_listed}
 use Rattle.kernel_cells.proofs.list_states.Given as goal
 
 abbrev pub invariant-loop-i : goal.invariant-loop-i

@@ -1,6 +1,5 @@
 -- `kernel_cells::running` meets its contract. By the verdict. Assumes nothing.
 use Rattle.kernel_cells.proofs.Promised.{runs, idle}
-use borrow.Author.Rules.{rules}
 use Rattle.kernel_cells.proofs.running.Goals as goal
 
 pub returns-then-accepts : goal.returns-then-accepts

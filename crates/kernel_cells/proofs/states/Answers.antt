@@ -1,6 +1,5 @@
 -- `kernel_cells::states` meets its contract. By the verdict on the memory. Assumes nothing.
 use native.Mathlib.Omega.{arith}
-use borrow.Author.Rules.{rules}
 use Rattle.rules.specs.Codes.{number}
 use Rattle.call_words.proofs.Signed.{signed}
 use Rattle.kernel_cells.proofs.Promised.{unlisted, few, listed}

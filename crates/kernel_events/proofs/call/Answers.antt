@@ -2,7 +2,6 @@
 use mathlib.Core.Path.{sym, ◌∙◌}
 use mir.Facts.{to_z-of_z}
 use Rattle.kernel_serving.proofs.Served.{call_words, known_first, misnamed_step, named_kind}
-use borrow.Author.Rules.{rules}
 use Rattle.kernel_events.proofs.call.Goals as goal
 
 pub returns-then-is_above : goal.returns-then-is_above

@@ -1,6 +1,5 @@
 -- `kernel_events::leave` meets its contract: by the check and the running task. Assumes nothing.
 use Rattle.kernel_serving.proofs.Served.{known_first}
-use borrow.Author.Rules.{rules}
 use Rattle.kernel_events.proofs.leave.Goals as goal
 
 pub returns : goal.returns

@@ -1,6 +1,5 @@
 -- `kernel_events::tick` meets its contract: by the check and the running task. Assumes nothing.
 use Rattle.kernel_serving.proofs.Served.{known_first}
-use borrow.Author.Rules.{rules}
 use Rattle.kernel_events.proofs.tick.Goals as goal
 
 pub returns : goal.returns

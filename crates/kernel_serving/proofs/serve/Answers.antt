@@ -4,7 +4,6 @@ use mir.Facts.{to_z-of_z}
 use Rattle.call_words.proofs.Signed.{signed}
 use native.Mathlib.Omega.{arith}
 use Rattle.kernel_serving.proofs.Written.{one_ran}
-use borrow.Author.Rules.{rules}
 use Rattle.kernel_serving.proofs.serve.Goals as goal
 
 pub returns : goal.returns

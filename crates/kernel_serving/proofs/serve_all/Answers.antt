@@ -1,11 +1,7 @@
 -- `kernel_serving::serve_all` meets its contract: event by event. Assumes nothing.
 use mathlib.Core.Path.{refl}
-use Prim.Native.Nat.{◌-◌}
 use native.Mathlib.Omega.{arith}
-use borrow.Author.Rules.{rules}
-use Rattle.memory_picture.specs.Picture.{memory}
-use Rattle.kernel_steps.specs.Written.{lent}
-use Rattle.kernel_serving.proofs.Written.{Turning, begins, goes_on, ends}
+use Rattle.kernel_serving.proofs.Written.{begins, goes_on, ends}
 use Rattle.kernel_serving.proofs.serve_all.Goals as goal
 
 pub loop-i-init : goal.loop-i-init

@@ -1,10 +1,7 @@
-use mathlib.Core.Path.{refl}
 use Prim.Native.Nat.{◌-◌}
-use native.Mathlib.Omega.{arith}
-use borrow.Author.Rules.{rules}
 use Rattle.memory_picture.specs.Picture.{memory}
 use Rattle.kernel_steps.specs.Written.{lent}
-use Rattle.kernel_serving.proofs.Written.{Turning, begins, goes_on, ends}
+use Rattle.kernel_serving.proofs.Written.{Turning}
 use Rattle.kernel_serving.proofs.serve_all.Given as goal
 
 abbrev pub invariant-loop-i : goal.invariant-loop-i

@@ -3,9 +3,7 @@ use mir.Facts.{to_z-of_z}
 use mathlib.Core.Path.{ap}
 use Prim.Native.Nat.{ℕ}
 use lib.Dec.{eqb}
-use Rattle.rules.specs.Events.{call, Words}
 use Rattle.kernel_serving.proofs.Served.{call_words, call_done}
-use borrow.Author.Rules.{rules}
 use Rattle.kernel_serving.proofs.serve_call.Goals as goal
 
 pub returns : goal.returns

@@ -1,8 +1,6 @@
 -- `kernel_serving::serve_event` meets its contract: by the kind. Assumes nothing.
 use mathlib.Core.Path.{sym, ◌∙◌}
 use mir.Facts.{to_z-of_z}
-use Rattle.rules.specs.Events.{call, Words}
-use borrow.Author.Tests.{not-true, not-false}
 use Rattle.kernel_serving.proofs.Served.{call_words, event_words, unsound_step, not_sound, misnamed_step, named_kind, kind_tick, kind_enter, kind_leave, kind_call}
 use Rattle.kernel_steps.proofs.Codes.{word_sound, word_damaged}
 use borrow.Author.Rules.{rules}

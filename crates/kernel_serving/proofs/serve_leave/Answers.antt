@@ -2,7 +2,6 @@
 use mathlib.Core.Path.{◌∙◌}
 use Rattle.kernel_serving.proofs.Served.{unsound_step, not_sound, leave_done}
 use Rattle.kernel_steps.proofs.Codes.{word_sound, word_damaged}
-use borrow.Author.Rules.{rules}
 use Rattle.kernel_serving.proofs.serve_leave.Goals as goal
 
 pub returns-then-found-ne-SOUND : goal.returns-then-found-ne-SOUND

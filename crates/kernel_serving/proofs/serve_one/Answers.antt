@@ -2,7 +2,6 @@
 use mathlib.Core.Path.{refl}
 use Rattle.call_words.proofs.Signed.{signed}
 use Rattle.kernel_steps.specs.Steps.{reply_of}
-use borrow.Author.Rules.{rules}
 use Rattle.kernel_serving.proofs.serve_one.Goals as goal
 
 pub returns : goal.returns

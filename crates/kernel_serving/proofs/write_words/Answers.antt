@@ -1,7 +1,6 @@
 -- `kernel_serving::write_words` meets its contract. By its four stores. Assumes nothing.
 use lib.ListN.{length-set}
 use native.Mathlib.Omega.{arith}
-use borrow.Author.Rules.{rules}
 use Rattle.kernel_serving.proofs.write_words.Goals as goal
 
 pub bounds-answers-at-2 : goal.bounds-answers-at-2

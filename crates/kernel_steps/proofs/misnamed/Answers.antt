@@ -4,7 +4,6 @@ use Rattle.rules.specs.Codes.{number}
 use Rattle.call_words.specs.declared.Outcome.{Outcome}
 use Rattle.kernel_steps.specs.Serving.{replied}
 use Rattle.kernel_steps.proofs.Codes.{word_sound, word_damaged}
-use borrow.Author.Rules.{rules}
 use Rattle.kernel_steps.proofs.misnamed.Goals as goal
 
 pub returns-then-found-ne-SOUND : goal.returns-then-found-ne-SOUND

@@ -1,14 +1,10 @@
 -- `decode`: the words so far stand in front. Assumes nothing.
-use mathlib.Core.List.{map, ◌++◌}
-use mathlib.Core.Path.{◌≡◌, refl, ap, ◌∙◌}
-use Prim.Native.Nat.{◌-◌, ◌≤◌}
+use mathlib.Core.Path.{refl, ap, ◌∙◌}
 use native.Mathlib.Omega.{arith}
-use lib.ListN.{length, drop, length-set}
-use borrow.Author.Rules.{rules}
+use lib.ListN.{length-set}
 use mir.Syntax.{w32}
 use mir.Facts.{to_z-of_z}
 use Rattle.run_reading.specs.Recorded.{signed_word}
-use Rattle.run_compare_reading.specs.Compared.{words_from}
 use Rattle.run_compare.proofs.Words.{decode_next, decode_none, decode_all}
 use Rattle.run_compare.proofs.decode.Goals as goal
 

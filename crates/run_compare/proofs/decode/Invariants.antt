@@ -1,14 +1,9 @@
 use mathlib.Core.List.{map, ◌++◌}
-use mathlib.Core.Path.{◌≡◌, refl, ap, ◌∙◌}
+use mathlib.Core.Path.{◌≡◌}
 use Prim.Native.Nat.{◌-◌, ◌≤◌}
-use native.Mathlib.Omega.{arith}
-use lib.ListN.{length, drop, length-set}
-use borrow.Author.Rules.{rules}
-use mir.Syntax.{w32}
-use mir.Facts.{to_z-of_z}
+use lib.ListN.{length, drop}
 use Rattle.run_reading.specs.Recorded.{signed_word}
 use Rattle.run_compare_reading.specs.Compared.{words_from}
-use Rattle.run_compare.proofs.Words.{decode_next, decode_none, decode_all}
 use Rattle.run_compare.proofs.decode.Given as goal
 
 abbrev pub invariant-loop-i : goal.invariant-loop-i

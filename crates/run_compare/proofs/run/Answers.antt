@@ -2,7 +2,6 @@
 use Rattle.memory_picture.specs.Picture.{memory}
 use Rattle.kernel_batches.specs.Batches.{lent}
 use Rattle.run_compare.proofs.Answers.{ran_law}
-use borrow.Author.Rules.{rules}
 use Rattle.run_compare.proofs.run.Goals as goal
 
 pub returns : goal.returns

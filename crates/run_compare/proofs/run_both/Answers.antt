@@ -1,6 +1,5 @@
 -- `run_both`: the events are decoded once, and run from each setup. Assumes nothing.
 use Rattle.run_compare.proofs.Answers.{given_part, both_ran}
-use borrow.Author.Rules.{rules}
 use Rattle.run_compare.proofs.run_both.Goals as goal
 
 pub returns : goal.returns

@@ -1,0 +1,6 @@
+-- `okrozumba_curve_level`: what `level_of` gives, in numbers. Assumes nothing.
+use borrow.Author.Rules.{rules}
+use Rattle.okrozumba.proofs.okrozumba_curve_level.Goals as goal
+
+pub returns : goal.returns
+returns c = rw c.level_of.ensures at c.leveled_told.ensures
