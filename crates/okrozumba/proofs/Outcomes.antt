@@ -5,7 +5,6 @@ use native.Mathlib.Omega.{arith}
 use lib.IntN.{ℤ}
 use Rattle.rules.specs.Setup.{Fault, S1, S2, S3, S4, digit, Read, got, refused, Setup, setup}
 use Rattle.kernel_batches.specs.declared.Batch.{Batch}
-use Rattle.kernel_batches.specs.declared.Batch.TheVariants as Batch
 use Rattle.kernel_batches.specs.declared.Ran.{Ran}
 use Rattle.kernel_batches.specs.Batches.{Lent, fitted, RunsAs, RunsFrom}
 use Rattle.okrozumba.specs.Exports.{ran_number}

@@ -3,7 +3,6 @@ use Rattle.std.specs.Prelude.{List, ◌≡◌, ℕ, ◌+◌, ℤ}
 use Rattle.memory_picture.specs.Picture.{Memory}
 use Rattle.kernel_start.specs.Starting.{Starts}
 use Rattle.kernel_batches.specs.declared.Ran.{Ran}
-use Rattle.kernel_batches.specs.declared.Ran.TheVariants as Ran
 use Rattle.kernel_batches.specs.Batches.{batch_number, Lent, Batched, RunsFrom}
 use Rattle.export_numbers.specs.Numbers.{start_number, start_place}
 

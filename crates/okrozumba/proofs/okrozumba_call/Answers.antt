@@ -1,6 +1,5 @@
 -- `okrozumba_call` meets its contract: that of `call`, whose words are passed as bits. Assumes nothing.
 use mir.Facts.{to_z-of_z}
-use borrow.Author.Rules.{rules}
 use Rattle.okrozumba.proofs.okrozumba_call.Goals as goal
 
 pub returns : goal.returns

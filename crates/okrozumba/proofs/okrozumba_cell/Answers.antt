@@ -1,6 +1,5 @@
 -- `okrozumba_cell` meets its contract: that of `cell`, whose task is passed as bits. Assumes nothing.
 use mir.Facts.{to_z-of_z}
-use borrow.Author.Rules.{rules}
 use Rattle.okrozumba.proofs.okrozumba_cell.Goals as goal
 
 pub returns : goal.returns

@@ -1,5 +1,4 @@
 -- `okrozumba_curve_judge`: what `judge` gives, in numbers. Assumes nothing.
-use borrow.Author.Rules.{rules}
 use Rattle.okrozumba.proofs.okrozumba_curve_judge.Goals as goal
 
 pub returns : goal.returns

@@ -1,5 +1,4 @@
 -- `okrozumba_curve_level`: what `level_of` gives, in numbers. Assumes nothing.
-use borrow.Author.Rules.{rules}
 use Rattle.okrozumba.proofs.okrozumba_curve_level.Goals as goal
 
 pub returns : goal.returns

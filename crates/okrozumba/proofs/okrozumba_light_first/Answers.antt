@@ -1,5 +1,4 @@
 -- `okrozumba_light_first`: what `first_light` gives, in numbers. Assumes nothing.
-use borrow.Author.Rules.{rules}
 use Rattle.okrozumba.proofs.okrozumba_light_first.Goals as goal
 
 pub returns : goal.returns

@@ -1,6 +1,5 @@
 -- `okrozumba_light_take`: what `take` gives, in numbers; the code is passed as bits. Assumes nothing.
 use mir.Facts.{to_z-of_z}
-use borrow.Author.Rules.{rules}
 use Rattle.okrozumba.proofs.okrozumba_light_take.Goals as goal
 
 pub returns : goal.returns

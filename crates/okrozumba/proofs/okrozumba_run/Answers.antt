@@ -1,6 +1,5 @@
 -- `okrozumba_run` meets its contract: that of `run`, in numbers. Assumes nothing.
 use Rattle.okrozumba.proofs.Outcomes.{ran_number_lem}
-use borrow.Author.Rules.{rules}
 use Rattle.okrozumba.proofs.okrozumba_run.Goals as goal
 
 pub run_outcome-requires : goal.run_outcome-requires

@@ -2,7 +2,6 @@
 -- nothing.
 use mathlib.Core.Path.{refl}
 use native.Mathlib.Omega.{arith}
-use borrow.Author.Rules.{rules}
 use Rattle.okrozumba.proofs.run_outcome.Goals as goal
 
 pub overflow_add-result : goal.overflow_add-result

@@ -11,11 +11,11 @@ loop-i-init c = (refl, omega arith)
 
 pub returns-then-sums-i-ge-BEYOND : goal.returns-then-sums-i-ge-BEYOND
 returns-then-sums-i-ge-BEYOND c =
-    sym (c.loop-i.invariant.0 ∙ fit_not c.args.t.sums c.loop-i.i (search rules) c.if-sums-i-ge-BEYOND.true)
+    sym (c.loop-i.invariant.0 ∙ fit_not c.args.t.sums c.loop-i.i (search rules) (omega arith))
 
 pub loop-i-preserved : goal.loop-i-preserved
 loop-i-preserved c =
-    (c.loop-i.invariant.0 ∙ fit_next c.args.t.sums c.loop-i.i (search rules) c.if-sums-i-ge-BEYOND.false, search rules)
+    (c.loop-i.invariant.0 ∙ fit_next c.args.t.sums c.loop-i.i (search rules) (omega arith), search rules)
 
 pub returns : goal.returns
 returns c =
