@@ -12,9 +12,6 @@ const DOCUMENT: &str = "docs/BELIEVE.md";
 /// A call leaves its return address there.
 const ADDRESS: usize = 8;
 
-/// A large frame is made in steps of a page; the loop's step stands in the code once.
-const PAGE: usize = 0x1000;
-
 /// What a function has below its return address, and whom it calls.
 #[derive(Default)]
 struct Frame {
@@ -120,6 +117,8 @@ fn frames(listing: &str) -> Result<BTreeMap<String, Frame>, String> {
     let mut found: BTreeMap<String, Frame> = BTreeMap::new();
     let mut name = String::new();
     let mut depth = 0;
+    // a large frame is made in steps, up to where r11 points; the loop's step stands in the code once
+    let mut end = None;
     let mut jumps = false;
     for line in listing.lines() {
         if let Some(rest) = line.strip_suffix(">:") {
@@ -129,6 +128,7 @@ fn frames(listing: &str) -> Result<BTreeMap<String, Frame>, String> {
                 .unwrap_or_default();
             found.entry(name.clone()).or_default();
             depth = 0;
+            end = None;
             continue;
         }
         let Some(frame) = found.get_mut(&name) else {
@@ -146,6 +146,17 @@ fn frames(listing: &str) -> Result<BTreeMap<String, Frame>, String> {
         jumps = operation == "call" || operation.starts_with('j');
         depth = moved(depth, operation, arguments)
             .ok_or(format!("{name}: {operation} {arguments}: not understood"))?;
+        match (operation, arguments, end) {
+            ("mov", "%rsp,%r11", _) => end = Some(depth),
+            ("sub", _, Some(from)) if arguments.ends_with(",%r11") => {
+                end = subtracted(arguments).map(|n| from + n)
+            }
+            ("cmp", "%r11,%rsp", Some(to)) => {
+                depth = to;
+                end = None;
+            }
+            _ => {}
+        }
         frame.deepest = frame.deepest.max(depth);
         if operation == "ret" {
             depth = frame.deepest;
@@ -172,16 +183,19 @@ fn callee(symbol: &str) -> Option<String> {
     Some(name[..end].to_string())
 }
 
+/// The number that is added or subtracted.
+fn subtracted(arguments: &str) -> Option<usize> {
+    usize::from_str_radix(arguments.split(',').next()?.strip_prefix("$0x")?, 16).ok()
+}
+
 /// The depth behind an instruction; nothing where the stack pointer is moved in another way, or a call goes by a pointer.
 fn moved(depth: usize, operation: &str, arguments: &str) -> Option<usize> {
-    let number =
-        || usize::from_str_radix(arguments.split(',').next()?.strip_prefix("$0x")?, 16).ok();
+    let number = || subtracted(arguments);
     match operation {
         "push" => Some(depth + ADDRESS),
         "pop" => Some(depth.saturating_sub(ADDRESS)),
         "sub" if arguments.ends_with(",%rsp") => Some(depth + number()?),
         "add" if arguments.ends_with(",%rsp") => Some(depth.saturating_sub(number()?)),
-        "sub" if arguments.ends_with(",%r11") => Some(depth + number()? - PAGE),
         "call" if arguments.starts_with('*') => None,
         _ if arguments.ends_with(",%rsp") && operation != "cmp" => None,
         _ => Some(depth),
