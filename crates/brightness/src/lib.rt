@@ -5,7 +5,7 @@
 // A reader sees it in two places. crates.txt names, of the kernel, `rules`, `kernel_events` and `kernel_cells`, which
 // promise, `kernel_steps`, which has the words of the promise, and besides `memory_columns` for the memory's size in the
 // functions' types and `memory_picture` for `Memory`, `view_in` and `SoundIn`, in which a promise speaks of a memory. And
-// `grep -rho 'Rattle·[a-z_]*' crates/brightness/specs crates/brightness/proofs | sort -u` lists every crate that a
+// `grep -rhoE 'Rattle\.[a-z_]+' crates/brightness/specs crates/brightness/proofs | sort -u` lists every crate that a
 // statement or a proof here cites.
 #![tactic(auto)]
 

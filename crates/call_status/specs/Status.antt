@@ -15,7 +15,7 @@ use Rattle.call_words.specs.Naming.{NamesObject}
 use Rattle.call_objects.specs.Waiting.{first_message}
 use Rattle.call_pools.specs.Blocks.{bit_count}
 
--- the second word of the rows semSts, flgSts, mbxSts, mplSts
+-- the second word of the rows sem_sts_row, flg_sts_row, mbx_sts_row, mpl_sts_row
 abbrev pub stored : View → Kind → ℤ → ℕ
 stored v semaphore a = count_of v a
 stored v flag a = pattern_of v a

@@ -68,7 +68,7 @@ unfolding rest items after at_input_end eat
 rest_stopped [] = refl
 rest_stopped (b ∷ s) = rest_stopped s
 
--- fewer than eventBytes bytes of an event are kept; none where no event is to come
+-- fewer than event_bytes bytes of an event are kept; none where no event is to come
 abbrev Few : ℕ → List ℕ → Type 0
 Few zero l = l ≡ []
 Few (suc n) l = length l < event_bytes

@@ -19,12 +19,9 @@ use second::plain::{Event, Plain, CALLS};
 use second::random::Random;
 use second::script::{self, Author, SIZES};
 use second::sketch;
-use std::thread;
 
 const BASES: u64 = 24;
 const SETS: u32 = 15_000;
-/// The bases are shared out among so many threads: this part is by far the longest.
-const SHARES: u64 = 4;
 /// Every so many memories get all events.
 const ALL_EVENTS: u64 = 97;
 
@@ -187,8 +184,6 @@ const CORNERS: [Corner; 14] = [
 
 #[derive(Default)]
 struct Tally {
-    /// The number of the next memory, by which its events are chosen.
-    turn: u64,
     damaged: u64,
     sound: u64,
     events: u64,
@@ -203,8 +198,7 @@ struct Tally {
 
 impl Tally {
     fn judge(&mut self, state: &State) -> Result<(), String> {
-        let events = turn_events(self.turn);
-        self.turn += 1;
+        let events = turn_events(self.damaged + self.sound);
         self.events += events.len() as u64;
         match layout::shown(state) {
             Err(breach) => {
@@ -236,19 +230,6 @@ impl Tally {
             *times += u64::from(met(&picture, told));
         }
         Ok(())
-    }
-
-    fn add(&mut self, other: &Tally) {
-        self.damaged += other.damaged;
-        self.sound += other.sound;
-        self.events += other.events;
-        self.open += other.open;
-        self.counted += other.counted;
-        let times = self.codes.iter_mut().chain(&mut self.corners);
-        let others = other.codes.iter().chain(&other.corners);
-        for (times, more) in times.chain(&mut self.named).zip(others.chain(&other.named)) {
-            *times += more;
-        }
     }
 
     /// How often each code, rule and corner came up; none may be missing.
@@ -421,40 +402,20 @@ fn noise(tally: &mut Tally, random: &mut Random) -> Result<(), String> {
     Ok(())
 }
 
-/// A base and all that is made of it.
-fn from_base(tally: &mut Tally, seed: u64) -> Result<(), String> {
-    let random = &mut Random::new(1000 + seed);
-    let base = base(random, seed)?;
-    each_word(tally, random, &base)?;
-    each_ready_bit(tally, &base)?;
-    each_alarm_word(tally, random, &base)?;
-    for _ in 0..SETS {
-        tally.judge(&random_set(random, &base))?;
-    }
-    noise(tally, random)
-}
-
-/// Every base of a share. The shares begin at other events.
-fn from_share(share: u64) -> Result<Tally, String> {
-    let mut tally = Tally {
-        turn: share * ALL_EVENTS,
-        ..Tally::default()
-    };
-    for seed in (share..BASES).step_by(SHARES as usize) {
-        from_base(&mut tally, seed).map_err(|d| format!("base {seed}: {d}"))?;
-    }
-    Ok(tally)
-}
-
 pub fn check() -> Verdict {
-    let shares: Vec<_> = (0..SHARES)
-        .map(|share| thread::spawn(move || from_share(share)))
-        .collect();
     let mut tally = Tally::default();
     let worked = worked::check(&mut tally)?;
-    for share in shares {
-        let share = share.join().map_err(|_| "a share FAILED, see above")?;
-        tally.add(&share?);
+    for seed in 0..BASES {
+        let random = &mut Random::new(1000 + seed);
+        let base = base(random, seed)?;
+        let named = |d| format!("base {seed}: {d}");
+        each_word(&mut tally, random, &base).map_err(named)?;
+        each_ready_bit(&mut tally, &base).map_err(named)?;
+        each_alarm_word(&mut tally, random, &base).map_err(named)?;
+        for _ in 0..SETS {
+            tally.judge(&random_set(random, &base)).map_err(named)?;
+        }
+        noise(&mut tally, random).map_err(named)?;
     }
     aimed::check(&mut tally)?;
     if tally.open == 0 || tally.counted == 0 {
