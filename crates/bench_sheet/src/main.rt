@@ -22,12 +22,10 @@ mod memory;
 mod text;
 mod turns;
 
-ghost use Rattle.std.specs.Prelude.{◌≤◌, length};
-
-use crate::memory::{cell, damages, lay, look, overwrite, start};
+use crate::memory::{SETUP, State, cell, damages, lay, look, overwrite, start};
 use crate::text::{first_byte, nth, say, word};
 use crate::turns::{
-    ENTRY, HANDLED, HANDLER, LIST_WORDS, RETURN, TASK, TICK, at_once, happen, stray,
+    ENTRY, EVENTS, HANDLER, List, RETURN, TASK, TICK, Turn, at_once, happen, stray,
 };
 use memory_columns::STATE_WORDS;
 use std::io::Print;
@@ -36,21 +34,27 @@ use streams::read_full;
 // Room for the table.
 const SPACE: usize = 65536;
 
-// The kind of a line that is no event.
-const NO_EVENT: i32 = 9;
+// What the lines so far have made: the setup, the state, the state after the last F, W or M, and the events since.
+#[derive(Clone, Copy)]
+struct Sheet {
+    setup: [u8; SETUP],
+    state: State,
+    first: State,
+    list: List,
+}
 
-// The kind of a line by its letter.
-fn kind_of(letter: u8) -> i32 {
+// The events of a line by its letter, if it is a line of events.
+fn turn_of(letter: u8) -> Option<Turn> {
     match letter {
-        b'X' => TASK,
-        b'I' => HANDLER,
-        b'T' => TICK,
-        b'(' => ENTRY,
-        b')' => RETURN,
-        b'H' => HANDLED,
-        b'N' => -1,
-        b'Q' => 5,
-        _ => NO_EVENT,
+        b'X' => Some(Turn::Alone(TASK)),
+        b'I' => Some(Turn::Alone(HANDLER)),
+        b'T' => Some(Turn::Alone(TICK)),
+        b'(' => Some(Turn::Alone(ENTRY)),
+        b')' => Some(Turn::Alone(RETURN)),
+        b'H' => Some(Turn::Handled),
+        b'N' => Some(Turn::Alone(-1)),
+        b'Q' => Some(Turn::Alone(5)),
+        _ => None,
     }
 }
 
@@ -59,124 +63,74 @@ fn prepared(
     out: &impl Print,
     line: &[u8],
     letter: u8,
-    setup: &[u8; 160],
-    words: &mut [u32; STATE_WORDS],
-    messages: &mut [u32; 256],
+    setup: &[u8; SETUP],
+    state: &mut State,
 ) -> bool {
     match letter {
-        b'F' => {
-            start(out, line, setup, words, messages);
-            true
-        }
+        b'F' => start(out, line, setup, state),
         b'W' => {
-            overwrite(words, word(line, 1) as usize, word(line, 2));
-            look(out, words, messages);
-            true
+            overwrite(&mut state.words, word(line, 1) as usize, word(line, 2));
+            look(out, state);
         }
         b'M' => {
-            overwrite(messages, word(line, 1) as usize, word(line, 2));
-            look(out, words, messages);
-            true
+            overwrite(&mut state.messages, word(line, 1) as usize, word(line, 2));
+            look(out, state);
         }
-        _ => false,
+        _ => return false,
     }
+    true
 }
 
-// Does what a line says; gives how many events stand in the list then.
-fn obey(
-    out: &impl Print,
-    line: &[u8],
-    setup: &mut [u8; 160],
-    words: &mut [u32; STATE_WORDS],
-    messages: &mut [u32; 256],
-    first_words: &mut [u32; STATE_WORDS],
-    first_messages: &mut [u32; 256],
-    list: &mut [i32; LIST_WORDS],
-    n: usize,
-) -> usize {
+// Does what a line says.
+fn obey(out: &impl Print, line: &[u8], sheet: &mut Sheet) {
     say(out, line);
     let letter = first_byte(line);
-    let kind = kind_of(letter);
-    if kind != NO_EVENT {
-        return happen(out, line, kind, words, messages, list, n);
+    if let Some(turn) = turn_of(letter) {
+        happen(out, line, turn, &mut sheet.state, &mut sheet.list);
+        return;
     }
-    if prepared(out, line, letter, setup, words, messages) {
-        *first_words = *words;
-        *first_messages = *messages;
-        return 0;
+    if prepared(out, line, letter, &sheet.setup, &mut sheet.state) {
+        let made = sheet.state;
+        sheet.first = made;
+        sheet.list.n = 0;
+        return;
     }
     match letter {
         b'S' => {
-            lay(setup, line);
+            lay(&mut sheet.setup, line);
             say(out, b"\n");
         }
         b'P' => stray(
             out,
-            words,
-            messages,
+            &mut sheet.state,
             nth(line, 1),
             nth(line, 2),
             nth(line, 3),
         ),
-        b'C' => cell(out, words, messages, nth(line, 1)),
-        b'A' => damages(out, words, messages, word(line, 1)),
-        b'E' => at_once(
-            out,
-            line,
-            false,
-            setup,
-            first_words,
-            first_messages,
-            list,
-            n,
-        ),
-        b'R' => at_once(out, line, true, setup, first_words, first_messages, list, n),
+        b'C' => cell(out, &sheet.state, nth(line, 1)),
+        b'A' => damages(out, &mut sheet.state, word(line, 1)),
+        b'E' => at_once(out, line, None, &sheet.first, &sheet.list),
+        b'R' => at_once(out, line, Some(&sheet.setup), &sheet.first, &sheet.list),
         _ => say(out, b"\n"),
     }
-    n
-}
-
-// The place of the next line feed from a place on, or the end.
-fn line_end(text: &[u8], from: usize) -> usize
-    requires { from ≤ length text.now }
-    ensures { (from ≤ result) × (result ≤ length text.now) }
-{
-    let mut i = from;
-    while i < text.len() {
-        if text[i] == b'\n' {
-            return i;
-        }
-        i += 1;
-    }
-    i
 }
 
 fn play(out: &impl Print, text: &[u8]) {
-    let mut setup = [0u8; 160];
-    let mut words = [0u32; STATE_WORDS];
-    let mut messages = [0u32; 256];
-    let mut first_words = [0u32; STATE_WORDS];
-    let mut first_messages = [0u32; 256];
-    let mut list = [0i32; LIST_WORDS];
-    let mut n: usize = 0;
-    let mut at: usize = 0;
-    while at < text.len() {
-        let end = line_end(text, at);
-        n = obey(
-            out,
-            &text[at..end],
-            &mut setup,
-            &mut words,
-            &mut messages,
-            &mut first_words,
-            &mut first_messages,
-            &mut list,
-            n,
-        );
-        at = end;
-        if at < text.len() {
-            at += 1;
-        }
+    let state = State {
+        words: [0; STATE_WORDS],
+        messages: [0; 256],
+    };
+    let mut sheet = Sheet {
+        setup: [0; SETUP],
+        state,
+        first: state,
+        list: List {
+            events: [[0; 5]; EVENTS],
+            n: 0,
+        },
+    };
+    for line in text.split_inclusive(|byte| *byte == b'\n') {
+        obey(out, line.strip_suffix(b"\n").unwrap_or(line), &mut sheet);
     }
 }
 

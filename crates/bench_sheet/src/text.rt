@@ -1,6 +1,7 @@
 // Writing, and reading the numbers of a line.
 ghost use Rattle.std.specs.Prelude.{◌≤◌};
 
+use std::fmt::Display;
 use std::io::Print;
 use streams::{print_decimal, write_all};
 
@@ -10,115 +11,84 @@ pub fn say(out: &impl Print, text: &[u8]) {
     write_all(out, text);
 }
 
-pub fn number(out: &impl Print, x: u32) {
-    print_decimal(out, x as u64);
-}
-
-pub fn signed(out: &impl Print, x: i32) {
-    let bits = call_words::bits_of(x);
-    if x < 0 {
-        say(out, b"-");
-        print_decimal(out, 4294967296 - bits as u64);
-    } else {
-        number(out, bits);
-    }
-}
-
-pub fn field(out: &impl Print, name: &[u8], x: u32) {
+pub fn field<N: Display + Drop>(out: &impl Print, name: &[u8], x: N) {
     say(out, name);
-    number(out, x);
+    print_decimal(out, x);
 }
 
 // ---- reading
 
-// A number of a line is looked for: how many end before it or with it, whether the last byte was a digit, a minus before the digits so
-// far, and what they are worth.
+// A number of a line is looked for.
 #[derive(Clone, Copy)]
 struct Scan {
+    // how many numbers end before it or with it; 0 once it is found
     left: u32,
-    inside: bool,
+    // whether a minus stands before the digits so far
     minus: bool,
-    value: u32,
-}
-
-fn scan_of(left: u32, inside: bool, minus: bool, value: u32) -> Scan {
-    Scan {
-        left: left,
-        inside: inside,
-        minus: minus,
-        value: value,
-    }
+    // what the digits so far are worth; none behind a byte that is no digit
+    value: Option<u32>,
 }
 
 // One more digit; a number that has no room for it stays as it is.
 fn grown(value: u32, digit: u8) -> u32 {
     if value < 400000000 {
-        10 * value + digit as u32
+        10 * value + u32::from(digit)
     } else {
         value
     }
 }
 
-// After a byte that is no digit. The number that was looked for is kept.
-fn between(s: Scan, minus: bool) -> Scan {
-    if !s.inside {
-        return scan_of(s.left, false, minus, 0);
-    }
-    if s.left < 2 {
-        return scan_of(0, false, s.minus, s.value);
-    }
-    scan_of(s.left - 1, false, minus, 0)
-}
-
 fn scanned(s: Scan, byte: u8) -> Scan {
-    if s.left == 0 {
-        return s;
+    let minus = byte == b'-';
+    match (s.value, byte) {
+        _ if s.left == 0 => s,
+        (value, b'0'..=b'9') => Scan {
+            value: Some(grown(value.unwrap_or(0), byte - b'0')),
+            ..s
+        },
+        (None, _) => Scan { minus, ..s },
+        (Some(_), _) if s.left == 1 => Scan { left: 0, ..s },
+        (Some(_), _) => Scan {
+            left: s.left - 1,
+            minus,
+            value: None,
+        },
     }
-    if byte < b'0' {
-        return between(s, byte == b'-');
-    }
-    if b'9' < byte {
-        return between(s, false);
-    }
-    scan_of(s.left, true, s.minus, grown(s.value, byte - b'0'))
 }
 
 // What was found; 0 if there is no such number or it is too large.
 fn found(s: Scan) -> i32 {
-    if 0 < s.left {
-        return 0;
-    }
-    if 2147483647 < s.value {
-        return 0;
-    }
-    let v = s.value as i32;
-    if s.minus { -v } else { v }
+    let value = match s.value {
+        Some(value) if s.left == 0 => value,
+        _ => 0,
+    };
+    let n = i32::try_from(value).unwrap_or(0);
+    if s.minus { -n } else { n }
 }
 
 // Number k of a line, counted from 1.
 pub fn nth(line: &[u8], k: u32) -> i32 {
-    let mut s = scan_of(k, false, false, 0);
-    let mut i: usize = 0;
-    while i < line.len() {
-        s = scanned(s, line[i]);
-        i += 1;
-    }
-    found(scanned(s, b' '))
+    let start = Scan {
+        left: k,
+        minus: false,
+        value: None,
+    };
+    let end = line.iter().fold(start, |s, byte| scanned(s, *byte));
+    found(scanned(end, b' '))
 }
 
 // The same as a word with the same bits.
 pub fn word(line: &[u8], k: u32) -> u32 {
-    call_words::bits_of(nth(line, k))
+    nth(line, k).cast_unsigned()
 }
 
 // The same as a place or a length: at most `most`.
 pub fn upto(line: &[u8], k: u32, most: usize) -> usize
     ensures { result ≤ most }
 {
-    let n = word(line, k) as usize;
-    if n < most { n } else { most }
+    most.min(word(line, k) as usize)
 }
 
 pub fn first_byte(line: &[u8]) -> u8 {
-    if line.len() == 0 { b'#' } else { line[0] }
+    line.first().copied().unwrap_or(b'#')
 }

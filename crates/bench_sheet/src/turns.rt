@@ -1,12 +1,13 @@
 // Events, one by one and at once.
-use crate::memory::{fault, same_memory};
-use crate::text::{field, nth, say, signed, upto};
-use kernel_batches::{Batch, Ran};
+ghost use Rattle.std.specs.Prelude.{◌≤◌};
+
+use crate::memory::{SETUP, State, fault};
+use crate::text::{field, nth, say, upto};
+use kernel_batches::{RunError, Unfit};
 use kernel_steps::Answer;
-use memory_columns::STATE_WORDS;
 use std::io::Print;
 
-// The kinds of events in a list.
+// The kinds of events in a list: numbers, since any number may stand there.
 pub const TASK: i32 = 0;
 
 pub const HANDLER: i32 = 1;
@@ -17,67 +18,49 @@ pub const ENTRY: i32 = 3;
 
 pub const RETURN: i32 = 4;
 
-// The kind of a line that is three events: the entry of a handler, its call, its return.
-pub const HANDLED: i32 = 6;
+// What a line of events says.
+#[derive(Clone, Copy)]
+pub enum Turn {
+    // one event of a kind
+    Alone(i32),
+    // three events: the entry of a handler, its call, its return
+    Handled,
+}
 
 // The list has place for so many events.
-const EVENTS: usize = 128;
+pub const EVENTS: usize = 128;
 
-pub const LIST_WORDS: usize = 5 * EVENTS;
-
-const ANSWER_WORDS: usize = 4 * EVENTS;
+// The events since a state was made, the first n.
+#[derive(Clone, Copy)]
+pub struct List {
+    pub events: [[i32; 5]; EVENTS],
+    pub n: usize,
+}
 
 // ---- one by one
 
-// An event of a kind, with the numbers of a line, becomes entry n of the list; gives how many stand there then.
-fn keep(list: &mut [i32; LIST_WORDS], n: usize, kind: i32, line: &[u8]) -> usize {
-    if EVENTS <= n {
-        return n;
-    }
-    list[5 * n] = kind;
-    list[5 * n + 1] = nth(line, 1);
-    list[5 * n + 2] = nth(line, 2);
-    list[5 * n + 3] = nth(line, 3);
-    list[5 * n + 4] = nth(line, 4);
-    n + 1
-}
-
 // The answer to no event: what stands in the places for answers before anything is written there.
-fn blank() -> Answer {
-    Answer {
-        code: 77,
-        w1: 77,
-        w2: 77,
-        running: 77,
-        released: 77,
-    }
-}
+const BLANK: Answer = Answer {
+    code: 77,
+    w1: 77,
+    w2: 77,
+    running: 77,
+    released: 77,
+};
 
-// Does entry i of the list.
-fn served(
-    words: &mut [u32; STATE_WORDS],
-    messages: &mut [u32; 256],
-    list: &[i32; LIST_WORDS],
-    i: usize,
-) -> Answer {
-    if EVENTS <= i {
-        return blank();
-    }
-    let at = 5 * i;
-    let kind = list[at];
+// Does event i of a list.
+fn served(state: &mut State, list: &List, i: usize) -> Answer {
+    let Some(event) = list.events.get(i) else {
+        return BLANK;
+    };
+    let [kind, number, a, b, c] = *event;
+    let words = &mut state.words;
+    let messages = &mut state.messages;
     match kind {
         TICK => kernel_events::tick(words, messages),
         ENTRY => kernel_events::enter(words, messages),
         RETURN => kernel_events::leave(words, messages),
-        _ => kernel_events::call(
-            words,
-            messages,
-            kind,
-            list[at + 1],
-            list[at + 2],
-            list[at + 3],
-            list[at + 4],
-        ),
+        _ => kernel_events::call(words, messages, kind, number, a, b, c),
     }
 }
 
@@ -91,8 +74,7 @@ fn verdict(out: &impl Print, text: &[u8], holds: bool) {
 
 // An answer, and whether the state is as it was: so it must be if the event was refused.
 fn tell(out: &impl Print, r: Answer, same: bool) {
-    say(out, b": ");
-    signed(out, r.code);
+    field(out, b": ", r.code);
     field(out, b" ", r.w1);
     field(out, b" ", r.w2);
     field(out, b", runs ", r.running);
@@ -103,265 +85,161 @@ fn tell(out: &impl Print, r: Answer, same: bool) {
     say(out, b"\n");
 }
 
-// What comes of a line, and how many events stand in the list then.
-#[derive(Clone, Copy)]
-struct Turn {
-    answer: Answer,
-    n: usize,
-}
-
-// An event of a kind, kept as entry n of the list and done.
-fn alone(
-    line: &[u8],
-    kind: i32,
-    words: &mut [u32; STATE_WORDS],
-    messages: &mut [u32; 256],
-    list: &mut [i32; LIST_WORDS],
-    n: usize,
-) -> Turn {
-    let next = keep(list, n, kind, line);
-    let r = served(words, messages, list, n);
-    Turn { answer: r, n: next }
+// An event of a kind, with the numbers of a line, is kept in the list and done. One that finds no place there is neither.
+fn alone(line: &[u8], kind: i32, state: &mut State, list: &mut List) -> Answer {
+    let i = list.n;
+    if i < EVENTS {
+        list.events[i] = [kind, nth(line, 1), nth(line, 2), nth(line, 3), nth(line, 4)];
+        list.n = i + 1;
+    }
+    served(state, list, i)
 }
 
 // A handler's call between entry and return: the call's answer, but who runs is read at the return.
-fn handled(
-    line: &[u8],
-    words: &mut [u32; STATE_WORDS],
-    messages: &mut [u32; 256],
-    list: &mut [i32; LIST_WORDS],
-    n: usize,
-) -> Turn {
-    let entry = alone(b"", ENTRY, words, messages, list, n);
-    let call = alone(line, HANDLER, words, messages, list, entry.n);
-    let back = alone(b"", RETURN, words, messages, list, call.n);
-    let mut r = call.answer;
-    let last = back.answer;
-    r.running = last.running;
-    Turn {
-        answer: r,
-        n: back.n,
+fn handled(line: &[u8], state: &mut State, list: &mut List) -> Answer {
+    alone(b"", ENTRY, state, list);
+    let answer = alone(line, HANDLER, state, list);
+    let last = alone(b"", RETURN, state, list);
+    Answer {
+        running: last.running,
+        ..answer
     }
 }
 
-// Does the event of a line, or its three, and tells what came of it; gives how many events stand in the list then.
-pub fn happen(
-    out: &impl Print,
-    line: &[u8],
-    kind: i32,
-    words: &mut [u32; STATE_WORDS],
-    messages: &mut [u32; 256],
-    list: &mut [i32; LIST_WORDS],
-    n: usize,
-) -> usize {
-    let old_words = *words;
-    let old_messages = *messages;
-    let turn = if kind == HANDLED {
-        handled(line, words, messages, list, n)
-    } else {
-        alone(line, kind, words, messages, list, n)
+// Does the event of a line, or its three, and tells what came of it.
+pub fn happen(out: &impl Print, line: &[u8], turn: Turn, state: &mut State, list: &mut List) {
+    let old = *state;
+    let answer = match turn {
+        Turn::Alone(kind) => alone(line, kind, state, list),
+        Turn::Handled => handled(line, state, list),
     };
-    tell(
-        out,
-        turn.answer,
-        same_memory(words, messages, &old_words, &old_messages),
-    );
-    turn.n
+    tell(out, answer, *state == old);
 }
 
 // A call from any context; a list has calls from tasks and handlers alone.
-pub fn stray(
-    out: &impl Print,
-    words: &mut [u32; STATE_WORDS],
-    messages: &mut [u32; 256],
-    context: i32,
-    number: i32,
-    a: i32,
-) {
-    let old_words = *words;
-    let old_messages = *messages;
+pub fn stray(out: &impl Print, state: &mut State, context: i32, number: i32, a: i32) {
+    let old = *state;
+    let words = &mut state.words;
+    let messages = &mut state.messages;
     let r = kernel_events::call(words, messages, context, number, a, 0, 0);
-    tell(
-        out,
-        r,
-        same_memory(words, messages, &old_words, &old_messages),
-    );
+    tell(out, r, *state == old);
 }
 
 // ---- at once
 
-fn said(out: &impl Print, text: &[u8], ok: bool) -> bool {
-    say(out, text);
-    ok
-}
-
 // Says what came of a batch; gives whether it was done.
-fn done(out: &impl Print, b: Batch) -> bool {
-    match b {
-        Batch::Done => said(out, b": done", true),
-        Batch::Ragged => said(out, b": ragged", false),
-        Batch::FewCodes => said(out, b": few codes", false),
-        Batch::FewWords => said(out, b": few words", false),
+fn done(out: &impl Print, batch: Result<(), Unfit>) -> bool {
+    match batch {
+        Ok(()) => say(out, b": done"),
+        Err(Unfit::Ragged) => say(out, b": ragged"),
+        Err(Unfit::FewCodes) => say(out, b": few codes"),
+        Err(Unfit::FewWords) => say(out, b": few words"),
     }
+    batch.is_ok()
 }
 
-fn ran(out: &impl Print, r: Ran) -> bool {
-    match r {
-        Ran::Done => done(out, Batch::Done),
-        Ran::Unfit(b) => done(out, b),
-        Ran::Refused(digit, place) => {
-            fault(out, digit, place);
+fn ran(out: &impl Print, run: Result<(), RunError>) -> bool {
+    match run {
+        Ok(()) => done(out, Ok(())),
+        Err(RunError::Unfit(unfit)) => done(out, Err(unfit)),
+        Err(RunError::Refused(refusal)) => {
+            fault(out, u32::from(refusal.fault), refusal.place);
             false
         }
     }
 }
 
-// Whether an answer was written as the one to event i.
-fn is_written(r: Answer, codes: &[i32; EVENTS], answers: &[u32; ANSWER_WORDS], i: usize) -> bool {
-    if EVENTS <= i {
-        return false;
-    }
-    let k = 4 * i;
-    codes[i] == r.code
-        && answers[k] == r.w1
-        && answers[k + 1] == r.w2
-        && answers[k + 2] == r.running
-        && answers[k + 3] == r.released
+// The places for the answers to a list's events.
+#[derive(Clone, Copy)]
+struct Written {
+    codes: [i32; EVENTS],
+    answers: [[u32; 4]; EVENTS],
 }
 
-// The answer to event i of n; behind them there is none.
-fn expected(
-    words: &mut [u32; STATE_WORDS],
-    messages: &mut [u32; 256],
-    list: &[i32; LIST_WORDS],
-    n: usize,
-    i: usize,
-) -> Answer {
-    if i < n {
-        served(words, messages, list, i)
-    } else {
-        blank()
-    }
+// Whether an answer was written as the one to event i.
+fn is_written(r: Answer, w: &Written, i: usize) -> bool {
+    w.codes.get(i).copied() == Some(r.code)
+        && w.answers.get(i).copied() == Some([r.w1, r.w2, r.running, r.released])
 }
 
 // Whether the first n events one by one give the answers that were written; behind them nothing is.
-fn replayed(
-    words: &mut [u32; STATE_WORDS],
-    messages: &mut [u32; 256],
-    list: &[i32; LIST_WORDS],
-    n: usize,
-    codes: &[i32; EVENTS],
-    answers: &[u32; ANSWER_WORDS],
-) -> bool {
-    let mut i: usize = 0;
-    while i < EVENTS {
-        let r = expected(words, messages, list, n, i);
-        if !is_written(r, codes, answers, i) {
+fn replayed(state: &mut State, list: &List, n: usize, w: &Written) -> bool {
+    for i in 0..EVENTS {
+        let r = if i < n { served(state, list, i) } else { BLANK };
+        if !is_written(r, w, i) {
             return false;
         }
-        i += 1;
     }
     true
 }
 
 // A length that falls short by number k of the line.
-fn short(line: &[u8], k: u32, whole: usize) -> usize {
+fn short(line: &[u8], k: u32, whole: usize) -> usize
+    ensures { result ≤ whole }
+{
     whole - upto(line, k, whole)
 }
 
-// The first n events of the list at once, by `run` over the setup or by `events`, with the lengths that the line says. Gives whether
-// they were done.
+// The events of the list at once, by `run` over a setup or by `events`, with the lengths that the line says. Gives whether they
+// were done.
 fn batch(
     out: &impl Print,
     line: &[u8],
-    by_run: bool,
-    setup: &[u8],
-    words: &mut [u32; STATE_WORDS],
-    messages: &mut [u32; 256],
-    list: &[i32],
-    codes: &mut [i32],
-    answers: &mut [u32],
-    n: usize,
+    setup: Option<&[u8; SETUP]>,
+    state: &mut State,
+    list: &List,
+    codes: &mut [i32; EVENTS],
+    answers: &mut [[u32; 4]; EVENTS],
 ) -> bool {
-    if EVENTS < n {
-        return false;
-    }
+    let n = list.n.min(EVENTS);
     let e = short(line, 1, 5 * n);
     let c = short(line, 2, n);
     let a = short(line, 3, 4 * n);
-    let bytes = upto(line, 4, 160);
-    if list.len() < e {
-        return false;
-    }
-    if codes.len() < c {
-        return false;
-    }
-    if answers.len() < a {
-        return false;
-    }
-    if setup.len() < bytes {
-        return false;
-    }
-    if by_run {
-        return ran(
+    let words = &mut state.words;
+    let messages = &mut state.messages;
+    let events = &list.events.as_flattened()[..e];
+    let codes = &mut codes[..c];
+    let answers = &mut answers.as_flattened_mut()[..a];
+    match setup {
+        Some(setup) => {
+            let setup = &setup[..upto(line, 4, SETUP)];
+            ran(
+                out,
+                kernel_batches::run(setup, words, messages, events, codes, answers),
+            )
+        }
+        None => done(
             out,
-            kernel_batches::run(
-                &setup[0..bytes],
-                words,
-                messages,
-                &list[0..e],
-                &mut codes[0..c],
-                &mut answers[0..a],
-            ),
-        );
-    }
-    done(
-        out,
-        kernel_batches::events(
-            words,
-            messages,
-            &list[0..e],
-            &mut codes[0..c],
-            &mut answers[0..a],
+            kernel_batches::events(words, messages, events, codes, answers),
         ),
-    )
+    }
 }
 
 // A batch that is done must answer and leave the state as the events one by one do, one that is not must leave all as it was.
 pub fn at_once(
     out: &impl Print,
     line: &[u8],
-    by_run: bool,
-    setup: &[u8; 160],
-    words: &[u32; STATE_WORDS],
-    messages: &[u32; 256],
-    list: &[i32; LIST_WORDS],
-    n: usize,
+    setup: Option<&[u8; SETUP]>,
+    first: &State,
+    list: &List,
 ) {
-    let mut all_words = *words;
-    let mut all_messages = *messages;
-    let mut codes = [77i32; EVENTS];
-    let mut answers = [77u32; ANSWER_WORDS];
+    let mut all = *first;
+    let mut w = Written {
+        codes: [77; EVENTS],
+        answers: [[77; 4]; EVENTS],
+    };
     let ok = batch(
         out,
         line,
-        by_run,
         setup,
-        &mut all_words,
-        &mut all_messages,
+        &mut all,
         list,
-        &mut codes,
-        &mut answers,
-        n,
+        &mut w.codes,
+        &mut w.answers,
     );
-    let mut one_words = *words;
-    let mut one_messages = *messages;
-    let m = if ok { n } else { 0 };
-    let same = replayed(&mut one_words, &mut one_messages, list, m, &codes, &answers);
-    verdict(
-        out,
-        b", as one by one",
-        same && same_memory(&one_words, &one_messages, &all_words, &all_messages),
-    );
+    let mut one = *first;
+    let n = if ok { list.n } else { 0 };
+    let same = replayed(&mut one, list, n, &w);
+    verdict(out, b", as one by one", same && one == all);
     say(out, b"\n");
 }

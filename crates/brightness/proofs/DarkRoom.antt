@@ -21,9 +21,8 @@ use Rattle.rules.proofs.Events.{cell_reads, event_served, event_next}
 use Rattle.memory_picture.specs.Picture.{Memory, view_in, SoundIn}
 use Rattle.kernel_steps.specs.Steps.{Reply, told, Link, Step, Chain}
 use Rattle.brightness_curve.specs.declared.Curve.{Curve}
-use Rattle.brightness_curve.specs.declared.Judged.{Judged}
-use Rattle.brightness_curve.specs.declared.Judged.TheVariants.{Good, BadPoint}
-use Rattle.brightness_curve.specs.Curves.{judged_of}
+use Rattle.std.specs.Prelude.{Ok, Err}
+use Rattle.brightness_curve.specs.Curves.{Judged, good, judged_of}
 use Rattle.brightness_light.specs.declared.Light.{Light}
 use Rattle.brightness_light.specs.declared.News.TheVariants.{Set, Waits, Stays}
 use Rattle.brightness_light.specs.declared.Shown.{Shown}
@@ -67,8 +66,8 @@ module _ (t : ℕ) (i : task_word t ≡ pos t) (m : Memory) where
   broken_stays I c s l r e R = go (judged_of c) refl
     where
       go : (j : Judged) → judged_of c ≡ j → r.light.level ≡ l.level
-      go (BadPoint k) f = ap (λ (x : Shown). x.light.level) (R.bad k f)
-      go Good f =
+      go (Err k) f = ap (λ (x : Shown). x.light.level) (R.bad k.0 f)
+      go (Ok u) f =
           let G = R.good f in
           either G (λ x. x.light.level ≡ l.level) refl
           (λ g. ap (λ (x : Light). x.level) (no_reading_stays c s (idle l) G.code G.word (λ z. not_0 (sym (own broken I e G g).0 ∙ z))))
@@ -124,15 +123,15 @@ module _ {c : Curve} {s : List ℕ} {l : Light} {r : Shown} (n : r.news ≡ Set 
   receive_unset R = go (judged_of c) refl
     where
       go : (j : Judged) → judged_of c ≡ j → r.light.level ≡ l.level
-      go (BadPoint k) f = ap (λ (x : Shown). x.light.level) (R.bad k f).0
-      go Good f = let G = R.good f in ap (λ (x : Shown). x.light.level) G.shows ∙ heard_unset c s l G.caller G.reply.code G.reply.w1 (rw G.shows at n)
+      go (Err k) f = ap (λ (x : Shown). x.light.level) (R.bad k.0 f).0
+      go (Ok u) f = let G = R.good f in ap (λ (x : Shown). x.light.level) G.shows ∙ heard_unset c s l G.caller G.reply.code G.reply.w1 (rw G.shows at n)
 
   pub resumed_unset : {m : Memory} → Resumes c s l m r → r.light.level ≡ l.level
   resumed_unset R = go (judged_of c) refl
     where
       go : (j : Judged) → judged_of c ≡ j → r.light.level ≡ l.level
-      go (BadPoint k) f = ap (λ (x : Shown). x.light.level) (R.bad k f)
-      go Good f = let G = R.good f in ap (λ (x : Shown). x.light.level) G.shows ∙ woken_unset c s l G.task G.code G.word (rw G.shows at n)
+      go (Err k) f = ap (λ (x : Shown). x.light.level) (R.bad k.0 f)
+      go (Ok u) f = let G = R.good f in ap (λ (x : Shown). x.light.level) G.shows ∙ woken_unset c s l G.task G.code G.word (rw G.shows at n)
 
 -- no level comes about that the curve does not give
 module _ {c : Curve} {s : List ℕ} {l : Light} {r : Shown} (h : Given c l.level) where
@@ -140,15 +139,15 @@ module _ {c : Curve} {s : List ℕ} {l : Light} {r : Shown} (h : Given c l.level
   receive_given R = go (judged_of c) refl
     where
       go : (j : Judged) → judged_of c ≡ j → Given c r.light.level
-      go (BadPoint k) f = rw (R.bad k f).0 h
-      go Good f = let G = R.good f in rw G.shows (heard_or_given c s l (Given c) h (λ g x. record { lux = x; level = refl }) G.caller G.reply.code G.reply.w1)
+      go (Err k) f = rw (R.bad k.0 f).0 h
+      go (Ok u) f = let G = R.good f in rw G.shows (heard_or_given c s l (Given c) h (λ g x. record { lux = x; level = refl }) G.caller G.reply.code G.reply.w1)
 
   pub resumed_given : {m : Memory} → Resumes c s l m r → Given c r.light.level
   resumed_given R = go (judged_of c) refl
     where
       go : (j : Judged) → judged_of c ≡ j → Given c r.light.level
-      go (BadPoint k) f = rw (R.bad k f) h
-      go Good f = let G = R.good f in rw G.shows (woken_or_given c s l (Given c) h (λ g x. record { lux = x; level = refl }) G.task G.code G.word)
+      go (Err k) f = rw (R.bad k.0 f) h
+      go (Ok u) f = let G = R.good f in rw G.shows (woken_or_given c s l (Given c) h (λ g x. record { lux = x; level = refl }) G.task G.code G.word)
 
 waits_not_set : (r : Shown) → r.news ≡ Waits → r.news ≡ Set → ⊥
 waits_not_set r e f = let z : ◌≡◌ {A = ℕ} 0 1 = cc in omega arith
@@ -180,17 +179,17 @@ answered {e} {old} S A =
     (ap (λ (q : Reply). q.code) f, ap (λ (q : Reply). q.w1) f)
 
 -- what is heard of a message, and of a refusal
-heard_message : (c : Curve) (s : List ℕ) (l : Light) (me j : ℕ) → judged_of c ≡ Good → heard_of c s l me (pos 0) j ≡ read_of c s (idle l) j
+heard_message : (c : Curve) (s : List ℕ) (l : Light) (me j : ℕ) → judged_of c ≡ good → heard_of c s l me (pos 0) j ≡ read_of c s (idle l) j
 unfolding heard_of taken_of
 heard_message c s l me j g = rw g
 
-heard_refusal : (c : Curve) (s : List ℕ) (l : Light) (me w : ℕ) (z : ℤ) → judged_of c ≡ Good → negative z ≡ true → heard_of c s l me z w ≡ shown l Stays
+heard_refusal : (c : Curve) (s : List ℕ) (l : Light) (me w : ℕ) (z : ℤ) → judged_of c ≡ good → negative z ≡ true → heard_of c s l me z w ≡ shown l Stays
 unfolding heard_of taken_of
 heard_refusal c s l me w (pos k) g n = absurd (true≢false (sym n))
 heard_refusal c s l me w (negsuc k) g n = rw g
 
 -- A message that lies first in the mailbox gives its slot's level, unless the call was refused and the light is as it was.
-pub lying_gives : {c : Curve} {s : List ℕ} {l : Light} {a : ℤ} {old new : Memory} {r : Shown} → judged_of c ≡ Good → Receives c s l a old r new
+pub lying_gives : {c : Curve} {s : List ℕ} {l : Light} {a : ℤ} {old new : Memory} {r : Shown} → judged_of c ≡ good → Receives c s l a old r new
     → (j : ℕ) (more : List ℕ) → mail_in old a ≡ j ∷ more → (r.news ≡ Stays → ⊥) → r ≡ read_of c s (idle l) j
 unfolding number
 lying_gives {c} {s} {l} {a} {old} {new} {r} g R j more e n = go (negative G.reply.code) refl

@@ -8,8 +8,7 @@ use Rattle.rules.specs.Broken.{is_fresh, Unless, BreaksOff}
 use Rattle.memory_picture.specs.Picture.{Memory, view_in}
 use Rattle.kernel_steps.specs.Steps.{Link}
 use Rattle.brightness_curve.specs.declared.Curve.{Curve}
-use Rattle.brightness_curve.specs.declared.Judged.TheVariants.{Good}
-use Rattle.brightness_curve.specs.Curves.{judged_of}
+use Rattle.brightness_curve.specs.Curves.{good, judged_of}
 use Rattle.brightness_light.specs.declared.Light.{Light}
 use Rattle.brightness_light.specs.declared.News.TheVariants.{Waits}
 use Rattle.brightness_light.specs.declared.Shown.{Shown}
@@ -52,4 +51,4 @@ waiters_in m a = line (view_in m) (waiters mailbox (nat a))
 -- whatever `resumed` makes of a light that waits for task t, by a good curve and once that task runs, is what message j gives: its slot's level
 abbrev pub GivesSlot : ℕ → ℕ → Memory → Type 0
 GivesSlot t j m =
-    (c : Curve) (s : List ℕ) (l : Light) (r : Shown) → judged_of c ≡ Good → l.waits ≡ t → Resumes c s l m r → (r.news ≡ Waits → ⊥) → r ≡ read_of c s (idle l) j
+    (c : Curve) (s : List ℕ) (l : Light) (r : Shown) → judged_of c ≡ good → l.waits ≡ t → Resumes c s l m r → (r.news ≡ Waits → ⊥) → r ≡ read_of c s (idle l) j

@@ -5,7 +5,7 @@ use Rattle.memory_picture.specs.Picture.{Memory}
 use Rattle.kernel_steps.specs.Steps.{Reply, Step}
 use Rattle.kernel_cells.specs.Promises.{Reads, Runs}
 use Rattle.brightness_curve.specs.declared.Curve.{Curve}
-use Rattle.brightness_curve.specs.declared.Judged.TheVariants.{Good, BadPoint}
+use Rattle.brightness_curve.specs.Curves as Curves
 use Rattle.brightness_curve.specs.Curves.{judged_of}
 use Rattle.brightness_light.specs.declared.Light.{Light}
 use Rattle.brightness_light.specs.declared.News.TheVariants.{BadCurve}
@@ -24,8 +24,8 @@ pub record Received (c : Curve) (s : List ℕ) (l : Light) (a : ℤ) (old : Memo
 
 -- A bad curve is refused with its first bad point, and nothing was called.
 pub record Receives (c : Curve) (s : List ℕ) (l : Light) (a : ℤ) (old : Memory) (r : Shown) (new : Memory) : Type 0 where
-  pub bad : (k : ℕ) → judged_of c ≡ BadPoint k → (r ≡ shown l (BadCurve k)) × (new ≡ old)
-  pub good : judged_of c ≡ Good → Received c s l a old r new
+  pub bad : (k : ℕ) → judged_of c ≡ Curves.bad k → (r ≡ shown l (BadCurve k)) × (new ≡ old)
+  pub good : judged_of c ≡ Curves.good → Received c s l a old r new
 
 -- ---- at release
 
@@ -44,5 +44,5 @@ pub record Resumed (c : Curve) (s : List ℕ) (l : Light) (m : Memory) (r : Show
 
 -- A bad curve is refused with its first bad point.
 pub record Resumes (c : Curve) (s : List ℕ) (l : Light) (m : Memory) (r : Shown) : Type 0 where
-  pub bad : (k : ℕ) → judged_of c ≡ BadPoint k → r ≡ shown l (BadCurve k)
-  pub good : judged_of c ≡ Good → Resumed c s l m r
+  pub bad : (k : ℕ) → judged_of c ≡ Curves.bad k → r ≡ shown l (BadCurve k)
+  pub good : judged_of c ≡ Curves.good → Resumed c s l m r

@@ -13,7 +13,7 @@ ghost use Rattle.std.specs.Prelude.{◌≡◌};
 ghost use Rattle.memory_picture.specs.Picture.{memory};
 ghost use Rattle.brightness.specs.Readings.{task_word, Receives, Resumes};
 
-use brightness_curve::{Curve, Judged, judge};
+use brightness_curve::{BadPoint, Curve, judge};
 use brightness_light::{Light, News, Shown, heard, woken};
 use kernel_cells::{cell, running};
 use kernel_events::call;
@@ -26,17 +26,11 @@ const RCV_MSG: i32 = 21;
 
 const UNUSED: i32 = 0;
 
-// No task has an id above this.
-const MAX_ID: u32 = 2147483647;
-
 // A task's id as a word of the kernel; 0, which names nobody, for a number that is no id.
 fn task_word(task: u32) -> i32
     ensures { result ≡ task_word task }
 {
-    if MAX_ID < task {
-        return 0;
-    }
-    task as i32
+    i32::try_from(task).unwrap_or(0)
 }
 
 // The running task asks the mailbox for a reading: it is taken at once, or the task waits. A bad curve is refused before the call.
@@ -51,17 +45,13 @@ pub fn receive(
     ensures { Receives curve slots.now light mailbox (memory words.old messages.old) result
         (memory words.new messages.new) }
 {
-    match judge(curve) {
-        Judged::BadPoint(point) => Shown {
-            light,
-            news: News::BadCurve(point),
-        },
-        Judged::Good => {
-            let me = running(words, messages);
-            let answer = call(words, messages, TASK, RCV_MSG, mailbox, UNUSED, UNUSED);
-            heard(curve, slots, light, me, answer.code, answer.w1)
-        }
+    if let Err(BadPoint(point)) = judge(curve) {
+        let news = News::BadCurve(point);
+        return Shown { light, news };
     }
+    let me = running(words, messages);
+    let answer = call(words, messages, TASK, RCV_MSG, mailbox, UNUSED, UNUSED);
+    heard(curve, slots, light, me, answer.code, answer.w1)
 }
 
 // Once the task that waits for a reading runs again: what its cell holds is taken, and the wait is over. As long as
@@ -75,15 +65,11 @@ pub fn resumed(
 ) -> Shown
     ensures { Resumes curve slots.now light (memory words.now messages.now) result }
 {
-    match judge(curve) {
-        Judged::BadPoint(point) => Shown {
-            light,
-            news: News::BadCurve(point),
-        },
-        Judged::Good => {
-            let me = running(words, messages);
-            let read = cell(words, messages, task_word(me));
-            woken(curve, slots, light, me, read.code, read.word)
-        }
+    if let Err(BadPoint(point)) = judge(curve) {
+        let news = News::BadCurve(point);
+        return Shown { light, news };
     }
+    let me = running(words, messages);
+    let read = cell(words, messages, task_word(me));
+    woken(curve, slots, light, me, read.code, read.word)
 }

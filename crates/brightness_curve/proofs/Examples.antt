@@ -3,10 +3,8 @@ use mathlib.Core.List.{List, [], ◌∷◌, map}
 use mathlib.Core.Path.{◌≡◌, refl}
 use Prim.Native.Nat.{ℕ}
 use Rattle.brightness_curve.specs.declared.Curve.{Curve}
-use Rattle.brightness_curve.specs.declared.Judged.TheVariants.{Good, BadPoint}
-use Rattle.brightness_curve.specs.declared.Leveled.TheVariants as Leveled
-use Rattle.brightness_curve.specs.declared.Leveled.TheVariants.{Level}
-use Rattle.brightness_curve.specs.Curves.{points_from, judged_from, judged_points, judged_of, between, level_from, level_at, level_on, level_of, first_of}
+use Rattle.std.specs.Prelude.{Ok}
+use Rattle.brightness_curve.specs.Curves.{good, bad, points_from, judged_from, judged_points, judged_of, between, level_from, level_at, level_on, level_of, first_of}
 
 curve : ℕ → List ℕ → List ℕ → Curve
 curve n x y = record { count = n; lux = x; level = y }
@@ -26,12 +24,12 @@ unfolding curve rising points_from level_at level_from between
 outside_the_ends = refl
 
 -- one point is a curve
-one_point : map (level_of (curve 1 (500 ∷ []) (77 ∷ []))) (0 ∷ 500 ∷ 65535 ∷ []) ≡ Level 77 ∷ Level 77 ∷ Level 77 ∷ []
+one_point : map (level_of (curve 1 (500 ∷ []) (77 ∷ []))) (0 ∷ 500 ∷ 65535 ∷ []) ≡ Ok 77 ∷ Ok 77 ∷ Ok 77 ∷ []
 unfolding curve judged_of judged_points judged_from points_from level_at level_from between
 one_point = refl
 
 -- The level starts at the first point's.
-starts_at_first : first_of rising ≡ Level 10
+starts_at_first : first_of rising ≡ Ok 10
 unfolding curve rising judged_of judged_points judged_from points_from
 starts_at_first = refl
 
@@ -41,7 +39,7 @@ unfolding curve points_from level_at level_from between
 widest = refl
 
 -- 0 for a bad count, tried first, even if a point is bad too
-bad_counts : map judged_of (curve 0 (65536 ∷ []) (0 ∷ []) ∷ curve 17 (65536 ∷ []) (0 ∷ []) ∷ []) ≡ BadPoint 0 ∷ BadPoint 0 ∷ []
+bad_counts : map judged_of (curve 0 (65536 ∷ []) (0 ∷ []) ∷ curve 17 (65536 ∷ []) (0 ∷ []) ∷ []) ≡ bad 0 ∷ bad 0 ∷ []
 unfolding curve judged_of judged_points judged_from points_from
 bad_counts = refl
 
@@ -52,16 +50,16 @@ bad_points : map judged_of
     ∷ curve 2 (5 ∷ 5 ∷ []) (0 ∷ 0 ∷ [])
     ∷ curve 3 (5 ∷ 6 ∷ 7 ∷ []) (9 ∷ 9 ∷ 8 ∷ [])
     ∷ [])
-    ≡ BadPoint 1 ∷ BadPoint 1 ∷ BadPoint 2 ∷ BadPoint 3 ∷ []
+    ≡ bad 1 ∷ bad 1 ∷ bad 2 ∷ bad 3 ∷ []
 unfolding curve judged_of judged_points judged_from points_from
 bad_points = refl
 
 -- The first of two bad ones is named, and points behind the count are no part of the curve.
-first_bad_point : map judged_of (curve 3 (5 ∷ 4 ∷ 3 ∷ []) (0 ∷ 0 ∷ 300 ∷ []) ∷ curve 1 (5 ∷ 4 ∷ 3 ∷ []) (0 ∷ 0 ∷ 300 ∷ []) ∷ []) ≡ BadPoint 2 ∷ Good ∷ []
+first_bad_point : map judged_of (curve 3 (5 ∷ 4 ∷ 3 ∷ []) (0 ∷ 0 ∷ 300 ∷ []) ∷ curve 1 (5 ∷ 4 ∷ 3 ∷ []) (0 ∷ 0 ∷ 300 ∷ []) ∷ []) ≡ bad 2 ∷ good ∷ []
 unfolding curve judged_of judged_points judged_from points_from
 first_bad_point = refl
 
 -- A bad curve is refused with the first bad point, at every lux.
-refused : map (level_of (curve 2 (5 ∷ 5 ∷ []) (0 ∷ 1 ∷ []))) (0 ∷ 5 ∷ 9 ∷ []) ≡ Leveled.BadPoint 2 ∷ Leveled.BadPoint 2 ∷ Leveled.BadPoint 2 ∷ []
+refused : map (level_of (curve 2 (5 ∷ 5 ∷ []) (0 ∷ 1 ∷ []))) (0 ∷ 5 ∷ 9 ∷ []) ≡ bad 2 ∷ bad 2 ∷ bad 2 ∷ []
 unfolding curve judged_of judged_points judged_from points_from
 refused = refl

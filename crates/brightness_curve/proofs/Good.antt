@@ -8,11 +8,8 @@ use native.Mathlib.Omega.{arith}
 use lib.Dec.{leb}
 use borrow.Author.Tests.{ltb-true, leb-true, le-leb}
 use Rattle.brightness_curve.specs.declared.Curve.{Curve}
-use Rattle.brightness_curve.specs.declared.Judged.{Judged}
-use Rattle.brightness_curve.specs.declared.Judged.TheVariants.{Good, BadPoint}
-use Rattle.brightness_curve.specs.declared.Leveled.TheVariants as Leveled
-use Rattle.brightness_curve.specs.declared.Leveled.TheVariants.{Level}
-use Rattle.brightness_curve.specs.Curves.{Point, point_at, points_from, points_of, in_range, follows, judged_from, judged_points, judged_of, if_good, InRange, Rises}
+use Rattle.brightness_curve.specs.declared.Point.{Point}
+use Rattle.brightness_curve.specs.Curves.{good, bad, point_at, points_from, points_of, in_range, follows, judged_from, judged_points, judged_of, InRange, Rises}
 
 -- ---- the points that are left
 
@@ -42,39 +39,39 @@ module _ (c : Curve) where
 
   -- ---- judging
 
-  pub bad_count : leb 1 c.count && leb c.count 16 ≡ false → judged_of c ≡ BadPoint 0
+  pub bad_count : leb 1 c.count && leb c.count 16 ≡ false → judged_of c ≡ bad 0
   unfolding judged_of
   bad_count e = rw e
 
   module _ (l : 1 ≤ c.count) (m : c.count ≤ 16) {t : Bool} (e : t ≡ in_range (point_at c 0)) where
-    judge_first : judged_of c ≡ cond t (judged_from 2 (point_at c 0) (left c 1)) (BadPoint 1)
+    judge_first : judged_of c ≡ cond t (judged_from 2 (point_at c 0) (left c 1)) (bad 1)
     unfolding judged_of judged_points
     judge_first = rw (le-leb 1 c.count l, le-leb c.count 16 m, left_all, left_next_lem 0 l, e)
 
     pub first_good : t ≡ true → judged_of c ≡ judged_from 2 (point_at c 0) (left c 1)
     first_good f = rw f at judge_first
 
-    pub first_bad_lem : t ≡ false → judged_of c ≡ BadPoint 1
+    pub first_bad_lem : t ≡ false → judged_of c ≡ bad 1
     first_bad_lem f = rw f at judge_first
 
   module _ {k : ℕ} (p : Point) (h : k < c.count) {t : Bool} (e : t ≡ in_range (point_at c k) && follows p (point_at c k)) where
-    judge_next : judged_from (k + 1) p (left c k) ≡ cond t (judged_from (k + 1 + 1) (point_at c k) (left c (k + 1))) (BadPoint (k + 1))
+    judge_next : judged_from (k + 1) p (left c k) ≡ cond t (judged_from (k + 1 + 1) (point_at c k) (left c (k + 1))) (bad (k + 1))
     unfolding judged_from
     judge_next = rw (left_next_lem k h, e, add-one (k + 1))
 
     pub next_good : t ≡ true → judged_from (k + 1) p (left c k) ≡ judged_from (k + 1 + 1) (point_at c k) (left c (k + 1))
     next_good f = rw f at judge_next
 
-    pub next_bad : t ≡ false → judged_from (k + 1) p (left c k) ≡ BadPoint (k + 1)
+    pub next_bad : t ≡ false → judged_from (k + 1) p (left c k) ≡ bad (k + 1)
     next_bad f = rw f at judge_next
 
-  pub judge_last : {k : ℕ} (p : Point) → c.count ≤ k → judged_from (k + 1) p (left c k) ≡ Good
+  pub judge_last : {k : ℕ} (p : Point) → c.count ≤ k → judged_from (k + 1) p (left c k) ≡ good
   unfolding judged_from
   judge_last {k} p h = rw (left_none k h)
 
 -- ---- a good curve
 
-good_bad : {k : ℕ} {A : Type 0} → BadPoint k ≡ Good → A
+good_bad : {k : ℕ} {A : Type 0} → bad k ≡ good → A
 good_bad e = let z : ◌≡◌ {A = ℕ} 0 1 = cc in absurd (omega arith)
 
 both : (s t : Bool) → (s && t) ≡ true → (s ≡ true) × (t ≡ true)
@@ -85,12 +82,12 @@ both false t e = absurd (false≢true e)
 in_range_lem : (p : Point) → in_range p ≡ true → InRange p
 in_range_lem p e = let b = both _ _ e in (leb-true _ _ b.0, leb-true _ _ b.1)
 
-pub good_rises : (k : ℕ) (p : Point) (l : List Point) → judged_from k p l ≡ Good → Rises p l
+pub good_rises : (k : ℕ) (p : Point) (l : List Point) → judged_from k p l ≡ good → Rises p l
 unfolding judged_from
 good_rises k p [] e = tt
 good_rises k p (q ∷ l) e = go (in_range q && follows p q) refl e (good_rises (suc k) q l)
   where
-    go : (t : Bool) → (in_range q && follows p q) ≡ t → cond t (judged_from (suc k) q l) (BadPoint k) ≡ Good → (judged_from (suc k) q l ≡ Good → Rises q l) → Rises p (q ∷ l)
+    go : (t : Bool) → (in_range q && follows p q) ≡ t → cond t (judged_from (suc k) q l) (bad k) ≡ good → (judged_from (suc k) q l ≡ good → Rises q l) → Rises p (q ∷ l)
     go true f g rest =
         let b = both _ _ f in
         let a = both _ _ b.1 in
@@ -104,30 +101,18 @@ pub record Rising (c : Curve) : Type 0 where
   pub first : InRange (point_at c 0)
   pub rises : Rises (point_at c 0) (left c 1)
 
-pub good_rising : (c : Curve) → judged_of c ≡ Good → Rising c
+pub good_rising : (c : Curve) → judged_of c ≡ good → Rising c
 unfolding judged_of
 good_rising c e = go (leb 1 c.count && leb c.count 16) refl e
   where
-    points : (1 ≤ c.count) → (c.count ≤ 16) → (t : Bool) → in_range (point_at c 0) ≡ t → cond t (judged_from 2 (point_at c 0) (left c 1)) (BadPoint 1) ≡ Good → Rising c
+    points : (1 ≤ c.count) → (c.count ≤ 16) → (t : Bool) → in_range (point_at c 0) ≡ t → cond t (judged_from 2 (point_at c 0) (left c 1)) (bad 1) ≡ good → Rising c
     points l m true f g = record { least = l; most = m; first = in_range_lem (point_at c 0) f; rises = good_rises 2 (point_at c 0) (left c 1) g }
     points l m false f g = good_bad g
 
-    go : (t : Bool) → (leb 1 c.count && leb c.count 16) ≡ t → cond t (judged_points (points_of c)) (BadPoint 0) ≡ Good → Rising c
+    go : (t : Bool) → (leb 1 c.count && leb c.count 16) ≡ t → cond t (judged_points (points_of c)) (bad 0) ≡ good → Rising c
     go true f g =
         let b = both _ _ f in
         let l : 1 ≤ c.count = leb-true _ _ b.0 in
         let m : c.count ≤ 16 = leb-true _ _ b.1 in
         points l m (in_range (point_at c 0)) refl (sym (judge_first c l m refl) ∙ e)
     go false f g = good_bad g
-
--- ---- a level, or the first bad point
-
-module _ {r j : Judged} (e : r ≡ j) where
-  pub is_good : r ≡ Good → j ≡ Good
-  is_good g = sym e ∙ g
-
-  pub of_good : {y v : ℕ} → r ≡ Good → y ≡ v → Level y ≡ if_good j v
-  of_good g f = rw (is_good g, f)
-
-  pub of_bad : {k : ℕ} (v : ℕ) → r ≡ BadPoint k → Leveled.BadPoint k ≡ if_good j v
-  of_bad v b = rw (sym e ∙ b)

@@ -9,8 +9,8 @@ use native.Mathlib.Omega.{arith}
 use lib.Dec.{ltb}
 use borrow.Author.Tests.{ltb-true, ltb-false, lt-ltb, le-ltb}
 use Rattle.brightness_curve.specs.declared.Curve.{Curve}
-use Rattle.brightness_curve.specs.declared.Judged.TheVariants.{Good}
-use Rattle.brightness_curve.specs.Curves.{Point, point_at, judged_of, between, level_from, level_at, level_on, Rises, Between}
+use Rattle.brightness_curve.specs.declared.Point.{Point}
+use Rattle.brightness_curve.specs.Curves.{good, point_at, judged_of, between, level_from, level_at, level_on, Rises, Between}
 use Rattle.brightness_curve.proofs.Good.{left, left_all, left_next_lem, left_none, next_rises, Rising, good_rising}
 
 -- ---- between two points
@@ -128,7 +128,7 @@ module _ (c : Curve) (x : ℕ) where
 
 -- ---- a good curve
 
-module _ (c : Curve) (g : judged_of c ≡ Good) where
+module _ (c : Curve) (g : judged_of c ≡ good) where
   R : Rising c
   R = good_rising c g
 

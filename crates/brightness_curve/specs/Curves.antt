@@ -1,12 +1,8 @@
 -- A brightness curve: which one is good, and the level at a lux.
-use Rattle.std.specs.Prelude.{Bool, cond, ◌&&◌, List, [], ◌∷◌, ℕ, zero, suc, ◌+◌, ◌-◌, ◌*◌, ◌/◌, ◌≤◌, ◌<◌, ltb, leb, get_or}
+use Rattle.std.specs.Prelude.{Bool, cond, ◌&&◌, List, [], ◌∷◌, ℕ, zero, suc, ◌+◌, ◌-◌, ◌*◌, ◌/◌, ◌≤◌, ◌<◌, ltb, leb, get_or, Result, Ok, Err}
 use Rattle.brightness_curve.specs.declared.Curve.{Curve}
-use Rattle.brightness_curve.specs.declared.Judged.{Judged}
-use Rattle.brightness_curve.specs.declared.Leveled.{Leveled}
-
-pub record Point : Type 0 where
-  pub lux : ℕ
-  pub level : ℕ
+use Rattle.brightness_curve.specs.declared.Point.{Point}
+use Rattle.brightness_curve.specs.declared.BadPoint.{BadPoint}
 
 abbrev pub point : ℕ → ℕ → Point
 point x y = record { lux = x; level = y }
@@ -26,6 +22,16 @@ points_of c = points_from c 0 c.count
 
 -- ---- a good curve
 
+-- a curve is good, or has a first bad point
+abbrev pub Judged : Type 0
+Judged = Result (Unit {0}) BadPoint
+
+abbrev pub good : Judged
+good = Ok tt
+
+abbrev pub bad : {A : Type 0} → ℕ → Result A BadPoint
+bad k = Err (record { 0 = k })
+
 -- lux 0..65535, level 0..255
 abbrev pub in_range : Point → Bool
 in_range p = leb p.lux 65535 && leb p.level 255
@@ -36,17 +42,17 @@ follows p q = ltb p.lux q.lux && leb p.level q.level
 
 -- the points behind p, the first of which has number k
 unfoldable pub judged_from : ℕ → Point → List Point → Judged
-judged_from k p [] = Judged.Good
-judged_from k p (q ∷ l) = cond (in_range q && follows p q) (judged_from (suc k) q l) (Judged.BadPoint k)
+judged_from k p [] = good
+judged_from k p (q ∷ l) = cond (in_range q && follows p q) (judged_from (suc k) q l) (bad k)
 
 unfoldable pub judged_points : List Point → Judged
-judged_points [] = Judged.Good
-judged_points (p ∷ l) = cond (in_range p) (judged_from 2 p l) (Judged.BadPoint 1)
+judged_points [] = good
+judged_points (p ∷ l) = cond (in_range p) (judged_from 2 p l) (bad 1)
 
 -- The first bad point, counted from 1; 0 for a bad count, which is tried first. Each point is judged whole before the next, and of two
 -- that do not follow each other the later one is bad.
 unfoldable pub judged_of : Curve → Judged
-judged_of c = cond (leb 1 c.count && leb c.count 16) (judged_points (points_of c)) (Judged.BadPoint 0)
+judged_of c = cond (leb 1 c.count && leb c.count 16) (judged_points (points_of c)) (bad 0)
 
 -- ---- the level
 
@@ -68,16 +74,16 @@ abbrev pub level_on : Curve → ℕ → ℕ
 level_on c x = level_at (points_of c) x
 
 -- a level of a good curve; of a bad one its first bad point
-abbrev pub if_good : Judged → ℕ → Leveled
-if_good Judged.Good y = Leveled.Level y
-if_good (Judged.BadPoint k) y = Leveled.BadPoint k
+abbrev pub if_good : {A : Type 0} → Judged → A → Result A BadPoint
+if_good (Ok u) y = Ok y
+if_good (Err k) y = Err k
 
 -- at a lux, however large
-abbrev pub level_of : Curve → ℕ → Leveled
+abbrev pub level_of : Curve → ℕ → Result ℕ BadPoint
 level_of c x = if_good (judged_of c) (level_on c x)
 
 -- the level that a display starts at: the first point's
-abbrev pub first_of : Curve → Leveled
+abbrev pub first_of : Curve → Result ℕ BadPoint
 first_of c = if_good (judged_of c) (point_at c 0).level
 
 -- ---- what holds of a good curve

@@ -3,8 +3,8 @@
 #![tactic(auto)]
 
 ghost use Rattle.std.specs.Prelude.{◌≡◌, ◌&&◌, ◌*◌, ◌/◌, ◌≤◌, ◌<◌};
-ghost use Rattle.brightness_curve.specs.Curves.{point, Between, between, in_range, follows, judged_of, first_of, level_on, level_of};
-ghost use Rattle.brightness_curve.specs.declared.Judged.TheVariants as Judged;
+ghost use Rattle.brightness_curve.specs.Curves.{good, point_at, in_range, follows, judged_of};
+ghost use Rattle.brightness_curve.specs.Curves.{Between, between, first_of, level_on, level_of};
 
 const MAX_POINTS: u32 = 16;
 
@@ -21,73 +21,62 @@ pub struct Curve {
     pub level: [u32; 16],
 }
 
-// Good, or the first bad point, counted from 1; 0 for a bad count.
+// A curve's first bad point, counted from 1; 0 for a bad count.
+#[derive(Clone, Copy, PartialEq, Eq)]
+pub struct BadPoint(pub u32);
+
 #[derive(Clone, Copy)]
-pub enum Judged {
-    Good,
-    BadPoint(u32),
+struct Point {
+    lux: u32,
+    level: u32,
 }
 
-// The level at a lux, or the curve's first bad point.
-#[derive(Clone, Copy)]
-pub enum Leveled {
-    Level(u32),
-    BadPoint(u32),
+// The point behind the first i.
+fn point_at(curve: Curve, i: usize) -> Point
+    requires { i < 16 }
+    ensures { result ≡ point_at curve i }
+{
+    Point {
+        lux: curve.lux[i],
+        level: curve.level[i],
+    }
 }
 
 // ---- a good curve
 
-fn in_range(lux: u32, level: u32) -> bool
-    ensures { result ≡ in_range (point lux level) }
+fn in_range(p: Point) -> bool
+    ensures { result ≡ in_range p }
 {
-    if MAX_LUX < lux {
-        return false;
-    }
-    level <= MAX_LEVEL
+    p.lux <= MAX_LUX && p.level <= MAX_LEVEL
 }
 
-// Is this a good point behind one of lux x and level y?
-fn goes_on(x: u32, y: u32, lux: u32, level: u32) -> bool
-    ensures { result ≡ in_range (point lux level) && follows (point x y) (point lux level) }
+// Is q a good point behind p?
+fn goes_on(p: Point, q: Point) -> bool
+    ensures { result ≡ in_range q && follows p q }
 {
-    if !in_range(lux, level) {
-        return false;
-    }
-    if lux <= x {
-        return false;
-    }
-    y <= level
+    in_range(q) && p.lux < q.lux && p.level <= q.level
 }
 
 // Point by point, each whole before the next.
-pub fn judge(curve: Curve) -> Judged
+pub fn judge(curve: Curve) -> Result<(), BadPoint>
     ensures { result ≡ judged_of curve }
 {
     let count = curve.count;
-    if count < 1 {
-        return Judged::BadPoint(0);
+    if count < 1 || MAX_POINTS < count {
+        return Err(BadPoint(0));
     }
-    if MAX_POINTS < count {
-        return Judged::BadPoint(0);
+    let mut last = point_at(curve, 0);
+    if !in_range(last) {
+        return Err(BadPoint(1));
     }
-    let mut x = curve.lux[0];
-    let mut y = curve.level[0];
-    if !in_range(x, y) {
-        return Judged::BadPoint(1);
-    }
-    let mut k: u32 = 1;
-    while k < count {
-        let i = k as usize;
-        let lux = curve.lux[i];
-        let level = curve.level[i];
-        if !goes_on(x, y, lux, level) {
-            return Judged::BadPoint(k + 1);
+    for k in 1..count {
+        let next = point_at(curve, k as usize);
+        if !goes_on(last, next) {
+            return Err(BadPoint(k + 1));
         }
-        x = lux;
-        y = level;
-        k += 1;
+        last = next;
     }
-    Judged::Good
+    Ok(())
 }
 
 // ---- the level
@@ -100,56 +89,45 @@ fn rounded_down(product: u32, rise: u32) -> u32
     product / rise
 }
 
-// From lux x and level y towards lux u and level v.
-fn step_up(x: u32, y: u32, u: u32, v: u32, lux: u32) -> u32
-    requires { Between (point x y) (point u v) lux }
-    ensures { result ≡ between (point x y) (point u v) lux }
+// From p towards q.
+fn step_up(p: Point, q: Point, lux: u32) -> u32
+    requires { Between p q lux }
+    ensures { result ≡ between p q lux }
 {
-    y + rounded_down((lux - x) * (v - y), u - x)
+    p.level + rounded_down((lux - p.lux) * (q.level - p.level), q.lux - p.lux)
 }
 
 // The level at a lux of a good curve.
 fn level_on(curve: Curve, lux: u32) -> u32
-    requires { judged_of curve ≡ Judged.Good }
+    requires { judged_of curve ≡ good }
     ensures { result ≡ level_on curve lux }
 {
-    let count = curve.count;
-    let mut x = curve.lux[0];
-    let mut y = curve.level[0];
-    if lux < x {
-        return y;
+    let mut p = point_at(curve, 0);
+    if lux < p.lux {
+        return p.level;
     }
-    let mut k: u32 = 1;
-    while k < count {
-        let i = k as usize;
-        let u = curve.lux[i];
-        let v = curve.level[i];
-        if lux < u {
-            return step_up(x, y, u, v, lux);
+    for k in 1..curve.count {
+        let q = point_at(curve, k as usize);
+        if lux < q.lux {
+            return step_up(p, q, lux);
         }
-        x = u;
-        y = v;
-        k += 1;
+        p = q;
     }
-    y
+    p.level
 }
 
 // The curve is judged first.
-pub fn level_of(curve: Curve, lux: u32) -> Leveled
+pub fn level_of(curve: Curve, lux: u32) -> Result<u32, BadPoint>
     ensures { result ≡ level_of curve lux }
 {
-    match judge(curve) {
-        Judged::BadPoint(point) => Leveled::BadPoint(point),
-        Judged::Good => Leveled::Level(level_on(curve, lux)),
-    }
+    judge(curve)?;
+    Ok(level_on(curve, lux))
 }
 
 // The level that a display starts at: the first point's.
-pub fn first_level(curve: Curve) -> Leveled
+pub fn first_level(curve: Curve) -> Result<u32, BadPoint>
     ensures { result ≡ first_of curve }
 {
-    match judge(curve) {
-        Judged::BadPoint(point) => Leveled::BadPoint(point),
-        Judged::Good => Leveled::Level(curve.level[0]),
-    }
+    judge(curve)?;
+    Ok(curve.level[0])
 }

@@ -3,65 +3,61 @@ use mathlib.Core.Bool.{true, false}
 use mathlib.Core.List.{List}
 use mathlib.Core.Path.{◌≡◌, refl, sym, ◌∙◌}
 use Prim.Native.Nat.{ℕ}
-use native.Mathlib.Omega.{arith}
 use lib.IntN.{ℤ}
 use lib.ListN.{length}
 use borrow.Author.Tests.{eq-eqb, ne_eqb}
 use Rattle.brightness_curve.specs.declared.Curve.{Curve}
-use Rattle.brightness_curve.specs.declared.Judged.{Judged}
-use Rattle.brightness_curve.specs.declared.Leveled.TheVariants.{Level, BadPoint}
-use Rattle.brightness_curve.specs.Curves.{judged_of, if_good, level_on, first_of}
+use Rattle.std.specs.Prelude.{Ok, Err}
+use Rattle.brightness_curve.specs.declared.BadPoint.{BadPoint}
+use Rattle.brightness_curve.specs.Curves.{Judged, good, judged_of, if_good, level_on}
 use Rattle.brightness_light.specs.declared.Light.{Light}
 use Rattle.brightness_light.specs.declared.News.TheVariants.{Set, Waits, Stays, NoSlot, BadCurve}
 use Rattle.brightness_light.specs.declared.Shown.{Shown}
-use Rattle.brightness_light.specs.Lights.{is_slot, lux_at, shown, lit, awaited, idle, on_good, first_shown, is_ok, is_waits, read_of, taken_of, heard_of, woken_of}
+use Rattle.brightness_light.specs.Lights.{is_slot, lux_at, shown, lit, awaited, idle, on_good, is_ok, is_waits, read_of, taken_of, heard_of, woken_of}
 
 -- ---- a curve that gave a level is good, and that is the level
 
-never : {k y : ℕ} {A : Type 0} → Level y ≡ BadPoint k → A
-never e = let z : ◌≡◌ {A = ℕ} 0 1 = cc in absurd (omega arith)
-
 module _ (j : Judged) (v : ℕ) where
-  module _ {y : ℕ} (e : Level y ≡ if_good j v) where
-    level_good : j ≡ Judged.Good
+  module _ {y : ℕ} (e : Ok y ≡ if_good j v) where
+    level_good : j ≡ good
     level_good = go j e
       where
-        go : (j : Judged) → Level y ≡ if_good j v → j ≡ Judged.Good
-        go Judged.Good e = refl
-        go (Judged.BadPoint k) e = never e
+        go : (j : Judged) → Ok y ≡ if_good j v → j ≡ good
+        go (Ok u) e = refl
+        go (Err k) e = cc
 
     level_is : v ≡ y
     level_is = go j e
       where
-        go : (j : Judged) → Level y ≡ if_good j v → v ≡ y
-        go Judged.Good e = cc
-        go (Judged.BadPoint k) e = never e
+        go : (j : Judged) → Ok y ≡ if_good j v → v ≡ y
+        go (Ok u) e = cc
+        go (Err k) e = cc
 
-  pub on_bad : {k : ℕ} (l : Light) (s : Shown) → BadPoint k ≡ if_good j v → shown l (BadCurve k) ≡ on_good j l s
-  on_bad {k} l s e = go j e
+  pub on_bad : {b : BadPoint} (l : Light) (s : Shown) → Err b ≡ if_good j v → shown l (BadCurve b.0) ≡ on_good j l s
+  on_bad {b} l s e = go j e
     where
-      go : (j : Judged) → BadPoint k ≡ if_good j v → shown l (BadCurve k) ≡ on_good j l s
-      go Judged.Good e = never (sym e)
-      go (Judged.BadPoint n) e = let f : k ≡ n = cc in rw f
+      go : (j : Judged) → Err b ≡ if_good j v → shown l (BadCurve b.0) ≡ on_good j l s
+      go (Ok u) e = cc
+      go (Err n) e = cc
 
 -- ---- an arrival
 
-pub takes_bad : (c : Curve) (s : List ℕ) (l : Light) (code : ℤ) (word : ℕ) {k : ℕ} → BadPoint k ≡ if_good (judged_of c) (level_on c (lux_at s word)) → shown l (BadCurve k) ≡ taken_of c s l code word
+pub takes_bad : (c : Curve) (s : List ℕ) (l : Light) (code : ℤ) (word : ℕ) {b : BadPoint} → Err b ≡ if_good (judged_of c) (level_on c (lux_at s word)) → shown l (BadCurve b.0) ≡ taken_of c s l code word
 unfolding taken_of
 takes_bad c s l code word e = on_bad (judged_of c) _ l _ e
 
-module _ (c : Curve) (s : List ℕ) (l : Light) (code : ℤ) (word : ℕ) {y : ℕ} (e : Level y ≡ if_good (judged_of c) (level_on c (lux_at s word))) where
-  good : judged_of c ≡ Judged.Good
-  good = level_good (judged_of c) _ e
+module _ (c : Curve) (s : List ℕ) (l : Light) (code : ℤ) (word : ℕ) {y : ℕ} (e : Ok y ≡ if_good (judged_of c) (level_on c (lux_at s word))) where
+  is_good : judged_of c ≡ good
+  is_good = level_good (judged_of c) _ e
 
   pub takes_none : is_ok code ≡ false → shown l Stays ≡ taken_of c s l code word
   unfolding taken_of
-  takes_none n = rw (good, n)
+  takes_none n = rw (is_good, n)
 
   module _ (o : is_ok code ≡ true) where
     read : taken_of c s l code word ≡ read_of c s l word
     unfolding taken_of
-    read = rw (good, o)
+    read = rw (is_good, o)
 
     pub takes_no_slot : is_slot word (length s) ≡ false → shown l NoSlot ≡ taken_of c s l code word
     unfolding read_of
@@ -70,15 +66,6 @@ module _ (c : Curve) (s : List ℕ) (l : Light) (code : ℤ) (word : ℕ) {y : �
     pub takes_slot : is_slot word (length s) ≡ true → shown (lit l y) Set ≡ taken_of c s l code word
     unfolding read_of
     takes_slot t = sym (read ∙ simp (t, level_is (judged_of c) _ e))
-
--- ---- the first light
-
-module _ (c : Curve) where
-  pub starts_bad : {k : ℕ} → BadPoint k ≡ first_of c → shown (record { level = 0; waits = 0 }) (BadCurve k) ≡ first_shown c
-  starts_bad e = on_bad (judged_of c) _ _ _ e
-
-  pub starts_good : {y : ℕ} → Level y ≡ first_of c → shown (record { level = y; waits = 0 }) Set ≡ first_shown c
-  starts_good e = rw (level_good (judged_of c) _ e, level_is (judged_of c) _ e)
 
 -- ---- at once
 

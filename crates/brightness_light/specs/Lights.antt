@@ -1,8 +1,7 @@
 -- A light, and what an arrival makes of it.
-use Rattle.std.specs.Prelude.{Bool, true, false, cond, ◌&&◌, List, ◌≡◌, ℕ, zero, suc, eqb, leb, ℤ, pos, negsuc, length, get_or}
+use Rattle.std.specs.Prelude.{Bool, true, false, cond, ◌&&◌, List, ◌≡◌, ℕ, zero, suc, eqb, leb, ℤ, pos, negsuc, length, get_or, Ok, Err}
 use Rattle.brightness_curve.specs.declared.Curve.{Curve}
-use Rattle.brightness_curve.specs.declared.Judged.{Judged}
-use Rattle.brightness_curve.specs.Curves.{point_at, judged_of, level_on}
+use Rattle.brightness_curve.specs.Curves.{Judged, point_at, judged_of, level_on}
 use Rattle.brightness_light.specs.declared.Light.{Light}
 use Rattle.brightness_light.specs.declared.News.{News}
 use Rattle.brightness_light.specs.declared.News.TheVariants.{Set, Waits, Stays, NoSlot, BadCurve}
@@ -56,8 +55,8 @@ idle l = awaited l 0
 
 -- a bad curve is refused with its first bad point
 abbrev pub on_good : Judged → Light → Shown → Shown
-on_good Judged.Good l s = s
-on_good (Judged.BadPoint k) l s = shown l (BadCurve k)
+on_good (Ok u) l s = s
+on_good (Err k) l s = shown l (BadCurve k.0)
 
 -- the level starts at the first point's
 abbrev pub first_shown : Curve → Shown

@@ -7,7 +7,7 @@ ghost use Rattle.std.specs.Prelude.{◌≡◌};
 ghost use Rattle.brightness_light.specs.Lights.{is_slot, lux_at, shown, idle, first_shown, taken_of, heard_of, woken_of};
 ghost use Rattle.brightness_light.specs.declared.News.TheVariants as News;
 
-use brightness_curve::{Curve, Leveled, first_level, level_of};
+use brightness_curve::{BadPoint, Curve, first_level, level_of};
 
 // A code of the kernel: served; the caller waits.
 const OK: i32 = 0;
@@ -36,7 +36,7 @@ pub enum News {
     Stays,
     // the message number is 0 or beyond the slots: the level stays
     NoSlot,
-    // the curve's first bad point: nothing was done
+    // the curve's first bad point: nothing was done, and the light is given back as it was, so this is no `Err`
     BadCurve(u32),
 }
 
@@ -53,27 +53,17 @@ fn is_slot(word: u32, count: usize) -> bool
     ensures { result ≡ is_slot word count }
 {
     let k = word as usize;
-    if k < 1 {
-        return false;
-    }
-    if MAX_SLOTS < k {
-        return false;
-    }
-    k <= count
+    1 <= k && k <= MAX_SLOTS && k <= count
 }
 
 // The lux of that slot; 0 where there is none.
 fn lux_at(slots: &[u32], word: u32) -> u32
     ensures { result ≡ lux_at slots.now word }
 {
-    let k = word as usize;
-    if k < 1 {
+    let Some(k) = word.checked_sub(1) else {
         return 0;
-    }
-    if slots.len() < k {
-        return 0;
-    }
-    slots[k - 1]
+    };
+    slots.get(k as usize).copied().unwrap_or(0)
 }
 
 // ---- a light
@@ -88,10 +78,7 @@ fn show(light: Light, news: News) -> Shown
 fn rested(light: Light) -> Light
     ensures { result ≡ idle light }
 {
-    Light {
-        level: light.level,
-        waits: 0,
-    }
+    Light { waits: 0, ..light }
 }
 
 // The light that a display starts with: the first point's level. Of a bad curve there is none, and the light given is dark.
@@ -99,8 +86,8 @@ pub fn first_light(curve: Curve) -> Shown
     ensures { result ≡ first_shown curve }
 {
     match first_level(curve) {
-        Leveled::BadPoint(point) => show(Light { level: 0, waits: 0 }, News::BadCurve(point)),
-        Leveled::Level(level) => show(Light { level, waits: 0 }, News::Set),
+        Err(BadPoint(point)) => show(Light { level: 0, waits: 0 }, News::BadCurve(point)),
+        Ok(level) => show(Light { level, waits: 0 }, News::Set),
     }
 }
 
@@ -111,17 +98,10 @@ pub fn take(curve: Curve, slots: &[u32], light: Light, code: i32, word: u32) -> 
     let lux = lux_at(slots, word);
     let named = is_slot(word, slots.len());
     match level_of(curve, lux) {
-        Leveled::BadPoint(point) => show(light, News::BadCurve(point)),
-        Leveled::Level(level) => {
-            if code != OK {
-                return show(light, News::Stays);
-            }
-            if !named {
-                return show(light, News::NoSlot);
-            }
-            let waits = light.waits;
-            show(Light { level, waits }, News::Set)
-        }
+        Err(BadPoint(point)) => show(light, News::BadCurve(point)),
+        Ok(_) if code != OK => show(light, News::Stays),
+        Ok(_) if !named => show(light, News::NoSlot),
+        Ok(level) => show(Light { level, ..light }, News::Set),
     }
 }
 
@@ -130,21 +110,22 @@ pub fn heard(curve: Curve, slots: &[u32], light: Light, me: u32, code: i32, word
     ensures { result ≡ heard_of curve slots.now light me code word }
 {
     if code == WAITS {
-        let level = light.level;
-        return show(Light { level, waits: me }, News::Waits);
+        show(Light { waits: me, ..light }, News::Waits)
+    } else if code == OK {
+        take(curve, slots, rested(light), code, word)
+    } else {
+        take(curve, slots, light, code, word)
     }
-    if code == OK {
-        return take(curve, slots, rested(light), code, word);
-    }
-    take(curve, slots, light, code, word)
 }
 
 // What the running task `me` finds in its cell: the reading, if it is the one that waits.
+#[tactic(auto, unfolding(crate::specs::Lights::woken_of))]
 pub fn woken(curve: Curve, slots: &[u32], light: Light, me: u32, code: i32, word: u32) -> Shown
     ensures { result ≡ woken_of curve slots.now light me code word }
 {
-    if light.waits != me {
-        return show(light, News::Waits);
+    if light.waits == me {
+        take(curve, slots, rested(light), code, word)
+    } else {
+        show(light, News::Waits)
     }
-    take(curve, slots, rested(light), code, word)
 }

@@ -1,5 +1,5 @@
 -- The calls on alarms: at each return of the code the rule's verdict is what was answered and done. Assumes nothing.
-use mathlib.Core.Bool.{true, false, not}
+use mathlib.Core.Bool.{Bool, true, false, not}
 use mathlib.Core.List.{List}
 use mathlib.Core.Path.{◌≡◌, refl, ap, ◌∙◌}
 use Prim.Native.Nat.{ℕ, zero, suc, ◌+◌, ◌%◌, ◌^◌, ◌<◌}
@@ -8,8 +8,8 @@ use native.Mathlib.Omega.{arith}
 use lib.Dec.{eqb}
 use lib.IntN.{pos}
 use mir.Syntax.{w32}
-use mir.Val.{Fits}
-use borrow.Author.Tests.{ne_eqb}
+use mir.Val.{Fits, bool_byte}
+use borrow.Author.Tests.{ne_eqb, eqb-true, eqb-false}
 use Rattle.rules.specs.Codes.{number, H-USED, H-IDLE}
 use Rattle.rules.specs.State.{unset, due, in_use, Alarm, alarm_of}
 use Rattle.rules.specs.Acts.{alarm}
@@ -83,13 +83,21 @@ module _ (k : ℕ) {b : List ℕ} {s : Outcome} where
     can_done z g h f m A r = check_passes H-IDLE _ (ap not (reads_used b m k r e z)) (gives_one (alarm k _ unset) refl f (h ∙ rw (g, ← code_shown b m k r A)))
 
     module _ {c : ℕ} (ec : c ≡ entry alarm_code b k) where
-      pub sts_idle : d ≡ 0 → s ≡ outcome (pos 0) 0 c 0 → DoesOnWords (NamesAlarm k) (λ v. alm_sts v (pos k)) s b b
+      sts_idle : d ≡ 0 → s ≡ outcome (pos 0) 0 c 0 → DoesOnWords (NamesAlarm k) (λ v. alm_sts v (pos k)) s b b
       unfolding alm_sts kept_number
       sts_idle z f m A r = gives_none (f ∙ rw (ec, ← code_shown b m k r A, reads_idle b m k r e z))
 
-      pub sts_used : (d ≡ 0 → ⊥) → s ≡ outcome (pos 0) 1 c 0 → DoesOnWords (NamesAlarm k) (λ v. alm_sts v (pos k)) s b b
+      sts_used : (d ≡ 0 → ⊥) → s ≡ outcome (pos 0) 1 c 0 → DoesOnWords (NamesAlarm k) (λ v. alm_sts v (pos k)) s b b
       unfolding alm_sts kept_number
       sts_used z f m A r = gives_none (f ∙ rw (ec, ← code_shown b m k r A, reads_used b m k r e z))
+
+      -- by the test of the code
+      pub sts_told : {n : ℕ} → n ≡ bool_byte (not (eqb d 0)) → s ≡ outcome (pos 0) n c 0 → DoesOnWords (NamesAlarm k) (λ v. alm_sts v (pos k)) s b b
+      sts_told {n} q f = go (eqb d 0) refl
+        where
+          go : (t : Bool) → eqb d 0 ≡ t → DoesOnWords (NamesAlarm k) (λ v. alm_sts v (pos k)) s b b
+          go true z = sts_idle (eqb-true d 0 z) (f ∙ rw (q, z))
+          go false z = sts_used (λ y. let h = eqb-false d 0 z in omega arith) (f ∙ rw (q, z))
 
 -- a remainder of a word, and one more, are words
 pub fits_due : (m n : ℕ) → m < 2 ^ 32 → (m ≡ 0 → ⊥) → Fits w32 (n % m) × Fits w32 (n % m + 1)

@@ -9,7 +9,7 @@ ghost use Rattle.call_alarms.specs.Setting.{SetsAlarm, due_after};
 
 use call_words::codes::{H_IDLE, H_USED};
 use call_words::{Outcome, done, gives, refuse};
-use memory_columns::{COUNTER_NOW, COUNTER_SIZE, STATE_WORDS, alarm_code, alarm_due, counter};
+use memory_columns::{COUNTER_NOW, COUNTER_SIZE, Column, STATE_WORDS};
 use memory_objects::alarms::set_alarm;
 
 // So many ticks after a count, by remainder of the counter's size. The memory keeps an expiry as one more, 0 of an idle
@@ -20,19 +20,18 @@ pub fn due_after(now: u32, n: u32, size: u32) -> u32
     if size == 0 {
         return 0;
     }
-    let sum = (now as u64) + (n as u64);
-    let rest = sum % (size as u64);
-    (rest as u32) + 1
+    let rest = (u64::from(now) + u64::from(n)) % u64::from(size);
+    rest as u32 + 1
 }
 
 // The idle alarm is set.
 fn set_alm(words: &mut [u32; STATE_WORDS], k: u32, due: u32, period: u32) -> Outcome
     ensures { SetsAlarm k due period result words.old words.new }
 {
-    if alarm_due(words, k) != 0 {
+    if Column::AlarmDue.get(words, k) != 0 {
         return refuse(H_USED);
     }
-    let code = alarm_code(words, k);
+    let code = Column::AlarmCode.get(words, k);
     set_alarm(words, k, code, due, period);
     done()
 }
@@ -42,7 +41,7 @@ pub fn set_abs(words: &mut [u32; STATE_WORDS], k: u32, count: u32, period: u32) 
     ensures { DoesOnWords (NamesAlarm k) (λ v. set_abs v (pos k) (pos count) (pos period)) result words.old
         words.new }
 {
-    let size = counter(words, COUNTER_SIZE);
+    let size = Column::Counter.get(words, COUNTER_SIZE);
     let due = due_after(0, count, size);
     set_alm(words, k, due, period)
 }
@@ -52,8 +51,8 @@ pub fn set_rel(words: &mut [u32; STATE_WORDS], k: u32, count: u32, period: u32) 
     ensures { DoesOnWords (NamesAlarm k) (λ v. set_rel v (pos k) (pos count) (pos period)) result words.old
         words.new }
 {
-    let present = counter(words, COUNTER_NOW);
-    let size = counter(words, COUNTER_SIZE);
+    let present = Column::Counter.get(words, COUNTER_NOW);
+    let size = Column::Counter.get(words, COUNTER_SIZE);
     let due = due_after(present, count, size);
     set_alm(words, k, due, period)
 }
@@ -62,10 +61,10 @@ pub fn set_rel(words: &mut [u32; STATE_WORDS], k: u32, count: u32, period: u32) 
 pub fn can_alm(words: &mut [u32; STATE_WORDS], k: u32) -> Outcome
     ensures { DoesOnWords (NamesAlarm k) (λ v. can_alm v (pos k)) result words.old words.new }
 {
-    if alarm_due(words, k) == 0 {
+    if Column::AlarmDue.get(words, k) == 0 {
         return refuse(H_IDLE);
     }
-    let code = alarm_code(words, k);
+    let code = Column::AlarmCode.get(words, k);
     set_alarm(words, k, code, 0, 0);
     done()
 }
@@ -74,9 +73,6 @@ pub fn can_alm(words: &mut [u32; STATE_WORDS], k: u32) -> Outcome
 pub fn alm_sts(words: &[u32; STATE_WORDS], k: u32) -> Outcome
     ensures { DoesOnWords (NamesAlarm k) (λ v. alm_sts v (pos k)) result words.now words.now }
 {
-    let code = alarm_code(words, k);
-    if alarm_due(words, k) == 0 {
-        return gives(0, code);
-    }
-    gives(1, code)
+    let in_use = Column::AlarmDue.get(words, k) != 0;
+    gives(u32::from(in_use), Column::AlarmCode.get(words, k))
 }

@@ -1,11 +1,10 @@
 // A call by its number, on a memory that is known to be sound (`Dispatches`): what is judged of any call, then the
-// call's own rule. `handler` says that an open handler calls, `me` is the task that calls, 0 if none does. Each arm is
-// a row of the paper's table.
+// call's own rule. Each arm is a row of the paper's table.
 #![tactic(auto)]
 
 pub mod numbers;
 
-ghost use Rattle.call_dispatch.specs.Dispatching.{Dispatches};
+ghost use Rattle.call_dispatch.specs.Dispatching.{answered, Dispatches};
 
 use crate::numbers::ALM_STS;
 use crate::numbers::CAN_ALM;
@@ -54,12 +53,10 @@ use call_flag_walk::set_flg;
 use call_flags::clr_flg;
 use call_flags::pol_flg;
 use call_flags::wai_flg;
-use call_judging::ALIVE;
-use call_judging::ANOTHER;
-use call_judging::ANYONE;
-use call_judging::BOTH;
-use call_judging::TASK_ONLY;
-use call_judging::UNNAMED;
+use call_judging::Caller;
+use call_judging::Context;
+use call_judging::Reason;
+use call_judging::Target;
 use call_judging::on_alarm;
 use call_judging::on_flag;
 use call_judging::on_message;
@@ -100,7 +97,6 @@ use call_wakeups::wup_tsk;
 use call_words::Outcome;
 use call_words::bits_of;
 use call_words::codes::H_CALL;
-use call_words::codes::OK;
 use call_words::named;
 use call_words::refuse;
 use memory_columns::FLAG;
@@ -113,179 +109,197 @@ use memory_columns::SEMAPHORE;
 use memory_columns::SEMAPHORES;
 use memory_columns::STATE_WORDS;
 
-pub fn dispatch(
+// What is judged refuses the call, or its rule is done.
+fn serve(
     words: &mut [u32; STATE_WORDS],
     messages: &mut [u32; 256],
-    handler: bool,
-    me: u32,
+    caller: Caller,
     n: u32,
     a: i32,
     b: i32,
     c: i32,
-) -> Outcome
-    ensures { Dispatches handler me n a b c result words.old messages.old words.new
+) -> Result<Outcome, Reason>
+    ensures { Dispatches caller.handler caller.me n a b c (answered result) words.old messages.old words.new
         messages.new }
 {
     let i = named(a);
     let j = named(b);
     let p = bits_of(b);
     match n {
-        STA_TSK => match on_task(words, BOTH, ANYONE, handler, me, i) {
-            OK => sta_tsk(words, i),
-            e => refuse(e),
-        },
-        EXT_TSK => match on_nothing(words, TASK_ONLY, handler, me) {
-            OK => ter_tsk(words, me),
-            e => refuse(e),
-        },
-        TER_TSK => match on_task(words, TASK_ONLY, ANOTHER, handler, me, i) {
-            OK => ter_tsk(words, i),
-            e => refuse(e),
-        },
-        CHG_PRI => match on_priority(words, BOTH, ALIVE, handler, me, i, j) {
-            OK => chg_pri(words, i, j),
-            e => refuse(e),
-        },
-        ROT_RDQ => match on_queue(words, handler, me, a) {
-            OK => rot_rdq(words, i),
-            e => refuse(e),
-        },
-        REL_WAI => match on_task(words, BOTH, ANYONE, handler, me, i) {
-            OK => rel_wai(words, i),
-            e => refuse(e),
-        },
-        SUS_TSK => match on_task(words, BOTH, ANOTHER, handler, me, i) {
-            OK => sus_tsk(words, i),
-            e => refuse(e),
-        },
-        RSM_TSK => match on_task(words, BOTH, ANYONE, handler, me, i) {
-            OK => rsm_tsk(words, i),
-            e => refuse(e),
-        },
-        SLP_TSK => match on_nothing(words, TASK_ONLY, handler, me) {
-            OK => slp_tsk(words, me),
-            e => refuse(e),
-        },
-        WAI_TSK => match on_time(words, handler, me, a) {
-            OK => wai_tsk(words, me, a),
-            e => refuse(e),
-        },
-        WUP_TSK => match on_task(words, BOTH, ANOTHER, handler, me, i) {
-            OK => wup_tsk(words, i),
-            e => refuse(e),
-        },
-        CAN_WUP => match on_task(words, BOTH, ALIVE, handler, me, i) {
-            OK => can_wup(words, i),
-            e => refuse(e),
-        },
-        SIG_SEM => match on_object(words, SEMAPHORES, BOTH, handler, me, i) {
-            OK => sig_sem(words, i),
-            e => refuse(e),
-        },
-        WAI_SEM => match on_object(words, SEMAPHORES, TASK_ONLY, handler, me, i) {
-            OK => wai_sem(words, me, i),
-            e => refuse(e),
-        },
-        PREQ_SEM => match on_object(words, SEMAPHORES, BOTH, handler, me, i) {
-            OK => preq_sem(words, i),
-            e => refuse(e),
-        },
-        SET_FLG => match on_object(words, FLAGS, BOTH, handler, me, i) {
-            OK => set_flg(words, i, p),
-            e => refuse(e),
-        },
-        CLR_FLG => match on_object(words, FLAGS, BOTH, handler, me, i) {
-            OK => clr_flg(words, i, p),
-            e => refuse(e),
-        },
-        WAI_FLG => match on_flag(words, TASK_ONLY, handler, me, i, p, c) {
-            OK => wai_flg(words, me, i, p, named(c)),
-            e => refuse(e),
-        },
-        POL_FLG => match on_flag(words, BOTH, handler, me, i, p, c) {
-            OK => pol_flg(words, i, p, named(c)),
-            e => refuse(e),
-        },
-        SND_MSG => match on_message(words, handler, me, i, j) {
-            OK => snd_msg(words, messages, i, j),
-            e => refuse(e),
-        },
-        RCV_MSG => match on_object(words, MAILBOXES, TASK_ONLY, handler, me, i) {
-            OK => rcv_msg(words, messages, me, i),
-            e => refuse(e),
-        },
-        PRCV_MSG => match on_object(words, MAILBOXES, BOTH, handler, me, i) {
-            OK => prcv_msg(words, messages, i),
-            e => refuse(e),
-        },
-        GET_BLK => match on_object(words, POOLS, TASK_ONLY, handler, me, i) {
-            OK => get_blk(words, me, i),
-            e => refuse(e),
-        },
-        PGET_BLK => match on_object(words, POOLS, BOTH, handler, me, i) {
-            OK => pget_blk(words, i),
-            e => refuse(e),
-        },
-        REL_BLK => match on_object(words, POOLS, BOTH, handler, me, i) {
-            OK => rel_blk(words, i, j),
-            e => refuse(e),
-        },
-        GET_TID => match on_nothing(words, BOTH, handler, me) {
-            OK => get_tid(words),
-            e => refuse(e),
-        },
-        TSK_STS => match on_task(words, BOTH, ANYONE, handler, me, i) {
-            OK => tsk_sts(words, i),
-            e => refuse(e),
-        },
-        SEM_STS => match on_object(words, SEMAPHORES, BOTH, handler, me, i) {
-            OK => obj_sts(words, SEMAPHORE, i),
-            e => refuse(e),
-        },
-        FLG_STS => match on_object(words, FLAGS, BOTH, handler, me, i) {
-            OK => obj_sts(words, FLAG, i),
-            e => refuse(e),
-        },
-        MBX_STS => match on_object(words, MAILBOXES, BOTH, handler, me, i) {
-            OK => obj_sts(words, MAILBOX, i),
-            e => refuse(e),
-        },
-        MPL_STS => match on_object(words, POOLS, BOTH, handler, me, i) {
-            OK => obj_sts(words, POOL, i),
-            e => refuse(e),
-        },
-        GET_TIM => match on_nothing(words, BOTH, handler, me) {
-            OK => get_tim(words),
-            e => refuse(e),
-        },
-        CRE_TSK => match on_priority(words, TASK_ONLY, UNNAMED, handler, me, i, j) {
-            OK => cre_tsk(words, i, j),
-            e => refuse(e),
-        },
-        DEL_TSK => match on_task(words, TASK_ONLY, ANYONE, handler, me, i) {
-            OK => del_tsk(words, i),
-            e => refuse(e),
-        },
-        EXD_TSK => match on_nothing(words, TASK_ONLY, handler, me) {
-            OK => exd_tsk(words, me),
-            e => refuse(e),
-        },
-        SET_ABS => match on_setting(words, handler, me, i, b, c) {
-            OK => set_abs(words, i, j, named(c)),
-            e => refuse(e),
-        },
-        SET_REL => match on_setting(words, handler, me, i, b, c) {
-            OK => set_rel(words, i, j, named(c)),
-            e => refuse(e),
-        },
-        CAN_ALM => match on_alarm(words, handler, me, i) {
-            OK => can_alm(words, i),
-            e => refuse(e),
-        },
-        ALM_STS => match on_alarm(words, handler, me, i) {
-            OK => alm_sts(words, i),
-            e => refuse(e),
-        },
-        _ => refuse(H_CALL),
+        STA_TSK => {
+            on_task(words, Context::Both, Target::Anyone, caller, i)?;
+            Ok(sta_tsk(words, i))
+        }
+        EXT_TSK => {
+            on_nothing(words, Context::TaskOnly, caller)?;
+            Ok(ter_tsk(words, caller.me))
+        }
+        TER_TSK => {
+            on_task(words, Context::TaskOnly, Target::Another, caller, i)?;
+            Ok(ter_tsk(words, i))
+        }
+        CHG_PRI => {
+            on_priority(words, Context::Both, Target::Alive, caller, i, j)?;
+            Ok(chg_pri(words, i, j))
+        }
+        ROT_RDQ => {
+            on_queue(words, caller, a)?;
+            Ok(rot_rdq(words, i))
+        }
+        REL_WAI => {
+            on_task(words, Context::Both, Target::Anyone, caller, i)?;
+            Ok(rel_wai(words, i))
+        }
+        SUS_TSK => {
+            on_task(words, Context::Both, Target::Another, caller, i)?;
+            Ok(sus_tsk(words, i))
+        }
+        RSM_TSK => {
+            on_task(words, Context::Both, Target::Anyone, caller, i)?;
+            Ok(rsm_tsk(words, i))
+        }
+        SLP_TSK => {
+            on_nothing(words, Context::TaskOnly, caller)?;
+            Ok(slp_tsk(words, caller.me))
+        }
+        WAI_TSK => {
+            on_time(words, caller, a)?;
+            Ok(wai_tsk(words, caller.me, a))
+        }
+        WUP_TSK => {
+            on_task(words, Context::Both, Target::Another, caller, i)?;
+            Ok(wup_tsk(words, i))
+        }
+        CAN_WUP => {
+            on_task(words, Context::Both, Target::Alive, caller, i)?;
+            Ok(can_wup(words, i))
+        }
+        SIG_SEM => {
+            on_object(words, SEMAPHORES, Context::Both, caller, i)?;
+            Ok(sig_sem(words, i))
+        }
+        WAI_SEM => {
+            on_object(words, SEMAPHORES, Context::TaskOnly, caller, i)?;
+            Ok(wai_sem(words, caller.me, i))
+        }
+        PREQ_SEM => {
+            on_object(words, SEMAPHORES, Context::Both, caller, i)?;
+            Ok(preq_sem(words, i))
+        }
+        SET_FLG => {
+            on_object(words, FLAGS, Context::Both, caller, i)?;
+            Ok(set_flg(words, i, p))
+        }
+        CLR_FLG => {
+            on_object(words, FLAGS, Context::Both, caller, i)?;
+            Ok(clr_flg(words, i, p))
+        }
+        WAI_FLG => {
+            on_flag(words, Context::TaskOnly, caller, i, p, c)?;
+            Ok(wai_flg(words, caller.me, i, p, named(c)))
+        }
+        POL_FLG => {
+            on_flag(words, Context::Both, caller, i, p, c)?;
+            Ok(pol_flg(words, i, p, named(c)))
+        }
+        SND_MSG => {
+            on_message(words, caller, i, j)?;
+            Ok(snd_msg(words, messages, i, j))
+        }
+        RCV_MSG => {
+            on_object(words, MAILBOXES, Context::TaskOnly, caller, i)?;
+            Ok(rcv_msg(words, messages, caller.me, i))
+        }
+        PRCV_MSG => {
+            on_object(words, MAILBOXES, Context::Both, caller, i)?;
+            Ok(prcv_msg(words, messages, i))
+        }
+        GET_BLK => {
+            on_object(words, POOLS, Context::TaskOnly, caller, i)?;
+            Ok(get_blk(words, caller.me, i))
+        }
+        PGET_BLK => {
+            on_object(words, POOLS, Context::Both, caller, i)?;
+            Ok(pget_blk(words, i))
+        }
+        REL_BLK => {
+            on_object(words, POOLS, Context::Both, caller, i)?;
+            Ok(rel_blk(words, i, j))
+        }
+        GET_TID => {
+            on_nothing(words, Context::Both, caller)?;
+            Ok(get_tid(words))
+        }
+        TSK_STS => {
+            on_task(words, Context::Both, Target::Anyone, caller, i)?;
+            Ok(tsk_sts(words, i))
+        }
+        SEM_STS => {
+            on_object(words, SEMAPHORES, Context::Both, caller, i)?;
+            Ok(obj_sts(words, SEMAPHORE, i))
+        }
+        FLG_STS => {
+            on_object(words, FLAGS, Context::Both, caller, i)?;
+            Ok(obj_sts(words, FLAG, i))
+        }
+        MBX_STS => {
+            on_object(words, MAILBOXES, Context::Both, caller, i)?;
+            Ok(obj_sts(words, MAILBOX, i))
+        }
+        MPL_STS => {
+            on_object(words, POOLS, Context::Both, caller, i)?;
+            Ok(obj_sts(words, POOL, i))
+        }
+        GET_TIM => {
+            on_nothing(words, Context::Both, caller)?;
+            Ok(get_tim(words))
+        }
+        CRE_TSK => {
+            on_priority(words, Context::TaskOnly, Target::Unnamed, caller, i, j)?;
+            Ok(cre_tsk(words, i, j))
+        }
+        DEL_TSK => {
+            on_task(words, Context::TaskOnly, Target::Anyone, caller, i)?;
+            Ok(del_tsk(words, i))
+        }
+        EXD_TSK => {
+            on_nothing(words, Context::TaskOnly, caller)?;
+            Ok(exd_tsk(words, caller.me))
+        }
+        SET_ABS => {
+            on_setting(words, caller, i, b, c)?;
+            Ok(set_abs(words, i, j, named(c)))
+        }
+        SET_REL => {
+            on_setting(words, caller, i, b, c)?;
+            Ok(set_rel(words, i, j, named(c)))
+        }
+        CAN_ALM => {
+            on_alarm(words, caller, i)?;
+            Ok(can_alm(words, i))
+        }
+        ALM_STS => {
+            on_alarm(words, caller, i)?;
+            Ok(alm_sts(words, i))
+        }
+        _ => Ok(refuse(H_CALL)),
+    }
+}
+
+pub fn dispatch(
+    words: &mut [u32; STATE_WORDS],
+    messages: &mut [u32; 256],
+    caller: Caller,
+    n: u32,
+    a: i32,
+    b: i32,
+    c: i32,
+) -> Outcome
+    ensures { Dispatches caller.handler caller.me n a b c result words.old messages.old words.new
+        messages.new }
+{
+    match serve(words, messages, caller, n, a, b, c) {
+        Ok(outcome) => outcome,
+        Err(reason) => refuse(reason.code()),
     }
 }

@@ -3,7 +3,7 @@
 // (`DoesOnWords`).
 #![tactic(auto)]
 
-ghost use Rattle.std.specs.Prelude.{false, ◌≡◌, ◌≤◌, ◌+◌, pos};
+ghost use Rattle.std.specs.Prelude.{◌≡◌, ◌≤◌, ◌+◌, pos};
 ghost use Rattle.rules.specs.State as Kind;
 ghost use Rattle.rules.specs.Objects.{set_flg};
 ghost use Rattle.call_words.specs.Doing.{DoesOnWords};
@@ -12,10 +12,7 @@ ghost use Rattle.call_flag_walk.specs.Serving.{made, looked_at_next, served, lef
 
 use call_flags::CLEARING;
 use call_words::{Outcome, reports};
-use memory_columns::{
-    CELL_OK, FLAG, MAX_TASKS, Rings, STATE_WORDS, TASKS, at_most, flag, mode, set_flag, system,
-    wish,
-};
+use memory_columns::{CELL_OK, Column, FLAG, MAX_TASKS, Rings, STATE_WORDS, TASKS, at_most};
 use memory_objects::flags::meets;
 use memory_queues::{follow, wait_anchor};
 use memory_waits::release;
@@ -29,25 +26,21 @@ struct Walked {
 }
 
 // Task x is released if the pattern meets what it asks for.
-fn look(words: &mut [u32; STATE_WORDS], x: u32, pattern: u32, count: u32, looked: u32) -> Walked
-    requires { (count ≤ 32) × (looked ≤ 32) }
+fn look(words: &mut [u32; STATE_WORDS], x: u32, pattern: u32, w: Walked) -> Walked
+    requires { (w.released ≤ 32) × (w.looked ≤ 32) }
     ensures cleared_after { made words.new result.released result.looked result.cleared ≡ looked_at_next pattern x
-        (made words.old count looked false) }
-    ensures released_bound { (result.released ≤ count + 1) × (result.looked ≤ looked + 1) }
+        (made words.old w.released w.looked w.cleared) }
+    ensures released_bound { (result.released ≤ w.released + 1) × (result.looked ≤ w.looked + 1) }
 {
-    let want = wish(words, x);
-    let how = mode(words, x);
-    if !meets(pattern, want, how) {
-        return Walked {
-            released: count,
-            looked: looked + 1,
-            cleared: false,
-        };
+    let looked = w.looked + 1;
+    let how = Column::Mode.get(words, x);
+    if !meets(pattern, Column::Wish.get(words, x), how) {
+        return Walked { looked, ..w };
     }
     release(words, x, CELL_OK, pattern);
     Walked {
-        released: count + 1,
-        looked: looked + 1,
+        released: w.released + 1,
+        looked,
         cleared: CLEARING <= how,
     }
 }
@@ -57,35 +50,23 @@ fn look(words: &mut [u32; STATE_WORDS], x: u32, pattern: u32, count: u32, looked
 fn serve(words: &mut [u32; STATE_WORDS], i: u32, pattern: u32) -> Walked
     ensures { made words.new result.released result.looked result.cleared ≡ served i pattern words.old }
 {
-    let n = at_most(system(words, TASKS), MAX_TASKS);
+    let n = at_most(Column::System.get(words, TASKS), MAX_TASKS);
     let mut x = follow(words, Rings::Tasks, wait_anchor(FLAG, i));
-    let mut count: u32 = 0;
-    let mut looked: u32 = 0;
-    let mut left = n;
-    while 0 < left {
-        if n < x {
-            return Walked {
-                released: count,
-                looked: looked,
-                cleared: false,
-            };
+    let mut w = Walked {
+        released: 0,
+        looked: 0,
+        cleared: false,
+    };
+    for _ in 0..n {
+        if n < x || w.cleared {
+            break;
         }
         // A release changes the links of x.
         let behind = follow(words, Rings::Tasks, x);
-        let w = look(words, x, pattern, count, looked);
-        if w.cleared {
-            return w;
-        }
-        count = w.released;
-        looked = w.looked;
+        w = look(words, x, pattern, w);
         x = behind;
-        left -= 1;
     }
-    Walked {
-        released: count,
-        looked: looked,
-        cleared: false,
-    }
+    w
 }
 
 // What is left of the pattern after the walk.
@@ -100,10 +81,8 @@ fn left_by(pattern: u32, cleared: bool) -> u32
 pub fn set_flg(words: &mut [u32; STATE_WORDS], i: u32, p: u32) -> Outcome
     ensures { DoesOnWords (NamesObject Kind.flag i) (λ v. set_flg v (pos i) (pos p)) result words.old words.new }
 {
-    let pattern = flag(words, i) | p;
+    let pattern = Column::Flag.get(words, i) | p;
     let w = serve(words, i, pattern);
-    set_flag(words, i, left_by(pattern, w.cleared));
+    Column::Flag.set(words, i, left_by(pattern, w.cleared));
     reports(w.looked, w.released)
 }
-
-// ---- the others

@@ -1,11 +1,10 @@
 -- The calls on flags but set_flg: at each return of the code the rule's verdict is what was answered and done. Assumes nothing.
-use mathlib.Core.Bool.{Bool, true, false, not}
+use mathlib.Core.Bool.{Bool, true, false}
 use mathlib.Core.List.{List}
 use mathlib.Core.Path.{◌≡◌, refl, sym, ap, ◌∙◌}
 use Prim.Native.Nat.{ℕ}
 use lib.Bits.{bit_and}
 use lib.IntN.{pos}
-use borrow.Author.Tests.{not-true, not-false}
 use Rattle.rules.specs.Acts.{pattern}
 use Rattle.rules.specs.State.{flag}
 use Rattle.rules.specs.Verdicts.{Verdict}
@@ -38,12 +37,12 @@ module _ (i : ℕ) {b : List ℕ} where
       met_is : (m : List ℕ) → Accepted b m → NamesObject flag i (view_shown b m) → met (pattern_of (view_shown b m) (pos i)) p t ≡ y
       met_is m A k = rw (pattern_read m A k, ← en) (sym ey)
 
-      pub pattern_taken : {s : Outcome} (r : Verdict) → not y ≡ false → {q : ℕ} → q ≡ left n t → {b' : List ℕ} → b' ≡ Layout.put Layout.flag i q b → s ≡ outcome (pos 0) n 0 0
+      pub pattern_taken : {s : Outcome} (r : Verdict) → y ≡ true → {q : ℕ} → q ≡ left n t → {b' : List ℕ} → b' ≡ Layout.put Layout.flag i q b → s ≡ outcome (pos 0) n 0 0
           → DoesOnWords (NamesObject flag i) (λ v. take_flg v (pos i) (pos p) (pos t) r) s b b'
       unfolding take_flg performed performed_marks
-      pattern_taken r z f g e m A k = choose_first _ _ (met_is m A k ∙ not-false y z)
+      pattern_taken r z f g e m A k = choose_first _ _ (met_is m A k ∙ z)
           (gives_one (pattern i _) refl (e ∙ ap (λ (x : ℕ). outcome (pos 0) x 0 0) (en ∙ sym (pattern_read m A k))) (rw (pattern_read m A k, ← en, ← f) g))
 
-      pub unmet : {s : Outcome} (r : Verdict) → not y ≡ true → {b' : List ℕ} → ((m : List ℕ) → Does r s b m b' m) → DoesOnWords (NamesObject flag i) (λ v. take_flg v (pos i) (pos p) (pos t) r) s b b'
+      pub unmet : {s : Outcome} (r : Verdict) → y ≡ false → {b' : List ℕ} → ((m : List ℕ) → Does r s b m b' m) → DoesOnWords (NamesObject flag i) (λ v. take_flg v (pos i) (pos p) (pos t) r) s b b'
       unfolding take_flg
-      unmet r z d m A k = choose_second _ _ (met_is m A k ∙ not-true y z) (d m)
+      unmet r z d m A k = choose_second _ _ (met_is m A k ∙ z) (d m)

@@ -7,14 +7,14 @@ ghost use Rattle.call_words.specs.Naming.{Runs};
 
 use call_words::codes::{E_CTX, H_NEST};
 use call_words::{Outcome, done, refuse};
-use memory_columns::{DEPTH, INTERRUPTED, MAX_DEPTH, STATE_WORDS, handling};
+use memory_columns::{Column, DEPTH, INTERRUPTED, MAX_DEPTH, STATE_WORDS};
 use memory_objects::handlers::nest;
 
 // A handler begins while `me` runs: the outermost one interrupts it, and it runs on as long as one is open.
 pub fn enter(words: &mut [u32; STATE_WORDS], me: u32) -> Outcome
     ensures { DoesOnWords (Runs me) entered result words.old words.new }
 {
-    let depth = handling(words, DEPTH);
+    let depth = Column::Handling.get(words, DEPTH);
     if MAX_DEPTH <= depth {
         return refuse(H_NEST);
     }
@@ -26,7 +26,7 @@ pub fn enter(words: &mut [u32; STATE_WORDS], me: u32) -> Outcome
 pub fn leave(words: &mut [u32; STATE_WORDS]) -> Outcome
     ensures { DoesOnWords Anything exited result words.old words.new }
 {
-    let depth = handling(words, DEPTH);
+    let depth = Column::Handling.get(words, DEPTH);
     if depth == 0 {
         return refuse(E_CTX);
     }
@@ -34,7 +34,7 @@ pub fn leave(words: &mut [u32; STATE_WORDS]) -> Outcome
         nest(words, 0, 0);
         return done();
     }
-    let interrupted = handling(words, INTERRUPTED);
+    let interrupted = Column::Handling.get(words, INTERRUPTED);
     nest(words, depth - 1, interrupted);
     done()
 }

@@ -5,6 +5,8 @@ use mathlib.Core.Path.{◌≡◌, sym, ◌∙◌, subst}
 use Prim.Native.Nat.{ℕ}
 use lib.IntN.{ℤ, pos}
 use lib.ListN.{length}
+use Rattle.std.specs.Prelude.{Option}
+use Rattle.rules.specs.Codes.{Code}
 use Rattle.rules.specs.Ids.{In}
 use Rattle.rules.specs.Events.{outside, above}
 use Rattle.rules.specs.State.{Kind, objects, alarm_count}
@@ -15,6 +17,7 @@ use Rattle.memory_columns.specs.Layout.{entry}
 use Rattle.memory_picture.specs.Picture.{kind_number, messages_shown, store_shown, body_shown, view_shown}
 use Rattle.call_words.proofs.Tasks.{tasks_count, objects_count, messages_count}
 use Rattle.call_words.proofs.Alarms.{alarms_count, size_shown}
+use Rattle.call_judging.specs.declared.Target.{Target}
 use Rattle.call_judging.specs.Judging.{first_code, target_of, common_code, refusals_of}
 use Rattle.call_judging.proofs.Tests.{absent_is, dormant_is}
 use Rattle.call_judging.proofs.Refused.{word_passes}
@@ -44,7 +47,7 @@ pub object_is : (k : Kind) (i : ℕ) (b m : List ℕ) {n s : ℕ} {t : Bool} →
 object_is k i b m en es et = et ∙ rw (es, ← en, ← objects_count k b m)
 
 -- a task that is there: what is common is judged of it
-module _ (c : Context) (h : Bool) (me : ℕ) (t i : ℕ) (b m : List ℕ) {s : ℕ} {x : Bool} {z : ℤ} (es : s ≡ entry Layout.system b 1) (ex : x ≡ outside (pos i) s) (out : x ≡ false)
+module _ (c : Context) (h : Bool) (me : ℕ) (t : Target) (i : ℕ) (b m : List ℕ) {s : ℕ} {x : Bool} {z : Option Code} (es : s ≡ entry Layout.system b 1) (ex : x ≡ outside (pos i) s) (out : x ≡ false)
     (ez : z ≡ common_code c (target_of t i) h me (entry Layout.status b i)) where
   pub named_passed : z ≡ first_code (refusals_of (view_shown b m) h me [] c (target_of t i))
   named_passed = let r = subst (In i) es (in_by (pos i) s (sym ex ∙ out)) in ez ∙ rw (absent_is t i b m r, dormant_is t i b m r)

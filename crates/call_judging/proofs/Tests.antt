@@ -2,7 +2,7 @@
 use mathlib.Core.Bool.{true, false, true≢false}
 use mathlib.Core.List.{List}
 use mathlib.Core.Path.{◌≡◌, refl, sym, ap, ◌∙◌}
-use Prim.Native.Nat.{ℕ, zero, suc, ◌≤◌, ◌<◌}
+use Prim.Native.Nat.{ℕ, zero, suc}
 use native.Mathlib.Decide.{dec_le}
 use native.Mathlib.Omega.{arith}
 use lib.Dec.{eqb, ltb}
@@ -12,59 +12,28 @@ use borrow.Author.Tests.{le-leb, lt-leb, le-ltb, lt-ltb, ltb-true}
 use Rattle.rules.specs.Ids.{In}
 use Rattle.rules.specs.State.{alarm_count}
 use Rattle.rules.specs.Events.{nat, outside, above, below_for_ever}
-use Rattle.rules.specs.Table.{names_absent, names_self, names_dormant}
+use Rattle.rules.specs.Table.{names_absent, names_dormant}
 use Rattle.memory_columns.specs.Layout as Layout
 use Rattle.memory_columns.specs.Layout.{entry}
 use Rattle.memory_picture.specs.Picture.{tasks_shown, view_shown}
 use Rattle.call_words.proofs.Tasks.{absent_read, dormant_read}
+use Rattle.call_judging.specs.declared.Target.{Target}
+use Rattle.call_judging.specs.declared.Target.TheVariants.{Unnamed, Anyone, Alive, Another}
 use Rattle.call_judging.specs.Judging.{target_of, absent_if, dormant_if}
 
-pub self_free : (t me i : ℕ) → t < 3 → false ≡ names_self (target_of t i) me
-self_free zero me i h = refl
-self_free (suc zero) me i h = refl
-self_free (suc (suc zero)) me i h = refl
-self_free (suc (suc (suc t))) me i h = absurd (omega arith)
-
-pub self_named : (t me i : ℕ) → 3 ≤ t → eqb i me ≡ names_self (target_of t i) me
-self_named zero me i h = absurd (omega arith)
-self_named (suc zero) me i h = absurd (omega arith)
-self_named (suc (suc zero)) me i h = absurd (omega arith)
-self_named (suc (suc (suc t))) me i h = refl
-
-pub dormant_free : (t i x : ℕ) → t < 2 → false ≡ dormant_if (target_of t i) (eqb x 0)
-dormant_free zero i x h = refl
-dormant_free (suc zero) i x h = refl
-dormant_free (suc (suc t)) i x h = absurd (omega arith)
-
-pub dormant_named : (t i : ℕ) {s x : ℕ} → 2 ≤ t → s ≡ x → eqb s 0 ≡ dormant_if (target_of t i) (eqb x 0)
-dormant_named zero i h e = absurd (omega arith)
-dormant_named (suc zero) i h e = absurd (omega arith)
-dormant_named (suc (suc zero)) i h e = rw e
-dormant_named (suc (suc (suc t))) i h e = rw e
-
 -- the column says whether the task is dormant
-pub dormant_is : (t i : ℕ) (b m : List ℕ) → In i (tasks_shown b) → dormant_if (target_of t i) (eqb (entry Layout.status b i) 0) ≡ names_dormant (view_shown b m).body (target_of t i)
-dormant_is zero i b m h = refl
-dormant_is (suc zero) i b m h = refl
-dormant_is (suc (suc zero)) i b m h = sym (dormant_read b m i h)
-dormant_is (suc (suc (suc t))) i b m h = sym (dormant_read b m i h)
-
-pub absent_free : (t i x : ℕ) → t < 1 → false ≡ absent_if (target_of t i) (eqb x 6)
-absent_free zero i x h = refl
-absent_free (suc t) i x h = absurd (omega arith)
-
-pub absent_named : (t i : ℕ) {s x : ℕ} → 1 ≤ t → s ≡ x → eqb s 6 ≡ absent_if (target_of t i) (eqb x 6)
-absent_named zero i h e = absurd (omega arith)
-absent_named (suc zero) i h e = rw e
-absent_named (suc (suc zero)) i h e = rw e
-absent_named (suc (suc (suc t))) i h e = rw e
+pub dormant_is : (t : Target) (i : ℕ) (b m : List ℕ) → In i (tasks_shown b) → dormant_if (target_of t i) (eqb (entry Layout.status b i) 0) ≡ names_dormant (view_shown b m).body (target_of t i)
+dormant_is Unnamed i b m h = refl
+dormant_is Anyone i b m h = refl
+dormant_is Alive i b m h = sym (dormant_read b m i h)
+dormant_is Another i b m h = sym (dormant_read b m i h)
 
 -- the column says whether the task is there
-pub absent_is : (t i : ℕ) (b m : List ℕ) → In i (tasks_shown b) → absent_if (target_of t i) (eqb (entry Layout.status b i) 6) ≡ names_absent (view_shown b m).body (target_of t i)
-absent_is zero i b m h = refl
-absent_is (suc zero) i b m h = sym (absent_read b m i h)
-absent_is (suc (suc zero)) i b m h = sym (absent_read b m i h)
-absent_is (suc (suc (suc t))) i b m h = sym (absent_read b m i h)
+pub absent_is : (t : Target) (i : ℕ) (b m : List ℕ) → In i (tasks_shown b) → absent_if (target_of t i) (eqb (entry Layout.status b i) 6) ≡ names_absent (view_shown b m).body (target_of t i)
+absent_is Unnamed i b m h = refl
+absent_is Anyone i b m h = sym (absent_read b m i h)
+absent_is Alive i b m h = sym (absent_read b m i h)
+absent_is Another i b m h = sym (absent_read b m i h)
 
 -- ---- numbers
 

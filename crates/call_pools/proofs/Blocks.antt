@@ -2,14 +2,14 @@
 use mathlib.Core.Bool.{Bool, true, false, cond, ◌||◌}
 use mathlib.Core.List.{List, [], ◌∷◌}
 use mathlib.Core.Path.{◌≡◌, refl, sym, ap, ◌∙◌}
-use Prim.Native.Nat.{ℕ, zero, suc, pred, ◌+◌, ◌-◌, ◌/◌, ◌%◌, ◌^◌, ◌≤◌, ◌<◌}
-use native.Mathlib.Nat.{pow-succ', div-div-eq-div-mul}
-use native.Mathlib.Numerals.{sub-one}
+use Prim.Native.Nat.{ℕ, zero, suc, pred, ◌+◌, ◌/◌, ◌%◌, ◌^◌, ◌≤◌, ◌<◌}
+use native.Mathlib.Nat.{pow-suc, pow-succ', div-div-eq-div-mul}
+use lib.Count.{ones, ones_step}
 use native.Mathlib.Omega.{arith}
 use lib.Dec.{eqb, leb}
 use lib.IntN.{pos}
 use lib.ListN.{length}
-use borrow.Author.Tests.{eqb-true, eqb-false, le-leb, lt-leb}
+use borrow.Author.Tests.{eqb-true, eqb-false, lt-leb}
 use Rattle.rules.specs.Ids.{of, In}
 use Rattle.rules.specs.Events.{outside}
 use Rattle.rules.specs.State.{pool}
@@ -88,34 +88,9 @@ module _ (i : ℕ) (b m : List ℕ) (A : Accepted b m) (h : NamesObject pool i (
           here zero r = absurd (omega (arith, r.0))
           here (suc j) r = rw (lt-leb 33 (suc j) (omega (arith, r.1, bits.few))) (bits_at _ j _ true (omega (arith, r.1)))
 
--- ---- the loop that counts, and the tests of one block, as the code makes them
+-- ---- the bits that are set, by std's word
 
-module _ (n m : ℕ) where
-  pub count_done : (left : ℕ) → left ≤ 0 → n ≡ n + bit_count left m
-  unfolding bit_count
-  count_done zero h = omega arith
-  count_done (suc left) h = absurd (omega arith)
-
-  pub count_on : (left : ℕ) → 0 < left → (n + m % 2) + bit_count (left - 1) (m / 2) ≡ n + bit_count left m
-  unfolding bit_count
-  count_on zero h = absurd (omega arith)
-  count_on (suc left) h = rw sub-one (omega arith)
-
-module _ (b : List ℕ) (p k : ℕ) where
-  pub out_zero : k ≡ 0 → true ≡ not_out b p k
-  unfolding not_out
-  out_zero e = rw e
-
-  module _ {s : ℕ} (es : s ≡ entry Layout.size b p) where
-    pub out_above : s < k → true ≡ not_out b p k
-    unfolding not_out
-    out_above h = rw (← es, le-leb 1 k (omega arith), lt-leb k s h)
-
-    module _ (ne : k ≡ 0 → ⊥) (h : k ≤ s) where
-      pub out_wide : 32 < k → true ≡ not_out b p k
-      unfolding not_out
-      out_wide l = rw (← es, le-leb 1 k (omega arith), le-leb k s h, le-leb 33 k (omega arith))
-
-      pub out_bit : k ≤ 32 → {f : ℕ} → f ≡ entry Layout.free b p → eqb ((f / 2 ^ (k - 1)) % 2) 1 ≡ not_out b p k
-      unfolding not_out
-      out_bit l ef = rw (← es, ← ef, le-leb 1 k (omega arith), le-leb k s h, lt-leb 33 k (omega arith), sub-one k)
+pub ones_bits : (k m : ℕ) → m < 2 ^ k → ones m ≡ bit_count k m
+unfolding bit_count ones
+ones_bits zero m h = let z : m ≡ 0 = omega arith in rw z
+ones_bits (suc k) m h = ones_step m ∙ ap (λ (r : ℕ). m % 2 + r) (ones_bits k (m / 2) (omega (arith, pow-suc 2 k)))

@@ -2,7 +2,7 @@
 use mathlib.Core.Bool.{Bool, true, false}
 use mathlib.Core.List.{List}
 use mathlib.Core.Path.{◌≡◌, refl, sym, ◌∙◌}
-use Prim.Native.Nat.{ℕ, ◌-◌, ◌≤◌}
+use Prim.Native.Nat.{ℕ, ◌≤◌}
 use native.Mathlib.Omega.{arith}
 use lib.IntN.{pos}
 use borrow.Author.Tests.{le-leb}
@@ -13,9 +13,7 @@ use Rattle.rules.specs.Places.{free_in}
 use Rattle.rules.specs.View.{line}
 use Rattle.rules.specs.Verdicts.{Verdict}
 use Rattle.rules.specs.Objects.{take_blk, rel_blk}
-use Rattle.memory_rings.specs.Links.{first_of}
-use Rattle.memory_columns.specs.Layout as Layout
-use Rattle.memory_columns.specs.Layout.{max_pools, before_pool, words}
+use Rattle.memory_columns.specs.Layout.{max_pools, before_pool}
 use Rattle.memory_queues.specs.Moves.{free_anchor, node_of_block}
 use Rattle.memory_waits.specs.Waits.{released}
 use Rattle.memory_objects.specs.Moves.{marked}
@@ -50,15 +48,6 @@ module _ (o : ℕ) (b m : List ℕ) (A : Accepted b m) (h : NamesObject pool o (
   block_law : HeadOf (first_block o b) (line (view_shown b m) (free_in o))
   unfolding first_block view_shown body_shown
   block_law = first_at b m A (free_in o) h (rw (anchor_is, before_is))
-
--- as the code has read it: the anchor y, its first node x, what comes before the pool's nodes
-pub block_none : (o : ℕ) (b : List ℕ) {y x d : ℕ} → y ≡ free_anchor o → x ≡ first_of (words Layout.block_next b) y → d ≡ node_of_block o 0 → x ≤ d → 0 ≡ first_block o b
-unfolding first_block
-block_none o b {x = x} {d = d} ey ex ed h = let z : x - d ≡ 0 = omega arith in sym z ∙ rw (ex, ed, ey)
-
-pub block_some : (o : ℕ) (b : List ℕ) {y x d : ℕ} → y ≡ free_anchor o → x ≡ first_of (words Layout.block_next b) y → d ≡ node_of_block o 0 → x - d ≡ first_block o b
-unfolding first_block
-block_some o b ey ex ed = rw (ex, ed, ey)
 
 module _ (i : ℕ) {b : List ℕ} {s : Outcome} where
   -- ---- get_blk, pget_blk: the first free block is taken, or as r says

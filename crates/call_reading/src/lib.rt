@@ -5,8 +5,7 @@ ghost use Rattle.std.specs.Prelude.{◌≡◌};
 ghost use Rattle.call_reading.specs.Reading.{waits_at, halted_at, sleeps_at, wakeups_at, number_at, turn_at};
 
 use memory_columns::{
-    READY, RUN, Rings, STATE_WORDS, SUSPEND, TASKS, TIMED, WAIT, WAIT_SUSPEND, kind, status,
-    system, wakeups,
+    Column, READY, RUN, Rings, STATE_WORDS, SUSPEND, TASKS, TIMED, WAIT, WAIT_SUSPEND,
 };
 use memory_queues::{first, ready_anchor};
 use memory_running::{best_task, running_task};
@@ -15,41 +14,33 @@ use memory_running::{best_task, running_task};
 pub fn is_waiting(words: &[u32; STATE_WORDS], i: u32) -> bool
     ensures { result ≡ waits_at words.now i }
 {
-    let s = status(words, i);
-    if s == WAIT { true } else { s == WAIT_SUSPEND }
+    let s = Column::Status.get(words, i);
+    s == WAIT || s == WAIT_SUSPEND
 }
 
 // SUSPEND or WAIT-SUSPEND.
 pub fn is_suspended(words: &[u32; STATE_WORDS], i: u32) -> bool
     ensures { result ≡ halted_at words.now i }
 {
-    let s = status(words, i);
-    if s == SUSPEND {
-        true
-    } else {
-        s == WAIT_SUSPEND
-    }
+    let s = Column::Status.get(words, i);
+    s == SUSPEND || s == WAIT_SUSPEND
 }
 
 // Waits by slp_tsk or wai_tsk.
 pub fn is_sleeping(words: &[u32; STATE_WORDS], i: u32) -> bool
     ensures { result ≡ sleeps_at words.now i }
 {
-    if is_waiting(words, i) {
-        kind(words, i) <= TIMED
-    } else {
-        false
-    }
+    is_waiting(words, i) && Column::Kind.get(words, i) <= TIMED
 }
 
 // The wake-ups of task i, 0 for a number that is no task's.
 pub fn stored(words: &[u32; STATE_WORDS], i: u32) -> u32
     ensures { result ≡ wakeups_at words.now i }
 {
-    if system(words, TASKS) < i {
+    if Column::System.get(words, TASKS) < i {
         0
     } else {
-        wakeups(words, i)
+        Column::Wakeups.get(words, i)
     }
 }
 
@@ -57,7 +48,7 @@ pub fn stored(words: &[u32; STATE_WORDS], i: u32) -> u32
 pub fn state_number(words: &[u32; STATE_WORDS], i: u32) -> u32
     ensures { result ≡ number_at words.now i }
 {
-    let s = status(words, i);
+    let s = Column::Status.get(words, i);
     if s != READY {
         return s;
     }

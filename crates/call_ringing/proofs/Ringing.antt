@@ -2,8 +2,8 @@
 use mathlib.Core.Bool.{Bool, true, false, cond}
 use mathlib.Core.List.{List, [], ◌∷◌, ◌++◌}
 use mathlib.Core.Path.{◌≡◌, refl, sym, ap, ◌∙◌, subst}
-use Prim.Native.Nat.{ℕ, zero, suc, ◌+◌, ◌-◌, ◌≤◌, ◌<◌}
-use native.Mathlib.Numerals.{sub-one, add-one}
+use Prim.Native.Nat.{ℕ, zero, suc, ◌+◌, ◌≤◌}
+use native.Mathlib.Numerals.{add-one}
 use native.Mathlib.Omega.{arith}
 use lib.ListN.{length}
 use Rattle.rules.specs.State.{alarm_of, Body}
@@ -68,19 +68,18 @@ module _ (b₀ : List ℕ) (count k : ℕ) (b : List ℕ) where
   ring_ends zero h L m A c = record { words = (L m A c).words; released = omega (arith, (L m A c).released) }
   ring_ends (suc n) h L m A c = absurd (omega arith)
 
-  pub ring_step : (n : ℕ) {r : ℕ} {b₁ : List ℕ} → 0 < n → k + n ≡ 9 → 1 ≤ k → PerformsOnWords (NamesAlarm k) (λ v. rings v.body 1 k) r b b₁ → AllLeft b₀ count n k b
-      → AllLeft b₀ (count + r) (n - 1) (k + 1) b₁
-  ring_step zero h e l F L m A c = absurd (omega arith)
-  ring_step (suc n) {r} {b₁} h e l F L m A c = rw (sub-one, add-one) (subst (λ (x : List ℕ). Left b₀ (count + r) n (suc k) x m) (sym D.words) next)
+  pub ring_step : (j : ℕ) {n r : ℕ} {b₁ : List ℕ} → j ≡ suc n → k + j ≡ 9 → 1 ≤ k → PerformsOnWords (NamesAlarm k) (λ v. rings v.body 1 k) r b b₁ → AllLeft b₀ count j k b
+      → AllLeft b₀ (count + r) n (k + 1) b₁
+  ring_step j {n} {r} {b₁} h e l F L m A c = rw add-one (subst (λ (x : List ℕ). Left b₀ (count + r) n (suc k) x m) (sym D.words) next)
     where
       G : Left b₀ count (suc n) k b m
-      G = L m A c
+      G = rw h at (L m A c)
 
       W : Body
       W = (view_shown b m).body
 
       D : Performs (rings W 1 k) r b b₁
-      D = F m G.accepted (l, omega (arith, G.counter, e))
+      D = F m G.accepted (l, omega (arith, G.counter, e, h))
 
       rest : List Act
       rest = rings (afters (rings W 1 k) W) n (suc k)

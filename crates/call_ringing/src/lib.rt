@@ -15,8 +15,7 @@ use call_wakeups::wup_tsk;
 use call_words::codes::{E_DMT, E_NOEXS};
 use call_words::{Outcome, refuse, unsigned};
 use memory_columns::{
-    ABSENT, COUNTER_NOW, COUNTER_SIZE, DORMANT, MAX_ALARMS, STARTS, STATE_WORDS, alarm_due,
-    alarm_period, alarm_task, alarm_wakes, at_most, counter, status,
+    ABSENT, COUNTER_NOW, COUNTER_SIZE, Column, DORMANT, MAX_ALARMS, STARTS, STATE_WORDS, at_most,
 };
 use memory_objects::alarms::set_alarm;
 
@@ -27,8 +26,8 @@ fn due_again(words: &[u32; STATE_WORDS], period: u32) -> u32
     if period == 0 {
         return 0;
     }
-    let count = counter(words, COUNTER_NOW);
-    let size = counter(words, COUNTER_SIZE);
+    let count = Column::Counter.get(words, COUNTER_NOW);
+    let size = Column::Counter.get(words, COUNTER_SIZE);
     due_after(count, period, size)
 }
 
@@ -36,11 +35,8 @@ fn due_again(words: &[u32; STATE_WORDS], period: u32) -> u32
 fn is_due(words: &[u32; STATE_WORDS], k: u32) -> bool
     ensures { result ≡ due_at words.now k }
 {
-    let due = alarm_due(words, k);
-    if due == 0 {
-        return false;
-    }
-    due - 1 == counter(words, COUNTER_NOW)
+    let due = Column::AlarmDue.get(words, k);
+    due != 0 && due - 1 == Column::Counter.get(words, COUNTER_NOW)
 }
 
 // Alarm k starts or wakes its task as a handler would.
@@ -48,12 +44,12 @@ fn strike(words: &mut [u32; STATE_WORDS], k: u32) -> Outcome
     ensures { DoesOnWords (NamesAlarm k) (λ v. fired v.body (alarm_of v.body.counter k)) result
         words.old words.new }
 {
-    let i = alarm_task(words, k);
-    let s = status(words, i);
+    let i = Column::AlarmTask.get(words, k);
+    let s = Column::Status.get(words, i);
     if s == ABSENT {
         return refuse(E_NOEXS);
     }
-    if alarm_wakes(words, k) == STARTS {
+    if Column::AlarmWakes.get(words, k) == STARTS {
         return sta_tsk(words, i);
     }
     if s == DORMANT {
@@ -70,7 +66,7 @@ fn fire(words: &mut [u32; STATE_WORDS], k: u32) -> u32
     if !is_due(words, k) {
         return 0;
     }
-    let period = alarm_period(words, k);
+    let period = Column::AlarmPeriod.get(words, k);
     let due = due_again(words, period);
     let s = strike(words, k);
     let kept = unsigned(s.code);
@@ -83,13 +79,9 @@ pub fn ring(words: &mut [u32; STATE_WORDS]) -> u32
     ensures performs_on_words { PerformsOnWords HasCounter (λ v. rings v.body max_alarms 1) result words.old words.new }
     ensures upper_bound { result ≤ max_alarms }
 {
-    let mut count: u32 = 0;
-    let mut k: u32 = 1;
-    let mut left = MAX_ALARMS;
-    while 0 < left {
+    let mut count = 0;
+    for k in 1..MAX_ALARMS + 1 {
         count += fire(words, k);
-        k += 1;
-        left -= 1;
     }
     count
 }

@@ -9,17 +9,17 @@ use call_mailboxes::first_message;
 use call_objects::first_waiter;
 use call_pools::count_blocks;
 use call_words::{Outcome, gives};
-use memory_columns::{FLAG, MAILBOX, SEMAPHORE, STATE_WORDS, flag, free, semaphore};
+use memory_columns::{Column, FLAG, MAILBOX, SEMAPHORE, STATE_WORDS};
 
 // What lies in object i of a kind: the count, the pattern, the first message, the number of free blocks.
 fn stored(words: &[u32; STATE_WORDS], kind: u32, i: u32) -> u32
     ensures { result ≡ stored_at kind i words.now }
 {
     match kind {
-        SEMAPHORE => semaphore(words, i),
-        FLAG => flag(words, i),
+        SEMAPHORE => Column::Semaphore.get(words, i),
+        FLAG => Column::Flag.get(words, i),
         MAILBOX => first_message(words, i),
-        _ => count_blocks(free(words, i)),
+        _ => count_blocks(Column::Free.get(words, i)),
     }
 }
 

@@ -98,9 +98,9 @@ module _ {b : List ℕ} {s : Outcome} where
   -- ---- rot_rdq
 
   module _ (p : ℕ) {x : ℕ} (f : x ≡ turn_at b p) where
-    pub rot_empty : x ≡ 0 → s ≡ outcome (pos 0) 0 0 0 → DoesOnWords (NamesQueue p) (λ v. rot_rdq v (pos p)) s b b
+    pub rot_empty : x ≡ 0 → {b' : List ℕ} → b' ≡ b → s ≡ outcome (pos 0) 0 0 0 → DoesOnWords (NamesQueue p) (λ v. rot_rdq v (pos p)) s b b'
     unfolding rot_rdq
-    rot_empty z e m A k = first_none _ _ _ (sym f ∙ z) (turn_head b m A p k) (gives_none e)
+    rot_empty z g e m A k = rw g (first_none _ _ _ (sym f ∙ z) (turn_head b m A p k) (gives_none e))
 
     pub rot_turns : (x ≡ 0 → ⊥) → {b' : List ℕ} → b' ≡ rotated x b → s ≡ outcome (pos 0) 0 0 0 → DoesOnWords (NamesQueue p) (λ v. rot_rdq v (pos p)) s b b'
     unfolding rot_rdq performed performed_marks

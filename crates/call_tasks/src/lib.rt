@@ -13,9 +13,7 @@ ghost use Rattle.call_words.specs.Naming.{NamesTask, NamesQueue};
 use call_reading::{is_suspended, is_waiting, ready_head, state_number};
 use call_words::codes::{E_NOSUS, E_NOWAI, H_EXIST, H_NODMT, H_SUS};
 use call_words::{Outcome, done, gives, refuse, releases};
-use memory_columns::{
-    ABSENT, CELL_RLWAI, CLOCK_HIGH, CLOCK_LOW, DORMANT, STATE_WORDS, priority, status, system,
-};
+use memory_columns::{ABSENT, CELL_RLWAI, CLOCK_HIGH, CLOCK_LOW, Column, DORMANT, STATE_WORDS};
 use memory_running::running_task;
 use memory_tasks::{begin, create, delete, regrade, retire, rotate};
 use memory_waits::{release, resume, suspend};
@@ -24,7 +22,7 @@ use memory_waits::{release, resume, suspend};
 pub fn sta_tsk(words: &mut [u32; STATE_WORDS], i: u32) -> Outcome
     ensures { DoesOnWords (NamesTask i) (λ v. starting v.body i) result words.old words.new }
 {
-    if status(words, i) != DORMANT {
+    if Column::Status.get(words, i) != DORMANT {
         return refuse(H_NODMT);
     }
     begin(words, i);
@@ -43,7 +41,7 @@ pub fn ter_tsk(words: &mut [u32; STATE_WORDS], i: u32) -> Outcome
 pub fn cre_tsk(words: &mut [u32; STATE_WORDS], i: u32, p: u32) -> Outcome
     ensures { DoesOnWords (NamesTask i) (λ v. cre_tsk v (pos i) (pos p)) result words.old words.new }
 {
-    if status(words, i) != ABSENT {
+    if Column::Status.get(words, i) != ABSENT {
         return refuse(H_EXIST);
     }
     create(words, i, p);
@@ -54,7 +52,7 @@ pub fn cre_tsk(words: &mut [u32; STATE_WORDS], i: u32, p: u32) -> Outcome
 pub fn del_tsk(words: &mut [u32; STATE_WORDS], i: u32) -> Outcome
     ensures { DoesOnWords (NamesTask i) (λ v. del_tsk v (pos i)) result words.old words.new }
 {
-    if status(words, i) != DORMANT {
+    if Column::Status.get(words, i) != DORMANT {
         return refuse(H_NODMT);
     }
     delete(words, i);
@@ -82,10 +80,9 @@ pub fn rot_rdq(words: &mut [u32; STATE_WORDS], p: u32) -> Outcome
     ensures { DoesOnWords (NamesQueue p) (λ v. rot_rdq v (pos p)) result words.old words.new }
 {
     let x = ready_head(words, p);
-    if x == 0 {
-        return done();
+    if x != 0 {
+        rotate(words, x);
     }
-    rotate(words, x);
     done()
 }
 
@@ -134,7 +131,7 @@ pub fn tsk_sts(words: &[u32; STATE_WORDS], i: u32) -> Outcome
     ensures { DoesOnWords (NamesTask i) (λ v. tsk_sts v (pos i)) result words.now words.now }
 {
     let s = state_number(words, i);
-    let p = priority(words, i);
+    let p = Column::Priority.get(words, i);
     gives(s, p)
 }
 
@@ -142,7 +139,7 @@ pub fn tsk_sts(words: &[u32; STATE_WORDS], i: u32) -> Outcome
 pub fn get_tim(words: &[u32; STATE_WORDS]) -> Outcome
     ensures { DoesOnWords Anything get_tim result words.now words.now }
 {
-    let high = system(words, CLOCK_HIGH);
-    let low = system(words, CLOCK_LOW);
+    let high = Column::System.get(words, CLOCK_HIGH);
+    let low = Column::System.get(words, CLOCK_LOW);
     gives(high, low)
 }

@@ -5,7 +5,7 @@ use mathlib.Core.Logic.{◌≢◌}
 use mathlib.Core.Path.{◌≡◌, refl, sym, ap, ◌∙◌}
 use Prim.Native.Nat.{ℕ, zero, suc, pred, ◌+◌, ◌-◌, ◌≤◌, ◌<◌}
 use native.Mathlib.Decide.{ℕ_discrete}
-use native.Mathlib.Numerals.{sub-one, add-one}
+use native.Mathlib.Numerals.{add-one}
 use native.Mathlib.Omega.{arith}
 use lib.Bits.{bit_or, or_zero_l, or_add_and, and_le_r}
 use lib.Dec.{eqb, leb, ltb}
@@ -296,9 +296,6 @@ module _ (b : List ℕ) where
 -- ---- a test of n numbers, in turn
 
 module _ (p : ℕ → Bool) (n : ℕ) where
-  pub any_first : (false || any_from p (n + 1 - 1) 1) ≡ any_from p n 1
-  any_first = ap (λ (k : ℕ). any_from p k 1) (omega arith)
-
   any_step : (i : ℕ) → i ≤ n → any_from p (n + 1 - i) i ≡ (p i || any_from p (n + 1 - (i + 1)) (i + 1))
   unfolding any_from
   any_step i h = let e : n + 1 - i ≡ suc (n + 1 - (i + 1)) = omega arith in rw (e, add-one i)
@@ -348,7 +345,6 @@ module _ (k i : ℕ) (b : List ℕ) {c : List ℕ} {t : ℕ} where
   expire_none zero h a = (a.0, omega (arith, a.1))
   expire_none (suc n) h a = absurd (omega arith)
 
-  pub expire_step : (n : ℕ) {b₁ : List ℕ} {r : ℕ} → 0 < n → b₁ ≡ expired_at i b → r ≡ once (ends_at b i) → Along k n i b c t → Along (k + r) (n - 1) (i + 1) b₁ c t
+  pub expire_step : (n : ℕ) {m : ℕ} {b₁ : List ℕ} {r : ℕ} → n ≡ suc m → b₁ ≡ expired_at i b → r ≡ once (ends_at b i) → Along k n i b c t → Along (k + r) m (i + 1) b₁ c t
   unfolding expired expiries
-  expire_step zero h e f a = absurd (omega arith)
-  expire_step (suc n) h e f a = rw (sub-one, add-one, e, f) (a.0, omega (arith, a.1))
+  expire_step n {m} h e f a = let q : Along k (suc m) i b c t = rw h at a in rw (add-one, e, f) (q.0, omega (arith, q.1))

@@ -13,8 +13,8 @@ ghost use Rattle.call_tick.specs.Ticking.{last_tick, ends_at, expired_at, expire
 use call_ringing::ring;
 use call_words::{Outcome, releases};
 use memory_columns::{
-    CELL_TMOUT, COUNTER_SIZE, MAX_TASKS, STATE_WORDS, TASKS, TIMED, WAIT, WAIT_SUSPEND, at_most,
-    counter, kind, status, system, ticks,
+    CELL_TMOUT, COUNTER_SIZE, Column, MAX_TASKS, STATE_WORDS, TASKS, TIMED, WAIT, WAIT_SUSPEND,
+    at_most,
 };
 use memory_time::{age_all, step_clock, step_counter};
 use memory_waits::release;
@@ -23,16 +23,7 @@ use memory_waits::release;
 fn last_tick(status: u32, kind: u32, ticks: u32) -> bool
     ensures { result ≡ last_tick status kind ticks }
 {
-    if kind != TIMED {
-        return false;
-    }
-    if ticks != 1 {
-        return false;
-    }
-    if status == WAIT {
-        return true;
-    }
-    status == WAIT_SUSPEND
+    (status == WAIT || status == WAIT_SUSPEND) && kind == TIMED && ticks == 1
 }
 
 // Task i is released with E_TMOUT if its wait ends with this tick: 1 if so, else 0.
@@ -40,7 +31,11 @@ fn expire(words: &mut [u32; STATE_WORDS], i: u32) -> u32
     ensures words_after { words.new ≡ expired_at i words.old }
     ensures value { (result ≡ once (ends_at words.old i)) × (result ≤ 1) }
 {
-    if last_tick(status(words, i), kind(words, i), ticks(words, i)) {
+    if last_tick(
+        Column::Status.get(words, i),
+        Column::Kind.get(words, i),
+        Column::Ticks.get(words, i),
+    ) {
         release(words, i, CELL_TMOUT, 0);
         return 1;
     }
@@ -53,13 +48,9 @@ fn expire_all(words: &mut [u32; STATE_WORDS], n: u32) -> u32
     ensures words_after { words.new ≡ expired n 1 words.old }
     ensures value { (result ≡ expiries n 1 words.old) × (result ≤ 32) }
 {
-    let mut count: u32 = 0;
-    let mut i: u32 = 1;
-    let mut left = n;
-    while 0 < left {
+    let mut count = 0;
+    for i in 1..n + 1 {
         count += expire(words, i);
-        i += 1;
-        left -= 1;
     }
     count
 }
@@ -69,11 +60,9 @@ fn expire_all(words: &mut [u32; STATE_WORDS], n: u32) -> u32
 fn any_left(words: &[u32; STATE_WORDS]) -> bool
     ensures { result ≡ any_from (has_left words.now) max_tasks 1 }
 {
-    let mut bits: u32 = 0;
-    let mut i: u32 = 1;
-    while i <= MAX_TASKS {
-        bits = bits | ticks(words, i);
-        i += 1;
+    let mut bits = 0;
+    for i in 1..MAX_TASKS + 1 {
+        bits |= Column::Ticks.get(words, i);
     }
     bits != 0
 }
@@ -84,10 +73,8 @@ fn any_last(words: &[u32; STATE_WORDS], n: u32) -> bool
     ensures { result ≡ any_from (has_one words.now) n 1 }
 {
     let mut any = false;
-    let mut i: u32 = 1;
-    while i <= n {
-        any = any | (ticks(words, i) == 1);
-        i += 1;
+    for i in 1..n + 1 {
+        any |= Column::Ticks.get(words, i) == 1;
     }
     any
 }
@@ -110,7 +97,7 @@ fn pass_waits(words: &mut [u32; STATE_WORDS]) -> u32
     ensures value { (result ≡ expiries (tasks_at words.old) 1 words.old) × (result ≤ 32) }
 {
     if any_left(words) {
-        let n = at_most(system(words, TASKS), MAX_TASKS);
+        let n = at_most(Column::System.get(words, TASKS), MAX_TASKS);
         let count = end_waits(words, n);
         age_all(words);
         return count;
@@ -124,7 +111,7 @@ pub fn tick(words: &mut [u32; STATE_WORDS]) -> Outcome
 {
     let count = pass_waits(words);
     step_clock(words);
-    if counter(words, COUNTER_SIZE) == 0 {
+    if Column::Counter.get(words, COUNTER_SIZE) == 0 {
         return releases(count);
     }
     step_counter(words);

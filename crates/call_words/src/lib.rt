@@ -11,32 +11,21 @@ ghost use Rattle.call_words.specs.Outcomes.{outcome};
 pub fn named(a: i32) -> u32
     ensures { result ≡ nat a }
 {
-    if a < 1 {
-        return 0;
-    }
-    a as u32
+    a.max(0).cast_unsigned()
 }
 
 // The unsigned number with the same bits.
 pub fn bits_of(b: i32) -> u32
     ensures { result ≡ bits b }
 {
-    if b < 0 {
-        let below = -1 - b;
-        return 4294967295 - (below as u32);
-    }
-    b as u32
+    b.cast_unsigned()
 }
 
 // A word without its sign.
 pub fn unsigned(z: i32) -> u32
     ensures { result ≡ nat_abs z }
 {
-    if z < 0 {
-        let below = -1 - z;
-        return (below as u32) + 1;
-    }
-    z as u32
+    z.unsigned_abs()
 }
 
 // ---- what a call answers
@@ -54,7 +43,7 @@ pub fn refuse(code: i32) -> Outcome
     ensures { result ≡ outcome code 0 0 0 }
 {
     Outcome {
-        code: code,
+        code,
         w1: 0,
         w2: 0,
         released: 0,
@@ -67,8 +56,8 @@ pub fn gives(w1: u32, w2: u32) -> Outcome
 {
     Outcome {
         code: codes::OK,
-        w1: w1,
-        w2: w2,
+        w1,
+        w2,
         released: 0,
     }
 }
@@ -93,7 +82,7 @@ pub fn reports(w1: u32, n: u32) -> Outcome
 {
     Outcome {
         code: codes::OK,
-        w1: w1,
+        w1,
         w2: 0,
         released: n,
     }

@@ -42,7 +42,7 @@ use Rattle.check_state.proofs.Unserved.{semaphore_law, flag_law, pool_law, waite
 use Rattle.check_state.proofs.Accepted.{line_is, body_sound, sound_shown}
 use Rattle.check_lines.specs.Lists.{known, stands_right, at_most_once}
 use Rattle.check_lines.specs.Lines.{few, every_in, task_lines, mail_lines, line_known, tasks_known, mails_known, pool_known, pools_known, numbers_ok, placed, message_once, block_listed, pool_listed}
-use Rattle.check_damage.specs.Damage.{Told, told, ids_from, rules_from, first_broken}
+use Rattle.check_damage.specs.Damage.{Told, told, ids_from, first_broken}
 
 -- ---- lists
 
@@ -363,7 +363,7 @@ module _ (b msgs : List ℕ) (size : length b ≡ state_words) (low : entry Layo
   number_told e = breach_number (view_shown b msgs) (λ h. true≢false (sym (ranged_law.1 h) ∙ e))
 
   pub rule_told : numbers_ok b msgs ≡ true → says (breach (view_shown b msgs)) ≡ first_broken b
-  unfolding rules_of first_of first_broken rules_from view_shown body_shown store_shown
+  unfolding rules_of first_of first_broken view_shown body_shown store_shown
   rule_told e =
       ap says (ranged_is v (ranged_law.0 e))
       ∙ rule_law (InPlace v) (in_place? v) (λ i. placed b (home b i) i) H-QUEUE (length v.body.tasks) (few b Layout.tasks) _ _

@@ -1,24 +1,12 @@
 -- The naming of damage, for any words: the rules in order, each over its ids.
-use Rattle.std.specs.Prelude.{Bool, cond, List, ℕ, zero, suc, eqb, ℤ}
+use Rattle.std.specs.Prelude.{Bool, true, false, cond, List, ◌≡◌, ℕ, zero, suc, ◌≤◌, ◌<◌, ℤ, Result, Ok, Err}
+use Rattle.rules.specs.Ids.{In}
 use Rattle.rules.specs.Codes.{number, H-NUMBER, H-QUEUE, H-SERVED, H-TWICE, H-FREE}
 use Rattle.memory_columns.specs.Layout as Layout
 use Rattle.check_queues.specs.Queues.{home}
 use Rattle.check_state.specs.Unserved.{unserved_ok}
 use Rattle.check_lines.specs.Lines.{few, placed, message_once, pool_listed}
-
--- the rule of a number: its code, how many ids, and its test
-abbrev pub code_of : ℕ → ℤ
-code_of r = cond (eqb r 0) (number H-QUEUE) (cond (eqb r 1) (number H-SERVED) (cond (eqb r 2) (number H-TWICE) (number H-FREE)))
-
-abbrev pub ids_of : List ℕ → ℕ → ℕ
-ids_of b r = cond (eqb r 2) (few b Layout.messages) (cond (eqb r 3) (few b Layout.pools) (few b Layout.tasks))
-
-abbrev pub keeps : List ℕ → ℕ → ℕ → Bool
-keeps b r i = cond (eqb r 0) (placed b (home b i) i) (cond (eqb r 1) (unserved_ok b i) (cond (eqb r 2) (message_once b i) (pool_listed b i)))
-
--- how many such rules there are
-abbrev pub rules : ℕ
-rules = 4
+use Rattle.check_damage.specs.declared.Breach.{Breach}
 
 -- what is told
 pub record Told : Type 0 where
@@ -33,10 +21,33 @@ unfoldable pub ids_from : (ℕ → Bool) → ℤ → ℕ → ℕ → Told → To
 ids_from f c i zero later = later
 ids_from f c i (suc left) later = cond (f i) (ids_from f c (suc i) left later) (told c i)
 
--- the rules from r on, so many
-unfoldable pub rules_from : List ℕ → ℕ → ℕ → Told
-rules_from b r zero = told (number H-NUMBER) 0
-rules_from b r (suc left) = ids_from (keeps b r) (code_of r) 1 (ids_of b r) (rules_from b (suc r) left)
-
+-- rule after rule, each over all its ids before the next; behind them what no rule names
 unfoldable pub first_broken : List ℕ → Told
-first_broken b = rules_from b 0 rules
+first_broken b =
+    ids_from (λ i. placed b (home b i) i) (number H-QUEUE) 1 (few b Layout.tasks)
+    (ids_from (unserved_ok b) (number H-SERVED) 1 (few b Layout.tasks)
+    (ids_from (message_once b) (number H-TWICE) 1 (few b Layout.messages)
+    (ids_from (pool_listed b) (number H-FREE) 1 (few b Layout.pools)
+    (told (number H-NUMBER) 0))))
+
+-- ---- what the private functions promise
+
+-- f gives true at each of ids 1 to n
+pub record KeptTo (f : ℕ → Bool → Type 0) (n : ℕ) : Type 0 where
+  pub each : (i : ℕ) → In i n → f i true
+
+-- x has the code, and the smallest of ids 1 to n at which f gives false
+pub record BrokenAt (f : ℕ → Bool → Type 0) (c : ℤ) (n : ℕ) (x : Breach) : Type 0 where
+  pub code : x.code ≡ c
+  pub there : In x.id n
+  pub broken : f x.id false
+  pub before : (i : ℕ) → 1 ≤ i → i < x.id → f i true
+
+abbrev pub Keeps : (ℕ → Bool → Type 0) → ℤ → ℕ → Result (Unit {0}) Breach → Type 0
+Keeps f c n (Ok u) = KeptTo f n
+Keeps f c n (Err x) = BrokenAt f c n x
+
+-- where no rule that names an id is broken, a number is
+abbrev pub told_by : Result (Unit {0}) Breach → Told
+told_by (Ok u) = told (number H-NUMBER) 0
+told_by (Err x) = told x.code x.id

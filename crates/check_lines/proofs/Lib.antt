@@ -1,3 +1,2 @@
 -- Laws of lines that may be damaged.
 pub mod Walks
-pub mod Steps

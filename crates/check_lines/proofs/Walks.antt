@@ -131,15 +131,15 @@ module _ (n : ℕ) (nx : List ℕ) (i before count : ℕ) where
   abbrev pub Summing : ℕ → ℕ → Type 0
   Summing found o = (o ≤ count) × (found ≤ 1) × (at_most_once n nx i before found (o + 1) (count - o) ≡ at_most_once n nx i before 0 1 count)
 
-  pub summing_starts : Summing 0 0
-  summing_starts = let z : count - 0 ≡ count = omega arith in (omega arith, omega arith, rw z)
-
   module _ (found o : ℕ) (g : Summing found o) where
     pub sum_done : count ≤ o → true ≡ at_most_once n nx i before 0 1 count
     unfolding at_most_once
     sum_done h = let z : count - o ≡ 0 = omega (arith, h) in rw z at g.2
 
-    module _ (h : o < count) {k : ℕ} (e : k ≡ times i (line_of n nx (before + (o + 1)))) where
+    module _ (h : o < count) {k : ℕ} (d : k ≡ times i (line_of n nx (before + o + 1))) where
+      e : k ≡ times i (line_of n nx (before + (o + 1)))
+      e = d ∙ ap (λ (x : ℕ). times i (line_of n nx x)) (omega arith)
+
       one : at_most_once n nx i before found (o + 1) (suc (count - (o + 1))) ≡ at_most_once n nx i before 0 1 count
       one = let z : count - o ≡ suc (count - (o + 1)) = omega (arith, h) in rw z at g.2
 

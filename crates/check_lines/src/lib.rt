@@ -20,9 +20,9 @@ use crate::lines::{line_known, stands_right, times_in};
 use check_queues::{block_home, home, ids_in};
 use check_state::in_range;
 use memory_columns::{
-    FLAG, FLAGS, FREE_ANCHORS, MAIL_ANCHORS, MAILBOX, MAILBOXES, MAX_BLOCKS, MAX_MESSAGES,
+    Column, FLAG, FLAGS, FREE_ANCHORS, MAIL_ANCHORS, MAILBOX, MAILBOXES, MAX_BLOCKS, MAX_MESSAGES,
     MAX_OBJECTS, MESSAGE_WORDS, POOL, POOLS, PRIORITIES, READY_ANCHORS, Rings, SEMAPHORE,
-    SEMAPHORES, STATE_WORDS, WAIT_ANCHORS, at_most, size, system,
+    SEMAPHORES, STATE_WORDS, WAIT_ANCHORS, at_most,
 };
 use memory_queues::{block_node, free_anchor, links};
 
@@ -39,7 +39,7 @@ const POOL_ANCHORS: u32 = WAIT_ANCHORS + MAX_OBJECTS * POOL;
 pub fn few(words: &[u32; STATE_WORDS], k: u32) -> u32
     ensures { (result ≡ Lines.few words.now k) × (result ≤ max_messages) }
 {
-    at_most(system(words, k), MAX_MESSAGES)
+    at_most(Column::System.get(words, k), MAX_MESSAGES)
 }
 
 // ---- the lines of the anchors behind `before`, so many
@@ -49,14 +49,7 @@ fn all_known(links: &[u32], n: u32, before: u32, count: u32) -> bool
     requires { before + count < 2 ^ 32 }
     ensures { result ≡ every count 1 (λ o. known 0 n (line_of n (nexts links.now) (before + o))) }
 {
-    let mut o: u32 = 0;
-    while o < count {
-        o += 1;
-        if !line_known(links, n, before + o, 0, n) {
-            return false;
-        }
-    }
-    true
+    (0..count).all(|o| line_known(links, n, before + o + 1, 0, n))
 }
 
 // The id i stands in each of them as often as it belongs there.
@@ -64,14 +57,7 @@ fn all_right(links: &[u32], n: u32, before: u32, count: u32, home: u32, i: u32) 
     requires { before + count < 2 ^ 32 }
     ensures { result ≡ every count 1 (λ o. stands_right n (nexts links.now) home i (before + o)) }
 {
-    let mut o: u32 = 0;
-    while o < count {
-        o += 1;
-        if !stands_right(links, n, before + o, home, i) {
-            return false;
-        }
-    }
-    true
+    (0..count).all(|o| stands_right(links, n, before + o + 1, home, i))
 }
 
 // The id i stands at most once in all of them together.
@@ -80,10 +66,8 @@ fn at_most_once(links: &[u32], n: u32, before: u32, count: u32, i: u32) -> bool
     ensures { result ≡ at_most_once n (nexts links.now) i before 0 1 count }
 {
     let mut found: usize = 0;
-    let mut o: u32 = 0;
-    while o < count {
-        o += 1;
-        found += times_in(links, n, before + o, i);
+    for o in 0..count {
+        found += times_in(links, n, before + o + 1, i);
         if 1 < found {
             return false;
         }
@@ -107,24 +91,18 @@ fn queues_known(words: &[u32; STATE_WORDS], rings: Rings, before: u32, k: u32) -
     )
 }
 
+#[tactic(auto, unfolding(crate::specs::Lines::every_in))]
 fn tasks_known(words: &[u32; STATE_WORDS]) -> bool
     ensures { result ≡ Lines.tasks_known words.now }
 {
-    if !queues_known(words, Rings::Tasks, READY_ANCHORS, PRIORITIES) {
-        return false;
-    }
-    if !queues_known(words, Rings::Tasks, SEMAPHORE_ANCHORS, SEMAPHORES) {
-        return false;
-    }
-    if !queues_known(words, Rings::Tasks, FLAG_ANCHORS, FLAGS) {
-        return false;
-    }
-    if !queues_known(words, Rings::Tasks, MAILBOX_ANCHORS, MAILBOXES) {
-        return false;
-    }
-    queues_known(words, Rings::Tasks, POOL_ANCHORS, POOLS)
+    queues_known(words, Rings::Tasks, READY_ANCHORS, PRIORITIES)
+        && queues_known(words, Rings::Tasks, SEMAPHORE_ANCHORS, SEMAPHORES)
+        && queues_known(words, Rings::Tasks, FLAG_ANCHORS, FLAGS)
+        && queues_known(words, Rings::Tasks, MAILBOX_ANCHORS, MAILBOXES)
+        && queues_known(words, Rings::Tasks, POOL_ANCHORS, POOLS)
 }
 
+#[tactic(auto, unfolding(crate::specs::Lines::every_in))]
 fn mails_known(words: &[u32; STATE_WORDS]) -> bool
     ensures { result ≡ Lines.mails_known words.now }
 {
@@ -141,38 +119,22 @@ fn pool_known(words: &[u32; STATE_WORDS], p: u32) -> bool
         ids_in(words, Rings::Blocks),
         FREE_ANCHORS + p,
         MAX_BLOCKS * (p - 1),
-        size(words, p),
+        Column::Size.get(words, p),
     )
 }
 
 fn pools_known(words: &[u32; STATE_WORDS]) -> bool
     ensures { result ≡ Lines.pools_known words.now }
 {
-    let n = few(words, POOLS);
-    let mut p: u32 = 0;
-    while p < n {
-        p += 1;
-        if !pool_known(words, p) {
-            return false;
-        }
-    }
-    true
+    (1..few(words, POOLS) + 1).all(|p| pool_known(words, p))
 }
 
 // Every number lies in its range, those that stand in queues too.
+#[tactic(auto, unfolding(crate::specs::Lines::numbers_ok))]
 pub fn numbers_ok(words: &[u32; STATE_WORDS], messages: &[u32; MESSAGE_WORDS]) -> bool
     ensures { result ≡ Lines.numbers_ok words.now messages.now }
 {
-    if !in_range(words, messages) {
-        return false;
-    }
-    if !tasks_known(words) {
-        return false;
-    }
-    if !mails_known(words) {
-        return false;
-    }
-    pools_known(words)
+    in_range(words, messages) && tasks_known(words) && mails_known(words) && pools_known(words)
 }
 
 // ---- the rules that name an id
@@ -194,22 +156,15 @@ fn placed_in(words: &[u32; STATE_WORDS], before: u32, k: u32, home: u32, t: u32)
 }
 
 // The same in all queues.
+#[tactic(auto, unfolding(crate::specs::Lines::placed, crate::specs::Lines::every_in))]
 fn placed(words: &[u32; STATE_WORDS], home: u32, t: u32) -> bool
     ensures { result ≡ Lines.placed words.now home t }
 {
-    if !placed_in(words, READY_ANCHORS, PRIORITIES, home, t) {
-        return false;
-    }
-    if !placed_in(words, SEMAPHORE_ANCHORS, SEMAPHORES, home, t) {
-        return false;
-    }
-    if !placed_in(words, FLAG_ANCHORS, FLAGS, home, t) {
-        return false;
-    }
-    if !placed_in(words, MAILBOX_ANCHORS, MAILBOXES, home, t) {
-        return false;
-    }
-    placed_in(words, POOL_ANCHORS, POOLS, home, t)
+    placed_in(words, READY_ANCHORS, PRIORITIES, home, t)
+        && placed_in(words, SEMAPHORE_ANCHORS, SEMAPHORES, home, t)
+        && placed_in(words, FLAG_ANCHORS, FLAGS, home, t)
+        && placed_in(words, MAILBOX_ANCHORS, MAILBOXES, home, t)
+        && placed_in(words, POOL_ANCHORS, POOLS, home, t)
 }
 
 // Task t is not missing, not doubled and not foreign in any queue.
@@ -220,6 +175,7 @@ pub fn task_placed(words: &[u32; STATE_WORDS], t: u32) -> bool
 }
 
 // Message j is not held twice.
+#[tactic(auto, unfolding(crate::specs::Lines::message_once))]
 pub fn message_once(words: &[u32; STATE_WORDS], j: u32) -> bool
     ensures { result ≡ Lines.message_once words.now j }
 {
@@ -247,16 +203,9 @@ fn block_listed(words: &[u32; STATE_WORDS], p: u32, k: u32) -> bool
 }
 
 // No free block of pool p is missing or doubled in its queue, and no other stands there.
+#[tactic(auto, unfolding(crate::specs::Lines::pool_listed))]
 pub fn pool_listed(words: &[u32; STATE_WORDS], p: u32) -> bool
     ensures { result ≡ Lines.pool_listed words.now p }
 {
-    let n = size(words, p);
-    let mut k: u32 = 0;
-    while k < n {
-        k += 1;
-        if !block_listed(words, p, k) {
-            return false;
-        }
-    }
-    true
+    (0..Column::Size.get(words, p)).all(|k| block_listed(words, p, k + 1))
 }

@@ -13,7 +13,7 @@ use memory_rings::follow;
 fn shows(x: u32, low: u32, most: u32) -> bool
     ensures { result ≡ Lists.shows low most x }
 {
-    if x <= low { false } else { x - low <= most }
+    low < x && x - low <= most
 }
 
 // Every node in the line of anchor a shows such a number.
@@ -21,8 +21,7 @@ pub fn line_known(links: &[u32], n: u32, a: u32, low: u32, most: u32) -> bool
     ensures { result ≡ Lists.known low most (line_of n (nexts links.now) a) }
 {
     let mut x = follow(links, a);
-    let mut left = n as usize + 1;
-    while 0 < left {
+    for _ in 0..n as usize + 1 {
         if x == a {
             return true;
         }
@@ -33,7 +32,6 @@ pub fn line_known(links: &[u32], n: u32, a: u32, low: u32, most: u32) -> bool
             return true;
         }
         x = follow(links, x);
-        left -= 1;
     }
     true
 }
@@ -41,7 +39,7 @@ pub fn line_known(links: &[u32], n: u32, a: u32, low: u32, most: u32) -> bool
 fn one_if_same(x: u32, i: u32) -> usize
     ensures { (result ≡ once (eqb x i)) × (result ≤ 1) }
 {
-    if x == i { 1 } else { 0 }
+    usize::from(x == i)
 }
 
 // How often i stands in the line of anchor a.
@@ -50,8 +48,7 @@ pub fn times_in(links: &[u32], n: u32, a: u32, i: u32) -> usize
 {
     let mut found: usize = 0;
     let mut x = follow(links, a);
-    let mut left = n as usize + 1;
-    while 0 < left {
+    for _ in 0..n as usize + 1 {
         if x == a {
             return found;
         }
@@ -60,15 +57,14 @@ pub fn times_in(links: &[u32], n: u32, a: u32, i: u32) -> usize
             return found;
         }
         x = follow(links, x);
-        left -= 1;
     }
     found
 }
 
 // The id i stands in the line of anchor a as often as it belongs there: once if that is its home, else not at all.
+#[tactic(auto, unfolding(crate::specs::Lists::stands_right))]
 pub fn stands_right(links: &[u32], n: u32, a: u32, home: u32, i: u32) -> bool
     ensures { result ≡ Lists.stands_right n (nexts links.now) home i a }
 {
-    let found = times_in(links, n, a, i);
-    found == one_if_same(home, a)
+    times_in(links, n, a, i) == one_if_same(home, a)
 }

@@ -1,5 +1,8 @@
 -- The set bits of masks, counted mask by mask, are the ids that the masks mark. Assumes nothing.
-use Rattle.std.proofs.Common.{◌≡◌, ℕ, zero, suc, pred, ◌+◌, ◌*◌, ◌/◌, ◌%◌, ◌^◌, ◌<◌, ◌≤◌, Bool, eqb, List, get_or, sym, ap, ◌∙◌, subst, div-one, add-one, arith, shr-shr, shr_lt, eq-eqb, ne_eqb}
+use Rattle.std.proofs.Common.{◌≡◌, ℕ, zero, suc, pred, ◌+◌, ◌*◌, ◌/◌, ◌%◌, ◌^◌, ◌<◌, ◌≤◌, Bool, eqb, List, get_or, length, take, refl, sym, ap, ◌∙◌, subst, div-one, add-one, arith, shr-shr, shr_lt, eq-eqb, ne_eqb}
+use Rattle.std.proofs.lemmas.List.Sums.{sum_by_more}
+use Rattle.std.proofs.lemmas.List.{take_all}
+use Rattle.std.specs.List.{sum_by}
 use native.Mathlib.Decide.{ℕ_discrete}
 use lib.Count.{ones, ones_step, ones-le}
 use Rattle.rules.specs.Ids.{once}
@@ -57,3 +60,14 @@ ones_on l i h e =
 
 pub ones_few : (m : ℕ) → m < 2 ^ 32 → ones m ≤ bits
 ones_few m h = ones-le 32 m h
+
+ones_upto : (l : List ℕ) → ((i : ℕ) → get_or l i 0 < 2 ^ 32) → (i : ℕ) → i ≤ length l → sum_by ones (take i l) ≡ counted (bits * i) (housed Masks l)
+unfolding counted
+ones_upto l f zero h = refl
+ones_upto l f (suc i) h =
+    let r : sum_by ones (take (i + 1) l) ≡ counted (bits * (i + 1)) (housed Masks l) = rw (sum_by_more ones l i 0 h) (ones_on l i (f i) (ones_upto l f i (omega arith))) in
+    rw add-one at r
+
+-- the set bits of all masks
+pub ones_are : (l : List ℕ) → ((i : ℕ) → get_or l i 0 < 2 ^ 32) → sum_by ones l ≡ counted (bits * length l) (housed Masks l)
+ones_are l f = rw (take_all (length l) l (omega arith)) at (ones_upto l f (length l) (omega arith))

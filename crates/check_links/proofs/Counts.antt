@@ -18,6 +18,15 @@ unfolding counted
 counted_none zero f h = refl
 counted_none (suc n) f h = rw (counted_none n f (λ i k. h i (k.0, omega arith)), h (suc n) (omega arith, omega arith))
 
+pub counted_few : (n : ℕ) (f : ℕ → Bool) → counted n f ≤ n
+unfolding counted
+counted_few zero f = omega arith
+counted_few (suc n) f = omega (arith, counted_few n f, at_most_one (f (suc n)))
+  where
+    at_most_one : (t : Bool) → once t ≤ 1
+    at_most_one true = omega arith
+    at_most_one false = omega arith
+
 -- the test, and it is not x
 abbrev but : ℕ → (ℕ → Bool) → ℕ → Bool
 but x f i = f i && not (eqb x i)

@@ -1,5 +1,8 @@
 -- The loops of the check, step by step: what each way out of a turn gives, and what the next turn starts from. Assumes nothing.
 use Rattle.std.proofs.Common.{◌≡◌, ℕ, zero, suc, ◌+◌, ◌-◌, ◌*◌, ◌/◌, ◌%◌, ◌^◌, ◌<◌, ◌≤◌, Bool, true, false, cond, not, ◌&&◌, eqb, ltb, leb, ◌≢◌, List, [], ◌∷◌, length, get_or, take, drop, sym, refl, ap, ◌∙◌, subst, add-one, arith, length-drop, length-take-le, get_or-take, ltb-true, le-ltb, lt-ltb, eq-eqb, ne_eqb, eqb-true, le-leb, leb-true}
+use Rattle.std.proofs.lemmas.List.Sums.{sum_by_more}
+use Rattle.std.proofs.lemmas.List.{take_all}
+use Rattle.std.specs.List.{sum_by}
 use mathlib.Core.Bool.{and-false}
 use native.Mathlib.Decide.{ℕ_discrete, dec_le}
 use native.Mathlib.Nat.{zero-div}
@@ -25,22 +28,18 @@ filled_on l i n {k} e d = rw add-one (go (eqb (get_or l i 0) 0) d)
     go true d = omega (arith, e, d)
     go false d = omega (arith, e, d)
 
+zeros_upto : (l : List ℕ) (i : ℕ) → i ≤ length l → sum_by (λ x. once (eqb x 0)) (take i l) + filled i l ≡ i
+unfolding counted
+zeros_upto l zero h = refl
+zeros_upto l (suc i) h =
+    let r : sum_by (λ x. once (eqb x 0)) (take (i + 1) l) + filled (i + 1) l ≡ i + 1 = rw (sum_by_more (λ x. once (eqb x 0)) l i 0 h) (filled_on l i _ (zeros_upto l i (omega arith)) refl) in
+    rw add-one at r
+
+-- and of all
+pub zeros_are : (l : List ℕ) → sum_by (λ x. once (eqb x 0)) l + filled (length l) l ≡ length l
+zeros_are l = rw (take_all (length l) l (omega arith)) at (zeros_upto l (length l) (omega arith))
+
 -- ---- tables
-
-module _ (l : List ℕ) (v y : ℕ) where
-  pub below_ids : y < 1 → false ≡ belongs l v y
-  unfolding belongs
-  below_ids h = rw (lt-leb 1 y h)
-
-  pub above_ids : length l < y → false ≡ belongs l v y
-  unfolding belongs
-  above_ids h = simp (lt-leb y (length l) h, and-false)
-
-  pub at_home : 1 ≤ y → y ≤ length l → {x : ℕ} → x ≡ get_or l (y - 1) 0 → eqb x v ≡ belongs l v y
-  unfolding belongs
-  at_home h k e =
-      let z : y ≡ suc (y - 1) = omega arith in
-      rw (le-leb 1 y h, le-leb y (length l) k) (ap (λ (x : ℕ). eqb x v) (e ∙ ap (λ (i : ℕ). of l i 0) (sym z)))
 
 pub ids_few : (t : Table) (l : List ℕ) → ids_of t l ≤ bits * length l
 ids_few (Homes s) l = omega arith
@@ -85,14 +84,6 @@ own_id Masks l p a y e = marked_id l (a - p) y e
 -- and so a node
 pub node : (t : Table) (l : List ℕ) (p a y : ℕ) {n : ℕ} {r : Bool} → r ≡ owns t l p a y → not r ≡ false → ids_of t l < n → y < n
 node t l p a y {n} {r} e h k = let i = own_id t l p a y (sym e ∙ not-false r h) in omega (arith, i.1)
-
--- what is asked of the anchor, by what the table has
-module _ {t : Table} (l : List ℕ) (p a : ℕ) where
-  pub home_shift : {s : ℕ} → t ≡ Homes s → Covered t l p a → s ≤ a
-  home_shift e h = subst (λ (u : Table). Covered u l p a) e h
-
-  pub mask_at : t ≡ Masks → Covered t l p a → (p ≤ a) × (a - p < length l)
-  mask_at e h = subst (λ (u : Table). Covered u l p a) e h
 
 -- an anchor of those covered is covered
 pub covered : (t : Table) (l : List ℕ) (p n a : ℕ) → covers t l p n ≡ true → p ≤ a → a < p + n → Covered t l p a

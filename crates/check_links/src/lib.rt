@@ -32,19 +32,8 @@ fn filled(words: &[u32]) -> u32
     requires { length words.now < 4294967296 }
     ensures { (result ≡ filled (length words.now) words.now) × (result ≤ length words.now) }
 {
-    let mut zeros: u32 = 0;
-    let mut i = 0;
-    while i < words.len() {
-        zeros += one_if_zero(words[i]);
-        i += 1;
-    }
+    let zeros: u32 = words.iter().map(|x| u32::from(*x == 0)).sum();
     words.len() as u32 - zeros
-}
-
-fn one_if_zero(x: u32) -> u32
-    ensures { (result ≡ once (x == 0)) × (result ≤ 1) }
-{
-    if x == 0 { 1 } else { 0 }
 }
 
 // How many bits of all masks are set.
@@ -53,13 +42,7 @@ fn ones(masks: &[u32]) -> u32
     ensures { (result ≡ counted (bits * length masks.now) (housed Masks masks.now)) ×
         (result ≤ bits * length masks.now) }
 {
-    let mut n: u32 = 0;
-    let mut i = 0;
-    while i < masks.len() {
-        n += u32::count_ones(masks[i]);
-        i += 1;
-    }
-    n
+    masks.iter().map(|m| m.count_ones()).sum()
 }
 
 // How many ids a table is of.
@@ -97,8 +80,7 @@ pub fn budget(links: &[u32], words: &[u32], table: Table) -> u32
         return 0;
     }
     let all = held(words, table);
-    let e = n + 1;
-    if filled(&links[1..e]) == all {
+    if filled(&links[1..n + 1]) == all {
         all + 1
     } else {
         0
@@ -107,40 +89,28 @@ pub fn budget(links: &[u32], words: &[u32], table: Table) -> u32
 
 // ---- links of nodes
 
-fn wide(x: u32) -> usize
-    ensures { result ≡ x }
-{
-    x as usize
-}
-
 fn next(links: &[u32], x: usize) -> usize
     requires { x < half links.now }
     ensures { result ≡ next_of links.now x }
 {
-    wide(links[x])
+    links[x] as usize
 }
 
 fn prev(links: &[u32], x: usize) -> usize
     requires { x < half links.now }
     ensures { result ≡ prev_of links.now x }
 {
-    let back = links.len() / 2;
-    wide(links[back + x])
+    links[links.len() / 2 + x] as usize
 }
 
 // ---- rings
 
 // Whether node y is an id whose home is v.
+#[tactic(auto, unfolding(crate::specs::Survey::belongs))]
 fn homed(homes: &[u32], v: usize, y: usize) -> bool
     ensures { result ≡ belongs homes.now v y }
 {
-    if y < 1 {
-        return false;
-    }
-    if homes.len() < y {
-        return false;
-    }
-    wide(homes[y - 1]) == v
+    1 <= y && y <= homes.len() && homes[y - 1] as usize == v
 }
 
 // Whether node y is one of the ids from `first` on that a mask is of, and its bit is set.
@@ -149,11 +119,8 @@ fn is_marked(mask: u32, first: usize, y: usize) -> bool
     ensures { result ≡ marked mask first y }
 {
     // A node before the first wraps to a large number: one comparison serves both ends.
-    let k = std::num::wrapping_sub_usize(y, first);
-    if BITS <= k {
-        return false;
-    }
-    (mask >> k) % 2 == 1
+    let k = y.wrapping_sub(first);
+    k < BITS && (mask >> k) % 2 == 1
 }
 
 // Whether node y is an id that belongs to the ring of anchor a.
@@ -162,7 +129,7 @@ fn is_own(words: &[u32], table: Table, first: usize, a: usize, y: usize) -> bool
     ensures { result ≡ owns table words.now first a y }
 {
     match table {
-        Table::Homes(shift) => homed(words, a - wide(shift), y),
+        Table::Homes(shift) => homed(words, a - shift as usize, y),
         Table::Masks => {
             let i = a - first;
             is_marked(words[i], BITS * i + 1, y)
@@ -179,6 +146,7 @@ fn tour(links: &[u32], words: &[u32], table: Table, first: usize, a: usize, budg
 {
     let mut x = a;
     let mut k = budget;
+    // Counted by hand: over `0..budget` the compiler no longer lays a survey out ring by ring, and the check costs a twentieth more.
     while 0 < k {
         let y = next(links, x);
         if y == a {
@@ -204,7 +172,7 @@ fn is_covered(words: &[u32], table: Table, first: usize, count: usize) -> bool
     ensures { result ≡ covers table words.now first count }
 {
     match table {
-        Table::Homes(shift) => wide(shift) <= first,
+        Table::Homes(shift) => shift as usize <= first,
         Table::Masks => count <= words.len(),
     }
 }
@@ -214,8 +182,8 @@ pub fn survey(links: &[u32], words: &[u32], table: Table, a: u32, count: u32, bu
     ensures { result ≡ ranged links.now table words.now a count budget }
 {
     let half = links.len() / 2;
-    let first = wide(a);
-    let n = wide(count);
+    let first = a as usize;
+    let n = count as usize;
     let e = first + n;
     if MOST < words.len() {
         return 0;
@@ -229,9 +197,8 @@ pub fn survey(links: &[u32], words: &[u32], table: Table, a: u32, count: u32, bu
     if !is_covered(words, table, first, n) {
         return 0;
     }
-    let mut b = first;
     let mut k = budget;
-    while b < e {
+    for b in first..e {
         // Most rings are empty, and take nothing.
         if next(links, b) == b {
             if prev(links, b) != b {
@@ -243,7 +210,6 @@ pub fn survey(links: &[u32], words: &[u32], table: Table, a: u32, count: u32, bu
                 return 0;
             }
         }
-        b += 1;
     }
     k
 }

@@ -3,18 +3,16 @@
 // id belongs: by a table of homes, or by the masks of the pools.
 #![tactic(auto)]
 
-ghost use Rattle.std.specs.Prelude.{◌≡◌, [], ◌≤◌, length};
+ghost use Rattle.std.specs.Prelude.{◌≡◌, ℕ, [], ◌+◌, ◌≤◌, ◌<◌, length, get_or};
 ghost use Rattle.memory_columns.specs.declared.Rings.TheVariants.{Tasks, Messages, Blocks};
-ghost use Rattle.memory_columns.specs.Layout as Layout;
-ghost use Rattle.memory_columns.specs.Layout.{entry};
 ghost use Rattle.check_queues.specs.Queues as Queues;
 
 use check_links::{Table, budget};
 use memory_columns::{
-    FIRST_FLAG, FIRST_FREE, FIRST_MAIL, FIRST_MAILBOX, FIRST_POOL, FIRST_READY, FIRST_SEMAPHORE,
-    FLAGS, MAILBOXES, MAX_BLOCKS, MAX_MESSAGES, MAX_POOLS, MAX_TASKS, MESSAGE_WORDS, MESSAGES,
-    POOLS, PRIORITIES, READY, Rings, SEMAPHORE, SEMAPHORES, STATE_WORDS, TASKS, WAIT, WAIT_SUSPEND,
-    at_most, free, kind, object, priority, status, system,
+    Column, FIRST_FLAG, FIRST_FREE, FIRST_MAIL, FIRST_MAILBOX, FIRST_POOL, FIRST_READY,
+    FIRST_SEMAPHORE, FLAGS, MAILBOXES, MAX_BLOCKS, MAX_MESSAGES, MAX_POOLS, MAX_TASKS,
+    MESSAGE_WORDS, MESSAGES, POOLS, PRIORITIES, READY, Rings, SEMAPHORE, SEMAPHORES, STATE_WORDS,
+    TASKS, WAIT, WAIT_SUSPEND, at_most,
 };
 use memory_queues::{free_anchor, links, ready_anchor, wait_anchor};
 
@@ -26,6 +24,7 @@ const POOL_MASKS: usize = 8;
 // ---- homes: the anchor of the queue to which one belongs, 0 if to none
 
 // Of a wait; a sleeper's is 0.
+#[tactic(auto, unfolding(crate::specs::Queues::wait_home))]
 fn wait_home(kind: u32, object: u32) -> u32
     ensures { result ≡ Queues.wait_home kind object }
 {
@@ -37,23 +36,19 @@ fn wait_home(kind: u32, object: u32) -> u32
 }
 
 // Of a task.
+#[tactic(auto, unfolding(crate::specs::Queues::home))]
 pub fn home(words: &[u32; STATE_WORDS], t: u32) -> u32
     ensures { result ≡ Queues.home words.now t }
 {
-    let s = status(words, t);
-    if s == READY {
-        return ready_anchor(priority(words, t));
+    match Column::Status.get(words, t) {
+        READY => ready_anchor(Column::Priority.get(words, t)),
+        WAIT | WAIT_SUSPEND => wait_home(Column::Kind.get(words, t), Column::Object.get(words, t)),
+        _ => 0,
     }
-    if s == WAIT {
-        return wait_home(kind(words, t), object(words, t));
-    }
-    if s == WAIT_SUSPEND {
-        return wait_home(kind(words, t), object(words, t));
-    }
-    0
 }
 
 // Of the block of a node, by its mark: it is free.
+#[tactic(auto, unfolding(crate::specs::Queues::block_home))]
 pub fn block_home(words: &[u32; STATE_WORDS], x: u32) -> u32
     ensures { result ≡ Queues.block_home words.now x }
 {
@@ -61,10 +56,11 @@ pub fn block_home(words: &[u32; STATE_WORDS], x: u32) -> u32
         return 0;
     }
     let p = (x - 1) / MAX_BLOCKS + 1;
-    if (free(words, p) >> ((x - 1) % MAX_BLOCKS)) % 2 == 1 {
-        return free_anchor(p);
+    if (Column::Free.get(words, p) >> ((x - 1) % MAX_BLOCKS)) % 2 == 1 {
+        free_anchor(p)
+    } else {
+        0
     }
-    0
 }
 
 // ---- the rings of a sort
@@ -74,35 +70,22 @@ pub fn ids_in(words: &[u32; STATE_WORDS], rings: Rings) -> u32
     ensures { result ≡ Queues.ids_in words.now rings }
 {
     match rings {
-        Rings::Tasks => system(words, TASKS),
-        Rings::Messages => system(words, MESSAGES),
-        Rings::Blocks => MAX_BLOCKS * at_most(system(words, POOLS), MAX_POOLS),
+        Rings::Tasks => Column::System.get(words, TASKS),
+        Rings::Messages => Column::System.get(words, MESSAGES),
+        Rings::Blocks => MAX_BLOCKS * at_most(Column::System.get(words, POOLS), MAX_POOLS),
     }
 }
 
 // ---- tables, one entry after the other
 
-// The home of each task.
-fn task_homes(words: &[u32; STATE_WORDS], n: u32, homes: &mut [u32])
-    requires { n ≤ length homes.old }
-    ensures { Queues.Laid (Queues.home words.now) n homes.new }
+// Each entry that f gives for the ids 1 to n.
+fn lay<F: Fn(u32) -> u32>(n: u32, f: F, table: &mut [u32])
+    requires room { n ≤ length table.old }
+    requires callable { F.IsAlwaysCallable f }
+    ensures { (j : ℕ) → j < n → F.post f (j + 1) (get_or table.new j 0) }
 {
-    let mut i: u32 = 0;
-    while i < n {
-        homes[i as usize] = home(words, i + 1);
-        i += 1;
-    }
-}
-
-// The mask of each pool: the nodes of its free blocks.
-fn pool_masks(words: &[u32; STATE_WORDS], n: u32, masks: &mut [u32])
-    requires { n ≤ length masks.old }
-    ensures { Queues.Laid (entry Layout.free words.now) n masks.new }
-{
-    let mut i: u32 = 0;
-    while i < n {
-        masks[i as usize] = free(words, i + 1);
-        i += 1;
+    for i in 0..n {
+        table[i as usize] = f(i + 1);
     }
 }
 
@@ -135,12 +118,13 @@ fn survey_queues(
         table,
         table_of(rings),
         anchor,
-        system(words, k),
+        Column::System.get(words, k),
         budget,
     )
 }
 
 // All ready queues and wait queues in use.
+#[tactic(auto, unfolding(crate::specs::Queues::ranges))]
 fn survey_tasks(words: &[u32; STATE_WORDS], homes: &[u32], budget: u32) -> u32
     ensures { result ≡ Queues.ranges_in words.now Tasks homes.now budget }
 {
@@ -167,26 +151,25 @@ fn budget_of(words: &[u32; STATE_WORDS], rings: Rings, table: &[u32]) -> u32
     budget(links(words, rings), table, table_of(rings))
 }
 
-// Whether as many are linked as belong to a queue, and all of those stand there.
-fn tasks_settled(words: &[u32; STATE_WORDS], homes: &[u32]) -> bool
-    ensures { result ≡ Queues.settled words.now Tasks homes.now }
+// The rings of a sort, one range after the other.
+#[tactic(auto, unfolding(crate::specs::Queues::ranges))]
+fn survey_all(words: &[u32; STATE_WORDS], rings: Rings, table: &[u32], budget: u32) -> u32
+    ensures { result ≡ Queues.ranges_in words.now rings table.now budget }
 {
-    let all = budget_of(words, Rings::Tasks, homes);
-    survey_tasks(words, homes, all) == 1
+    match rings {
+        Rings::Tasks => survey_tasks(words, table, budget),
+        Rings::Messages => survey_queues(words, rings, table, FIRST_MAIL, MAILBOXES, budget),
+        Rings::Blocks => survey_queues(words, rings, table, FIRST_FREE, POOLS, budget),
+    }
 }
 
-fn mail_settled(words: &[u32; STATE_WORDS], homes: &[u32]) -> bool
-    ensures { result ≡ Queues.settled words.now Messages homes.now }
+// Whether as many are linked as belong to a queue, and all of those stand there. It is laid into the test of each sort,
+// where the compiler knows which rings and how long a table.
+#[inline(always)]
+fn settled(words: &[u32; STATE_WORDS], rings: Rings, table: &[u32]) -> bool
+    ensures { result ≡ Queues.settled words.now rings table.now }
 {
-    let all = budget_of(words, Rings::Messages, homes);
-    survey_queues(words, Rings::Messages, homes, FIRST_MAIL, MAILBOXES, all) == 1
-}
-
-fn blocks_settled(words: &[u32; STATE_WORDS], masks: &[u32]) -> bool
-    ensures { result ≡ Queues.settled words.now Blocks masks.now }
-{
-    let all = budget_of(words, Rings::Blocks, masks);
-    survey_queues(words, Rings::Blocks, masks, FIRST_FREE, POOLS, all) == 1
+    survey_all(words, rings, table, budget_of(words, rings, table)) == 1
 }
 
 fn tasks_queued(words: &[u32; STATE_WORDS]) -> bool
@@ -194,30 +177,28 @@ fn tasks_queued(words: &[u32; STATE_WORDS]) -> bool
 {
     let mut homes = [0u32; TASK_HOMES];
     let n = at_most(ids_in(words, Rings::Tasks), MAX_TASKS);
-    task_homes(words, n, &mut homes);
-    let e = n as usize;
-    tasks_settled(words, &homes[..e])
+    lay(n, |t| home(words, t), &mut homes);
+    settled(words, Rings::Tasks, &homes[..n as usize])
 }
 
 fn mail_queued(words: &[u32; STATE_WORDS], messages: &[u32; MESSAGE_WORDS]) -> bool
     ensures { result ≡ Queues.queued_in words.now messages.now Messages }
 {
-    let all = &messages[..];
-    let n = at_most(ids_in(words, Rings::Messages), MAX_MESSAGES) as usize;
-    mail_settled(words, &all[..n])
+    let n = at_most(ids_in(words, Rings::Messages), MAX_MESSAGES);
+    settled(words, Rings::Messages, &messages[..n as usize])
 }
 
 fn blocks_queued(words: &[u32; STATE_WORDS]) -> bool
     ensures { result ≡ Queues.queued_in words.now [] Blocks }
 {
     let mut masks = [0u32; POOL_MASKS];
-    let n = at_most(system(words, POOLS), MAX_POOLS);
-    pool_masks(words, n, &mut masks);
-    let e = n as usize;
-    blocks_settled(words, &masks[..e])
+    let n = at_most(Column::System.get(words, POOLS), MAX_POOLS);
+    lay(n, |p| Column::Free.get(words, p), &mut masks);
+    settled(words, Rings::Blocks, &masks[..n as usize])
 }
 
 // Whether each of a sort stands where it belongs, once, and nowhere else.
+#[tactic(auto, unfolding(crate::specs::Queues::queued_in))]
 pub fn queued(words: &[u32; STATE_WORDS], messages: &[u32; MESSAGE_WORDS], rings: Rings) -> bool
     ensures { result ≡ Queues.queued_in words.now messages.now rings }
 {

@@ -1,85 +1,70 @@
--- The loops over ids: what the rest gives from here is what the whole gives. Assumes nothing.
-use Prim.Native.Nat.{ℕ, suc, ◌+◌, ◌-◌, ◌≤◌, ◌<◌}
-use mathlib.Core.Path.{◌≡◌, sym, ap, ◌∙◌, subst}
-use mathlib.Core.Bool.{Bool, true, false, not, ◌&&◌, and-true, and_assoc, true≢false}
+-- The loops over ids: `all` and `fold` over a range of them say what `every` says. Assumes nothing.
+use Prim.Native.Nat.{ℕ, zero, suc, ◌+◌, ◌≤◌, ◌<◌}
+use mathlib.Core.List.{List, [], ◌∷◌, ◌++◌}
+use mathlib.Core.Path.{◌≡◌, refl, ap, ◌∙◌}
+use mathlib.Core.Bool.{Bool, true, false, ◌&&◌, and-true}
+use Rattle.std.proofs.lemmas.Fn.{fold_over}
+use Rattle.std.proofs.lemmas.List.Folds.{list_all-append}
 use native.Mathlib.Numerals.{add-one}
 use native.Mathlib.Omega.{arith}
-use borrow.Author.Tests.{le-leb, lt-leb, not-true}
-use native.Mathlib.Decide.{dec_le}
-use Rattle.memory_columns.specs.Layout.{at_most}
-use Rattle.check_ranges.proofs.Steps.{failed}
 use Rattle.check_ranges.specs.Ranges.{every}
+use Rattle.std.proofs.iter.Yields.{nat_range_steps}
+use Rattle.std.proofs.lemmas.Iterator.{YieldsList, YieldsList-from_range}
+use Rattle.std.proofs.Common.{length, take, drop, get_or, drop-cons}
+use Rattle.rules.specs.Ids.{of}
+use Rattle.std.proofs.lemmas.Iterator.Search.{all_from_yields_List}
+use Rattle.std.specs.Fn.{Called}
+use Rattle.std.specs.Iterator.{YieldsThen, Drains}
+use Rattle.std.specs.List.{FoldsTo, list_all, range_with_len}
+use Rattle.std.specs.Option.{MatchOption}
+use Rattle.std.specs.declared.ops.Range.{Range}
+use Rattle.std.specs.declared.option.Option.{Option}
+use denote.Param.Members.{Mut}
 
--- the ids from i on, `left` of them, decide as all n do
-abbrev pub Going : (ℕ → Bool) → ℕ → ℕ → ℕ → Type 0
-Going f n i left = (every left i f ≡ every n 1 f) × (i + left ≡ n + 1)
+-- the ids from k on as a list
+every_listed : (n k : ℕ) (f : ℕ → Bool) → list_all f (range_with_len k n) ≡ every n k f
+unfolding every
+every_listed zero k f = refl
+every_listed (suc n) k f = ap (λ (b : Bool). f k && b) (rw add-one (every_listed n (suc k) f))
 
-module _ (f : ℕ → Bool) (n i left : ℕ) (g : Going f n i left) where
-  pub going_done : left ≤ 0 → true ≡ every n 1 f
-  unfolding every
-  going_done h = let z : left ≡ 0 = omega arith in rw z at g.0
+-- `(1..n + 1).all(..)` of a closure that computes the test f
+pub all_is_every : {F : Type 0} {g : Mut F (ℕ × Unit {0}) Bool} {s u : Range ℕ} {j : F} {r : Bool} (f : ℕ → Bool) (n : ℕ)
+    → (xs : List ℕ) × (o : Option ℕ) × (h : F) × YieldsThen nat_range_steps s xs o u × FoldsTo (λ p x q. Called g p (x, tt) true q) j xs h × MatchOption o (r ≡ true) (λ x. (r ≡ false) × ((q : F) × Called g h (x, tt) false q))
+    → s ≡ record { start = 1; end = n + 1 } → ((x : ℕ) (b : Bool) (q : F) → Called g j (x, tt) b q → (q ≡ j) × (b ≡ f x)) → r ≡ every n 1 f
+all_is_every f n ran e k = all_from_yields_List f _ _ _ ran (YieldsList-from_range 1 (n + 1) n e (omega arith)) k ∙ every_listed n 1 f
 
-  module _ (h : 0 < left) where
-    one : every left i f ≡ every (suc (left - 1)) i f
-    one = ap (λ (k : ℕ). every k i f) (omega arith)
+every_listed_from : (n k : ℕ) (f : ℕ → Bool) → list_all (λ i. f (i + 1)) (range_with_len k n) ≡ every n (suc k) f
+unfolding every
+every_listed_from zero k f = refl
+every_listed_from (suc n) k f = rw add-one (ap (λ (b : Bool). f (suc k) && b) (every_listed_from n (suc k) f))
 
-    pub going_fail : f i ≡ false → false ≡ every n 1 f
-    unfolding every
-    going_fail e = (rw e at (sym one)) ∙ g.0
+-- `(0..n).all(..)` of a closure that computes the test f of the next
+pub all_from_zero : {F : Type 0} {g : Mut F (ℕ × Unit {0}) Bool} {s u : Range ℕ} {j : F} {r : Bool} (f : ℕ → Bool) (n : ℕ)
+    → (xs : List ℕ) × (o : Option ℕ) × (h : F) × YieldsThen nat_range_steps s xs o u × FoldsTo (λ p x q. Called g p (x, tt) true q) j xs h × MatchOption o (r ≡ true) (λ x. (r ≡ false) × ((q : F) × Called g h (x, tt) false q))
+    → s ≡ record { start = 0; end = n } → ((x : ℕ) (b : Bool) (q : F) → Called g j (x, tt) b q → (q ≡ j) × (b ≡ f (x + 1))) → r ≡ every n 1 f
+all_from_zero f n ran e k = all_from_yields_List (λ i. f (i + 1)) _ _ _ ran (YieldsList-from_range 0 n n e (omega arith)) k ∙ every_listed_from n 0 f
 
-    pub going_on : f i ≡ true → Going f n (i + 1) (left - 1)
-    unfolding every
-    going_on e = (rw add-one ((rw e at (sym one)) ∙ g.0), omega arith)
+-- `.fold(true, ..)` of a closure that adds the test f to what was said before
+pub fold_is_all : {S A F : Type 0} {steps : S → Option A → S → Type 0} {v : A → ℕ} {g : Mut F (Bool × (A × Unit {0})) Bool} {s : S} {all : List ℕ} {j : F} {r : Bool} (f : ℕ → Bool)
+    → (xs : List A) × (h : F) × Drains steps s xs × FoldsTo {P = F × Bool} (λ p x q. Called g p.0 (p.1, (x, tt)) q.1 q.0) (j, true) xs (h, r)
+    → YieldsList steps v s all → ((a : Bool) (x : A) (b : Bool) (q : F) → Called g j (a, (x, tt)) b q → (b ≡ (a && f (v x))) × (q ≡ j)) → r ≡ list_all f all
+fold_is_all {A = A} {steps = steps} {v = v} {g = g} {s = s} {all = all} {j = j} {r = r} f ran y k =
+    fold_over steps v g (λ ys a. a ≡ list_all f ys) j step s all true r y.runs refl ran
+  where
+    step : (ys : List ℕ) (a : Bool) (x : A) (b : Bool) (q : _) → a ≡ list_all f ys → Called g j (a, (x, tt)) b q → (b ≡ list_all f (ys ++ (v x ∷ []))) × (q ≡ j)
+    step ys a x b q h c = let d = k a x b q c in (d.0 ∙ rw (list_all-append, and-true, h), d.1)
 
--- what was said of the ids before i, and those from i on, decide as all n do
-abbrev pub Saying : (ℕ → Bool) → ℕ → ℕ → ℕ → Bool → Type 0
-Saying f n i left fine = ((fine && every left i f) ≡ every n 1 f) × (i + left ≡ n + 1)
+-- over `1..n + 1`
+pub fold_is_every : {F : Type 0} {g : Mut F (Bool × (ℕ × Unit {0})) Bool} {s : Range ℕ} {j : F} {r : Bool} (f : ℕ → Bool) (n : ℕ)
+    → (xs : List ℕ) × (h : F) × Drains nat_range_steps s xs × FoldsTo {P = F × Bool} (λ p x q. Called g p.0 (p.1, (x, tt)) q.1 q.0) (j, true) xs (h, r)
+    → s ≡ record { start = 1; end = n + 1 } → ((a : Bool) (x : ℕ) (b : Bool) (q : F) → Called g j (a, (x, tt)) b q → (b ≡ (a && f x)) × (q ≡ j)) → r ≡ every n 1 f
+fold_is_every f n ran e k = fold_is_all f ran (YieldsList-from_range 1 (n + 1) n e (omega arith)) k ∙ every_listed n 1 f
 
-module _ (f : ℕ → Bool) (n i left : ℕ) (fine : Bool) (g : Saying f n i left fine) where
-  pub said_all : left ≤ 0 → fine ≡ every n 1 f
-  unfolding every
-  said_all h = let z : left ≡ 0 = omega arith in sym (and-true fine) ∙ (rw z at g.0)
+of_each : (f : ℕ → Bool) (l : List ℕ) (n k : ℕ) → k + n ≤ length l → list_all f (take n (drop k l)) ≡ every n (suc k) (λ j. f (of l j 0))
+unfolding every
+of_each f l zero k h = refl
+of_each f l (suc n) k h = let b : k < length l = omega arith in rw (drop-cons l k 0) (ap (λ (t : Bool). f (get_or l k 0) && t) (of_each f l n (suc k) (omega arith)))
 
-  pub said_on : 0 < left → {t : Bool} → t ≡ (fine && f i) → Saying f n (i + 1) (left - 1) t
-  unfolding every
-  said_on h e =
-      let z : left ≡ suc (left - 1) = omega arith in
-      (rw (e, add-one) (and_assoc fine (f i) (every (left - 1) (suc i) f) ∙ ap (λ (k : ℕ). fine && every k i f) (sym z) ∙ g.0), omega arith)
-
--- the first i ids have passed
-abbrev pub Passing : (ℕ → Bool) → ℕ → ℕ → Type 0
-Passing f n i = (i ≤ n) × Going f n (i + 1) (n - i)
-
-module _ (f : ℕ → Bool) (n : ℕ) where
-  pub passing_none : Passing f n 0
-  passing_none = let z : n - 0 ≡ n = omega arith in (omega arith, (rw z, omega arith))
-
-  module _ (i : ℕ) (g : Passing f n i) where
-    pub passing_all : n ≤ i → true ≡ every n 1 f
-    passing_all h = going_done f n (i + 1) (n - i) g.1 (omega (arith, h))
-
-    module _ (h : i < n) where
-      pub passing_fail : f (i + 1) ≡ false → false ≡ every n 1 f
-      passing_fail e = going_fail f n (i + 1) (n - i) g.1 (omega (arith, h)) e
-
-      pub passing_on : f (i + 1) ≡ true → Passing f n (i + 1)
-      passing_on e =
-          let d : n - i - 1 ≡ n - (i + 1) = omega (arith, h) in
-          (omega (arith, h), subst (λ (k : ℕ). Going f n (i + 1 + 1) k) d (going_on f n (i + 1) (n - i) g.1 (omega (arith, h)) e))
-
--- a count that is one is itself; one that is not gives a loop that fails nowhere
-module _ (f : ℕ → Bool) {most s k n : ℕ} {r : Bool} (es : s ≡ k) (en : (n ≡ at_most s most) × (n ≤ most)) (er : r ≡ every n 1 f) where
-  count : n ≡ at_most k most
-  count = rw (← es) en.0
-
-  pub loop_is : k ≤ most → r ≡ every k 1 f
-  loop_is h = let z : n ≡ k = rw (le-leb k most h) at count in rw z at er
-
-  pub loop_fails : not r ≡ true → every k 1 f ≡ false
-  unfolding every
-  loop_fails t = elim (dec_le k most) [
-    | yes h ↦ failed (loop_is h) t
-    | no h ↦
-        let z : n ≡ 0 = rw (lt-leb k most (omega arith)) at count in
-        absurd (true≢false (sym (rw z at er) ∙ not-true r t))
-  ]
+-- the first n of a list, as the entries of the ids 1 to n
+pub every_of : (f : ℕ → Bool) (l : List ℕ) (n : ℕ) → n ≤ length l → list_all f (take n l) ≡ every n 1 (λ j. f (of l j 0))
+every_of f l n h = of_each f l n 0 (omega arith)

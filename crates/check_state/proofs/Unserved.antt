@@ -26,8 +26,8 @@ use Rattle.memory_columns.specs.Layout.{state_words, max_objects, max_blocks, wo
 use Rattle.memory_queues.specs.Moves.{mail_anchor}
 use Rattle.memory_picture.specs.Picture.{wait_shown, state_shown, task_shown, bits_of, pool_shown, tasks_shown, messages_shown, store_shown, body_shown, kind_number, anchor, line_shown, WholeRings}
 use Rattle.memory_picture.proofs.Done.{used_at}
-use Rattle.check_ranges.specs.Ranges.{every, many, ranges_ok}
-use Rattle.check_state.specs.Unserved.{wait_free, wait_free_at, unserved_ok, accepts, checks}
+use Rattle.check_ranges.specs.Ranges.{every, many}
+use Rattle.check_state.specs.Unserved.{wait_free, wait_free_at, unserved_ok}
 use Rattle.check_ranges.proofs.Decisions.{Decides, decides_as, decides_yes, decides_eq, decides_not, decides_every}
 use Rattle.memory_picture.proofs.Cases.{asked, kind_cases, status_cases}
 use Rattle.check_ranges.proofs.Ranges.{many_of, objects_shown, Ranges}
@@ -164,9 +164,3 @@ module _ (b msgs : List ℕ) (size : length b ≡ state_words) (R : Ranges b msg
 
   pub unserved_law : Decides (every (many b Layout.tasks) 1 (unserved_ok b)) ((i : ℕ) → In i (tasks_shown b) → Unserved (store_shown b msgs) (wait_of (task_shown b i).state))
   unserved_law = decides_every (many b Layout.tasks) (unserved_ok b) (waiter_law b msgs R (Unserved (store_shown b msgs)) tt tt (λ t. tt) object_law)
-
--- what is out of range passes neither check
-pub out_of_range : (whole : Bool) (b m : List ℕ) → ranges_ok b m ≡ false → false ≡ checks whole b m
-unfolding accepts
-out_of_range true b m e = rw e
-out_of_range false b m e = sym e

@@ -11,9 +11,8 @@ ghost use Rattle.check_state.specs.Unserved as Unserved;
 use check_queues::queued;
 use check_ranges::ranges_ok;
 use memory_columns::{
-    FLAG, MAILBOX, MAX_TASKS, MESSAGE_WORDS, POOL, Rings, SEMAPHORE, STATE_WORDS, TASKS, WAIT,
-    WAIT_SUSPEND, at_most, flag, free, kind, mode, nonempty, object, semaphore, status, system,
-    wish,
+    Column, FLAG, MAILBOX, MESSAGE_WORDS, POOL, Rings, SEMAPHORE, STATE_WORDS, TASKS, WAIT,
+    WAIT_SUSPEND,
 };
 use memory_objects::flags::meets;
 use memory_queues::{first, mail_anchor};
@@ -22,16 +21,20 @@ use memory_running::ready_marks;
 // ---- nobody beside what would serve him
 
 // Nothing at the object would serve the wait of task t.
+#[tactic(auto, unfolding(crate::specs::Unserved::wait_free))]
 fn wait_free(words: &[u32; STATE_WORDS], t: u32) -> bool
     ensures { result ≡ Unserved.wait_free_at words.now t }
 {
-    let k = kind(words, t);
-    let o = object(words, t);
-    match k {
-        SEMAPHORE => semaphore(words, o) == 0,
-        FLAG => !meets(flag(words, o), wish(words, t), mode(words, t)),
+    let o = Column::Object.get(words, t);
+    match Column::Kind.get(words, t) {
+        SEMAPHORE => Column::Semaphore.get(words, o) == 0,
+        FLAG => !meets(
+            Column::Flag.get(words, o),
+            Column::Wish.get(words, t),
+            Column::Mode.get(words, t),
+        ),
         MAILBOX => first(words, Rings::Messages, mail_anchor(o)) == 0,
-        POOL => free(words, o) == 0,
+        POOL => Column::Free.get(words, o) == 0,
         _ => true,
     }
 }
@@ -40,37 +43,21 @@ fn wait_free(words: &[u32; STATE_WORDS], t: u32) -> bool
 fn waits(status: u32) -> bool
     ensures { result ≡ eqb status 3 || eqb status 5 }
 {
-    if status == WAIT {
-        true
-    } else {
-        status == WAIT_SUSPEND
-    }
+    status == WAIT || status == WAIT_SUSPEND
 }
 
+#[tactic(auto, unfolding(crate::specs::Unserved::unserved_ok))]
 pub fn unserved_ok(words: &[u32; STATE_WORDS], t: u32) -> bool
     ensures { result ≡ Unserved.unserved_ok words.now t }
 {
-    if waits(status(words, t)) {
-        wait_free(words, t)
-    } else {
-        true
-    }
+    !waits(Column::Status.get(words, t)) || wait_free(words, t)
 }
 
 fn all_unserved(words: &[u32; STATE_WORDS], n: u32) -> bool
     requires { n ≤ max_messages }
     ensures { result ≡ every n 1 (Unserved.unserved_ok words.now) }
 {
-    let mut i: u32 = 1;
-    let mut left = n;
-    while 0 < left {
-        if !unserved_ok(words, i) {
-            return false;
-        }
-        i += 1;
-        left -= 1;
-    }
-    true
+    (1..n + 1).all(|t| unserved_ok(words, t))
 }
 
 // ---- the whole
@@ -79,44 +66,30 @@ fn all_unserved(words: &[u32; STATE_WORDS], n: u32) -> bool
 fn ready_marked(words: &[u32; STATE_WORDS]) -> bool
     ensures { result ≡ Unserved.ready_marked words.now }
 {
-    let kept = nonempty(words);
-    let marks = ready_marks(words);
-    kept == marks
+    Column::Nonempty.get(words, 0) == ready_marks(words)
 }
 
 // All rules, in order, or the ranges alone. Whoever asks for the ranges asks here, so that they are tried in one place
 // and stand in the check itself.
+#[tactic(auto, unfolding(crate::specs::Unserved::accepts))]
 fn accepts_test(words: &[u32; STATE_WORDS], messages: &[u32; MESSAGE_WORDS], whole: bool) -> bool
     ensures { result ≡ Unserved.checks whole words.now messages.now }
 {
     if !ranges_ok(words, messages) {
         return false;
     }
-    if !whole {
-        return true;
-    }
-    if !queued(words, messages, Rings::Tasks) {
-        return false;
-    }
-    if !ready_marked(words) {
-        return false;
-    }
-    if !queued(words, messages, Rings::Messages) {
-        return false;
-    }
-    if !queued(words, messages, Rings::Blocks) {
-        return false;
-    }
-    all_unserved(words, at_most(system(words, TASKS), MAX_TASKS))
+    !whole
+        || (queued(words, messages, Rings::Tasks)
+            && ready_marked(words)
+            && queued(words, messages, Rings::Messages)
+            && queued(words, messages, Rings::Blocks)
+            && all_unserved(words, Column::System.get(words, TASKS)))
 }
 
 // True exactly when the memory is a sound state.
 pub fn accepts(words: &[u32; STATE_WORDS], messages: &[u32; MESSAGE_WORDS]) -> bool
     ensures { (result ≡ true) ↔ Accepted words.now messages.now }
 {
-    // A part says how long the whole is: a proof reads it here.
-    let _all = &words[..];
-    let _marks = &messages[..];
     accepts_test(words, messages, true)
 }
 

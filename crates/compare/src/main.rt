@@ -6,7 +6,7 @@
 ghost use Rattle.std.specs.Prelude.{◌≤◌, length};
 
 use run_compare_reading::INPUT;
-use run_compare_text::{TEXT, Told};
+use run_compare_text::TEXT;
 use std::io::Print;
 use streams::{read_full, write_all};
 
@@ -20,8 +20,7 @@ fn main(rt: HostRuntime) {
     let mut input = [0u8; INPUT];
     let n = read_full(&mut rt.stdin(), &mut input);
     let mut text = [0u8; TEXT];
-    let told = run_compare::compare(&input[..n], &mut text);
-    if let Told::Written(k) = told {
+    if let Ok(k) = run_compare::compare(&input[..n], &mut text) {
         show(&rt.stdout(), &text, k);
     }
 }

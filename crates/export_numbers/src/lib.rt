@@ -8,12 +8,12 @@ ghost use Rattle.run_month.specs.Monthly.{digit};
 ghost use Rattle.export_numbers.specs.Numbers.{start_number, start_place, told_number, told_length};
 ghost use Rattle.export_numbers.specs.Brightness.{judged_number, judged_point, leveled_number, leveled_value, DisplayTold};
 
-use brightness_curve::{Judged, Leveled};
+use brightness_curve::BadPoint;
 use brightness_light::{Light, News, Shown};
-use kernel_batches::Batch;
-use kernel_start::Started;
-use run_compare_text::Told;
-use run_month::Reporting;
+use kernel_batches::Unfit;
+use run_compare_text::Short;
+use run_month::Unreported;
+use setup_sections::Refusal;
 
 // ---- a fresh state, and many events
 
@@ -25,42 +25,42 @@ pub struct Outcome {
     pub place: usize,
 }
 
-pub fn start_outcome(started: Started) -> Outcome
+pub fn start_outcome(started: Result<(), Refusal>) -> Outcome
     ensures { (result.number ≡ start_number started) × (result.place ≡ start_place started) }
 {
     match started {
-        Started::Fresh => Outcome {
+        Ok(()) => Outcome {
             number: 0,
             place: 0,
         },
-        Started::Refused(digit, place) => Outcome {
-            number: digit,
-            place,
+        Err(refusal) => Outcome {
+            number: u32::from(refusal.fault),
+            place: refusal.place,
         },
     }
 }
 
-pub fn batch_number(b: Batch) -> u32
-    ensures { result ≡ batch_number b }
+pub fn batch_number(batch: Result<(), Unfit>) -> u32
+    ensures { result ≡ batch_number batch }
 {
-    match b {
-        Batch::Done => 0,
-        Batch::Ragged => 1,
-        Batch::FewCodes => 2,
-        Batch::FewWords => 3,
+    match batch {
+        Ok(()) => 0,
+        Err(Unfit::Ragged) => 1,
+        Err(Unfit::FewCodes) => 2,
+        Err(Unfit::FewWords) => 3,
     }
 }
 
 // ---- a month, and a comparison
 
-pub fn report_number(r: Reporting) -> u32
+pub fn report_number(r: Result<(), Unreported>) -> u32
     ensures { result ≡ digit r }
 {
     match r {
-        Reporting::Done => 0,
-        Reporting::Many => 1,
-        Reporting::Size => 2,
-        Reporting::Beyond => 3,
+        Ok(()) => 0,
+        Err(Unreported::Many) => 1,
+        Err(Unreported::Size) => 2,
+        Err(Unreported::Beyond) => 3,
     }
 }
 
@@ -72,12 +72,15 @@ pub struct Comparison {
     pub length: usize,
 }
 
-pub fn in_numbers(told: Told) -> Comparison
+pub fn in_numbers(told: Result<usize, Short>) -> Comparison
     ensures { (result.number ≡ told_number told) × (result.length ≡ told_length told) }
 {
     match told {
-        Told::Written(length) => Comparison { number: 0, length },
-        Told::Short(length) => Comparison { number: 1, length },
+        Ok(length) => Comparison { number: 0, length },
+        Err(short) => Comparison {
+            number: 1,
+            length: short.needed,
+        },
     }
 }
 
@@ -91,15 +94,15 @@ pub struct Judgement {
     pub point: u32,
 }
 
-pub fn judged_told(judged: Judged) -> Judgement
+pub fn judged_told(judged: Result<(), BadPoint>) -> Judgement
     ensures { (result.number ≡ judged_number judged) × (result.point ≡ judged_point judged) }
 {
     match judged {
-        Judged::Good => Judgement {
+        Ok(()) => Judgement {
             number: 0,
             point: 0,
         },
-        Judged::BadPoint(point) => Judgement { number: 1, point },
+        Err(BadPoint(point)) => Judgement { number: 1, point },
     }
 }
 
@@ -111,12 +114,12 @@ pub struct Level {
     pub value: u32,
 }
 
-pub fn leveled_told(leveled: Leveled) -> Level
+pub fn leveled_told(leveled: Result<u32, BadPoint>) -> Level
     ensures { (result.number ≡ leveled_number leveled) × (result.value ≡ leveled_value leveled) }
 {
     match leveled {
-        Leveled::Level(value) => Level { number: 0, value },
-        Leveled::BadPoint(value) => Level { number: 1, value },
+        Ok(value) => Level { number: 0, value },
+        Err(BadPoint(value)) => Level { number: 1, value },
     }
 }
 
@@ -132,33 +135,16 @@ pub struct Display {
 pub fn shown_told(shown: Shown) -> Display
     ensures { DisplayTold shown result }
 {
-    let light = shown.light;
-    let news = shown.news;
-    match news {
-        News::Set => Display {
-            light,
-            news: 0,
-            point: 0,
-        },
-        News::Waits => Display {
-            light,
-            news: 1,
-            point: 0,
-        },
-        News::Stays => Display {
-            light,
-            news: 2,
-            point: 0,
-        },
-        News::NoSlot => Display {
-            light,
-            news: 3,
-            point: 0,
-        },
-        News::BadCurve(point) => Display {
-            light,
-            news: 4,
-            point,
-        },
+    let (news, point) = match shown.news {
+        News::Set => (0, 0),
+        News::Waits => (1, 0),
+        News::Stays => (2, 0),
+        News::NoSlot => (3, 0),
+        News::BadCurve(point) => (4, point),
+    };
+    Display {
+        light: shown.light,
+        news,
+        point,
     }
 }

@@ -1,94 +1,73 @@
 -- A batch: whether it fits, and what each function of the crate makes of it. Assumes nothing.
-use mathlib.Core.Bool.{Bool, true, false, cond, false≢true}
+use mathlib.Core.Bool.{Bool, true, false, cond}
 use mathlib.Core.List.{List}
 use mathlib.Core.Path.{◌≡◌, refl, sym, ap, ◌∙◌}
 use Prim.Native.Nat.{ℕ, ◌*◌, ◌/◌, ◌%◌, ◌≤◌}
+use native.Mathlib.Omega.{arith}
 use lib.Dec.{eqb, leb}
 use lib.IntN.{ℤ}
 use borrow.Author.Tests.{eqb-true, leb-true}
 use lib.ListN.{length}
+use Rattle.std.specs.Prelude.{Result, Ok, Err}
 use Rattle.rules.specs.Setup.{Read, got, refused, Setup, setup}
 use Rattle.memory_picture.specs.Picture.{Memory}
+use Rattle.setup_sections.specs.declared.Refusal.{Refusal}
 use Rattle.kernel_start.specs.Starting.{StartsAs, Starts}
-use Rattle.kernel_start.specs.declared.Started.{Started}
-use Rattle.kernel_start.specs.declared.Started.TheVariants.{Fresh, Refused}
 use Rattle.kernel_steps.specs.Written.{Lent, lent, RanThrough, Room}
-use Rattle.kernel_batches.specs.declared.Batch.{Batch}
-use Rattle.kernel_batches.specs.declared.Batch.TheVariants.{Done, Ragged, FewCodes, FewWords}
-use Rattle.kernel_batches.specs.declared.Ran.{Ran}
-use Rattle.kernel_batches.specs.declared.Ran.TheVariants.{Unfit}
-use Rattle.kernel_batches.specs.Batches.{fit_of, fitted, BatchedAs, Batched, RunsAs, RunsFrom}
+use Rattle.kernel_batches.specs.declared.Unfit.{Unfit}
+use Rattle.kernel_batches.specs.declared.Unfit.TheVariants.{Ragged, FewCodes, FewWords}
+use Rattle.kernel_batches.specs.declared.RunError.{RunError}
+use Rattle.kernel_batches.specs.Batches.{fit_of, fitted, Batched, RunsAs, RunsFrom}
 
 -- ---- sizes
 
-unfoldable pub is_done : Batch → Bool
-is_done Done = true
-is_done Ragged = false
-is_done FewCodes = false
-is_done FewWords = false
-
-unfoldable is_fresh : Started → Bool
-is_fresh Fresh = true
-is_fresh (Refused d i) = false
-
-unfoldable to_ran : Started → Ran
-to_ran Fresh = Ran.Done
-to_ran (Refused d i) = Ran.Refused d i
+-- two answers that cannot be one
+apart : {A : Type 0} {e : Unfit} → ◌≡◌ {A = Result (Unit {0}) Unfit} (Err e) (Ok tt) → A
+apart h = absurd (let z : ◌≡◌ {A = ℕ} 0 1 = cc in omega arith)
 
 -- what fits: whole events, and place for each
-fit_sizes : (e c a : ℕ) → fit_of e c a ≡ Done → (e % 5 ≡ 0) × (e / 5 ≤ c) × (4 * (e / 5) ≤ a)
-unfolding fit_of is_done
+fit_sizes : (e c a : ℕ) → fit_of e c a ≡ Ok tt → (e % 5 ≡ 0) × (e / 5 ≤ c) × (4 * (e / 5) ≤ a)
+unfolding fit_of
 fit_sizes e c a = go (eqb (e % 5) 0) (leb (e / 5) c) (leb (4 * (e / 5)) a) refl refl refl
   where
-    go : (r s t : Bool) → eqb (e % 5) 0 ≡ r → leb (e / 5) c ≡ s → leb (4 * (e / 5)) a ≡ t → cond r (cond s (cond t Done FewWords) FewCodes) Ragged ≡ Done → (e % 5 ≡ 0) × (e / 5 ≤ c) × (4 * (e / 5) ≤ a)
+    go : (r s t : Bool) → eqb (e % 5) 0 ≡ r → leb (e / 5) c ≡ s → leb (4 * (e / 5)) a ≡ t
+        → ◌≡◌ {A = Result (Unit {0}) Unfit} (cond r (cond s (cond t (Ok tt) (Err FewWords)) (Err FewCodes)) (Err Ragged)) (Ok tt) → (e % 5 ≡ 0) × (e / 5 ≤ c) × (4 * (e / 5) ≤ a)
     go true true true p q u z = (eqb-true _ _ p, leb-true _ _ q, leb-true _ _ u)
-    go true true false p q u z = absurd (false≢true (ap is_done z))
-    go true false t p q u z = absurd (false≢true (ap is_done z))
-    go false s t p q u z = absurd (false≢true (ap is_done z))
+    go true true false p q u z = apart z
+    go true false t p q u z = apart z
+    go false s t p q u z = apart z
 
-pub fit_room : (given : List ℤ) (old : Lent) → fitted given old ≡ Done → Room given old
+pub fit_room : (given : List ℤ) (old : Lent) → fitted given old ≡ Ok tt → Room given old
 fit_room given old f = let q = fit_sizes (length given) (length old.codes) (length old.answers) f in record { whole = q.0; codes = q.1; answers = q.2 }
 
 -- ---- the contracts
 
-module _ (given : List ℤ) (old : Lent) {r : Batch} (e : r ≡ fitted given old) where
-  pub batch_done : (new : Lent) → r ≡ Done → RanThrough given old new → Batched given Done old new
+module _ (given : List ℤ) (old : Lent) {r : Result (Unit {0}) Unfit} (e : r ≡ fitted given old) where
+  pub batch_done : (new : Lent) → r ≡ Ok tt → RanThrough given old new → Batched given (Ok tt) old new
   unfolding Batched
-  batch_done new d R = let f : fitted given old ≡ Done = sym e ∙ d in rw f (refl, R)
+  batch_done new d R = let f : fitted given old ≡ Ok tt = sym e ∙ d in rw f (refl, R)
 
-  pub batch_none : (x : Batch) → is_done x ≡ false → r ≡ x → Batched given x old old
-  unfolding Batched is_done
-  batch_none x z d = let f : fitted given old ≡ x = sym e ∙ d in rw f (refl, go x z)
-    where
-      go : (y : Batch) → is_done y ≡ false → BatchedAs y given old old
-      go Done z = absurd (false≢true (sym z))
-      go Ragged z = refl
-      go FewCodes z = refl
-      go FewWords z = refl
+  pub batch_none : (x : Unfit) → r ≡ Err x → Batched given (Err x) old old
+  unfolding Batched
+  batch_none x d = let f : fitted given old ≡ Err x = sym e ∙ d in rw f (refl, refl)
 
-  pub run_none : (s : List ℕ) (x : Batch) → is_done x ≡ false → r ≡ x → RunsFrom s given (Unfit x) old old
-  unfolding RunsFrom is_done
-  run_none s x z d = let f : fitted given old ≡ x = sym e ∙ d in rw f (go x z)
-    where
-      go : (y : Batch) → is_done y ≡ false → RunsAs y (setup s) s given (Unfit y) old old
-      go Done z = absurd (false≢true (sym z))
-      go Ragged z = (refl, refl)
-      go FewCodes z = (refl, refl)
-      go FewWords z = (refl, refl)
+  pub run_none : (s : List ℕ) (x : Unfit) → r ≡ Err x → RunsFrom s given (Err (RunError.Unfit x)) old old
+  unfolding RunsFrom
+  run_none s x d = let f : fitted given old ≡ Err x = sym e ∙ d in rw f (refl, refl)
 
-  module _ (d : r ≡ Done) (s : List ℕ) (m : Memory) (t : Started) (S : Starts s t old.memory m) where
-    pub run_done : (new : Lent) → t ≡ Fresh → RanThrough given (lent m old.codes old.answers) new → RunsFrom s given Ran.Done old new
-    unfolding RunsFrom Starts is_fresh
-    run_done new h R = let f : fitted given old ≡ Done = sym e ∙ d in rw f (go (setup s) refl (rw h at S))
+  module _ (d : r ≡ Ok tt) (s : List ℕ) (m : Memory) (t : Result (Unit {0}) Refusal) (S : Starts s t old.memory m) where
+    pub run_done : (new : Lent) → t ≡ Ok tt → RanThrough given (lent m old.codes old.answers) new → RunsFrom s given (Ok tt) old new
+    unfolding RunsFrom Starts
+    run_done new h R = let f : fitted given old ≡ Ok tt = sym e ∙ d in rw f (go (setup s) refl (rw h at S))
       where
-        go : (u : Read Setup) → setup s ≡ u → StartsAs u Fresh old.memory m → RunsAs Done u s given Ran.Done old new
+        go : (u : Read Setup) → setup s ≡ u → StartsAs u (Ok tt) old.memory m → RunsAs (Ok tt) u s given (Ok tt) old new
         go (got u i) q S = (refl, record { started = m; starts = rw q S; ran = R })
-        go (refused f place) q S = absurd (false≢true (ap is_fresh (sym S.0)))
+        go (refused f place) q S = absurd (let z : ◌≡◌ {A = ℕ} 0 1 = cc (S.0) in omega arith)
 
-    pub run_refused : (n i : ℕ) → t ≡ Refused n i → RunsFrom s given (Ran.Refused n i) old (lent m old.codes old.answers)
-    unfolding RunsFrom Starts is_fresh to_ran
-    run_refused n i h = let f : fitted given old ≡ Done = sym e ∙ d in rw f (go (setup s) (rw h at S))
+    pub run_refused : (x : Refusal) → t ≡ Err x → RunsFrom s given (Err (RunError.Refused x)) old (lent m old.codes old.answers)
+    unfolding RunsFrom Starts
+    run_refused x h = let f : fitted given old ≡ Ok tt = sym e ∙ d in rw f (go (setup s) (rw h at S))
       where
-        go : (u : Read Setup) → StartsAs u (Refused n i) old.memory m → RunsAs Done u s given (Ran.Refused n i) old (lent m old.codes old.answers)
-        go (got u j) S = absurd (false≢true (ap is_fresh S.0))
-        go (refused f place) S = (ap to_ran S.0, ap (λ (x : Memory). lent x old.codes old.answers) S.1)
+        go : (u : Read Setup) → StartsAs u (Err x) old.memory m → RunsAs (Ok tt) u s given (Err (RunError.Refused x)) old (lent m old.codes old.answers)
+        go (got u j) S = absurd (let z : ◌≡◌ {A = ℕ} 0 1 = cc (S.0) in omega arith)
+        go (refused f place) S = (let z = S.0 in cc, ap (λ (y : Memory). lent y old.codes old.answers) S.1)

@@ -1,50 +1,64 @@
 // Many events, one after the other: the state is checked once, at the beginning, and the running task is carried from event to event.
 #![tactic(auto)]
 
-ghost use Rattle.std.specs.Prelude.{◌≡◌, length};
+ghost use Rattle.std.specs.Prelude.{◌≡◌, length, Ok};
 ghost use Rattle.memory_picture.specs.Picture.{memory};
 ghost use Rattle.kernel_batches.specs.Batches.{fit_of, lent, RanThrough, Batched, RunsFrom};
-ghost use Rattle.kernel_batches.specs.declared.Batch.TheVariants as Batch;
+ghost use Rattle.kernel_batches.specs.declared.RunError.TheVariants as RunError;
 
-use check_damage::judged;
 use kernel_serving::serve_all;
-use kernel_start::Started;
+use kernel_steps::look;
 use memory_columns::STATE_WORDS;
-use memory_running::running_task;
+use setup_sections::Refusal;
 
-// Done, or why nothing ran: the event words are no multiple of five; there is no place for each code; or for each event's four words.
+// Why nothing ran: the event words are no multiple of five; there is no place for each code; or for each event's four words.
 // The first that applies is said.
 #[derive(Clone, Copy)]
-pub enum Batch {
-    Done,
+pub enum Unfit {
     Ragged,
     FewCodes,
     FewWords,
 }
 
-// Done, or why nothing ran: as a batch; then the setup's fault and its place.
+// Why nothing ran: the batch; then the setup's fault and its place.
 #[derive(Clone, Copy)]
-pub enum Ran {
-    Done,
-    Unfit(Batch),
-    Refused(u32, usize),
+pub enum RunError {
+    Unfit(Unfit),
+    Refused(Refusal),
+}
+
+impl From<Unfit> for RunError {
+    ghost from_gives = { λ u e. e ≡ RunError.Unfit u };
+
+    fn from(u: Unfit) -> RunError {
+        RunError::Unfit(u)
+    }
+}
+
+impl From<Refusal> for RunError {
+    ghost from_gives = { λ r e. e ≡ RunError.Refused r };
+
+    fn from(r: Refusal) -> RunError {
+        RunError::Refused(r)
+    }
 }
 
 // From the numbers of event words, and of codes and answer words that there is place for.
-fn fit(events: usize, codes: usize, answers: usize) -> Batch
+#[tactic(auto, unfolding(crate::specs::Batches::fit_of))]
+fn fit(events: usize, codes: usize, answers: usize) -> Result<(), Unfit>
     ensures { result ≡ fit_of events codes answers }
 {
     if events % 5 != 0 {
-        return Batch::Ragged;
+        return Err(Unfit::Ragged);
     }
     let n = events / 5;
     if codes < n {
-        return Batch::FewCodes;
+        return Err(Unfit::FewCodes);
     }
     if answers / 4 < n {
-        return Batch::FewWords;
+        return Err(Unfit::FewWords);
     }
-    Batch::Done
+    Ok(())
 }
 
 // All events, where there is place for their answers.
@@ -55,14 +69,13 @@ fn run_all(
     codes: &mut [i32],
     answers: &mut [u32],
 )
-    requires { fit_of (length events.now) (length codes.old) (length answers.old) ≡ Batch.Done }
+    requires { fit_of (length events.now) (length codes.old) (length answers.old) ≡ Ok tt }
     ensures { RanThrough events.now
         (lent (memory words.old messages.old) codes.old answers.old)
         (lent (memory words.new messages.new) codes.new answers.new) }
 {
-    let found = judged(words, messages);
-    let me = running_task(words);
-    serve_all(words, messages, found, me, events, codes, answers);
+    let known = look(words, messages);
+    serve_all(words, messages, known, events, codes, answers);
 }
 
 // The events, five words each. The code of event i goes to codes[i], its words to answers[4 i] and the next three.
@@ -72,20 +85,14 @@ pub fn events(
     events: &[i32],
     codes: &mut [i32],
     answers: &mut [u32],
-) -> Batch
+) -> Result<(), Unfit>
     ensures { Batched events.now result
         (lent (memory words.old messages.old) codes.old answers.old)
         (lent (memory words.new messages.new) codes.new answers.new) }
 {
-    match fit(events.len(), codes.len(), answers.len()) {
-        Batch::Done => {
-            run_all(words, messages, events, codes, answers);
-            Batch::Done
-        }
-        Batch::Ragged => Batch::Ragged,
-        Batch::FewCodes => Batch::FewCodes,
-        Batch::FewWords => Batch::FewWords,
-    }
+    fit(events.len(), codes.len(), answers.len())?;
+    run_all(words, messages, events, codes, answers);
+    Ok(())
 }
 
 // A fresh kernel, then the events.
@@ -96,21 +103,13 @@ pub fn run(
     events: &[i32],
     codes: &mut [i32],
     answers: &mut [u32],
-) -> Ran
+) -> Result<(), RunError>
     ensures { RunsFrom setup.now events.now result
         (lent (memory words.old messages.old) codes.old answers.old)
         (lent (memory words.new messages.new) codes.new answers.new) }
 {
-    match fit(events.len(), codes.len(), answers.len()) {
-        Batch::Done => match kernel_start::start(setup, words, messages) {
-            Started::Fresh => {
-                run_all(words, messages, events, codes, answers);
-                Ran::Done
-            }
-            Started::Refused(d, i) => Ran::Refused(d, i),
-        },
-        Batch::Ragged => Ran::Unfit(Batch::Ragged),
-        Batch::FewCodes => Ran::Unfit(Batch::FewCodes),
-        Batch::FewWords => Ran::Unfit(Batch::FewWords),
-    }
+    fit(events.len(), codes.len(), answers.len())?;
+    kernel_start::start(setup, words, messages)?;
+    run_all(words, messages, events, codes, answers);
+    Ok(())
 }

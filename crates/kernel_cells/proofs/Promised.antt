@@ -1,20 +1,17 @@
 -- What is read of a memory, of its tasks' states and its running task, from the verdict on it. Assumes nothing.
 use mathlib.Core.Bool.{Bool, true, false, true≢false}
 use mathlib.Core.List.{List}
-use mathlib.Core.Logic.{◌↔◌, ◌≢◌}
+use mathlib.Core.Logic.{◌↔◌}
 use mathlib.Core.Path.{◌≡◌, refl, sym, ap, ◌∙◌}
-use Prim.Native.Nat.{ℕ, ◌≤◌, ◌<◌, ◌^◌}
+use Prim.Native.Nat.{ℕ, ◌≤◌}
 use native.Mathlib.Omega.{arith}
 use lib.IntN.{ℤ, pos}
 use lib.Dec.{eqb}
 use lib.ListN.{length}
-use lib.Signed.{mag}
 use borrow.Author.Tests.{eq-eqb, ne_eqb}
-use mir.Syntax.{w32}
-use mir.Val.{to_z, of_z}
+use Rattle.std.specs.Prelude.{Err}
 use Rattle.rules.specs.Ids.{In}
 use Rattle.rules.specs.Codes.{OK, E-NOEXS, number}
-use Rattle.rules.specs.Breach.{breach}
 use Rattle.rules.specs.Events.{nat, outside}
 use Rattle.rules.specs.Answers.{read_cell}
 use Rattle.rules.specs.Tasks.{tsk_sts}
@@ -25,24 +22,21 @@ use Rattle.memory_columns.specs.Layout as Layout
 use Rattle.memory_columns.specs.Layout.{entry}
 use Rattle.memory_picture.specs.Picture.{task_shown, tasks_shown, body_shown, view_shown, Accepted, memory}
 use Rattle.memory_running.specs.Running.{running_of}
+use Rattle.check_damage.specs.declared.Breach.{Breach}
 use Rattle.check_damage.specs.Judged.{Judged}
-use Rattle.call_words.proofs.Signed.{signed}
 use Rattle.call_words.proofs.Tasks.{tasks_count, few_tasks, absent_read}
 use Rattle.call_reading.specs.Reading.{number_at}
 use Rattle.call_reading.proofs.Readings.{number_read}
 use Rattle.kernel_cells.specs.Promises.{kept, Reads, Runs, Listed, Lists}
 use Rattle.memory_running.proofs.Running.{running_law}
 
-module _ {b msgs : List ℕ} {r : Bool} (law : (r ≡ true) ↔ Accepted b msgs) where
-  refuted : r ≡ false → Accepted b msgs → ⊥
-  refuted e h = true≢false (sym (law.1 h) ∙ e)
+-- ---- cells
 
-  -- ---- cells
+module _ {b msgs : List ℕ} where
+  pub unreadable : (f : Breach) → Judged b msgs (Err f) → (a : ℤ) → Reads (memory b msgs) a f.code 0
+  unreadable f J a = record { sound = λ h. absurd (J.0 h); damaged = λ _. (J.1, refl) }
 
-  pub unreadable : (a : ℤ) → r ≡ false → {c : ℤ} → ((Accepted b msgs → ⊥) → c ≡ number (breach (view_shown b msgs)).code) → Reads (memory b msgs) a c 0
-  unreadable a e f = record { sound = λ h. absurd (refuted e h); damaged = λ h. (f h, refl) }
-
-  module _ (y : r ≡ true) (a : ℤ) {n : ℕ} (en : n ≡ tasks_shown b) where
+  module _ (A : Accepted b msgs) (a : ℤ) {n : ℕ} (en : n ≡ tasks_shown b) where
     count : length (view_shown b msgs).body.tasks ≡ n
     unfolding view_shown body_shown
     count = length_ids (task_shown b) (tasks_shown b) ∙ sym en
@@ -51,7 +45,7 @@ module _ {b msgs : List ℕ} {r : Bool} (law : (r ≡ true) ↔ Accepted b msgs)
     module _ {t : Bool} (et : t ≡ outside a n) where
       pub foreign : t ≡ true → Reads (memory b msgs) a (number E-NOEXS) 0
       unfolding read_cell
-      foreign e = record { sound = λ h. rw (count, sym et ∙ e) (refl, refl); damaged = λ h. absurd (h (law.0 y)) }
+      foreign e = record { sound = λ h. rw (count, sym et ∙ e) (refl, refl); damaged = λ h. absurd (h (A)) }
 
       module _ (e : t ≡ false) where
         at_id : task (view_shown b msgs).body (nat a) ≡ task_shown b (nat a)
@@ -65,7 +59,7 @@ module _ {b msgs : List ℕ} {r : Bool} (law : (r ≡ true) ↔ Accepted b msgs)
 
           pub absent : s ≡ 6 → Reads (memory b msgs) a (number E-NOEXS) 0
           unfolding read_cell
-          absent z = record { sound = λ h. rw (count, sym et ∙ e, whether, eq-eqb _ 6 (sym es ∙ z)) (refl, refl); damaged = λ h. absurd (h (law.0 y)) }
+          absent z = record { sound = λ h. rw (count, sym et ∙ e, whether, eq-eqb _ 6 (sym es ∙ z)) (refl, refl); damaged = λ h. absurd (h (A)) }
 
           present : (s ≡ 6 → ⊥) → is_absent (task_shown b (nat a)).state ≡ false
           present z = ap (λ (x : Task). is_absent x.state) (sym at_id) ∙ whether ∙ ne_eqb _ 6 (λ d. z (es ∙ d))
@@ -74,37 +68,35 @@ module _ {b msgs : List ℕ} {r : Bool} (law : (r ≡ true) ↔ Accepted b msgs)
         unfolding read_cell task_shown
         readable es z ek ec ew = record {
           sound = λ h. rw (count, sym et ∙ e, at_id, present es z) (rw (← ek) ec, ew);
-          damaged = λ h. absurd (h (law.0 y));
+          damaged = λ h. absurd (h (A));
         }
 
-  -- ---- the running task
+-- ---- the running task
 
+module _ {b msgs : List ℕ} {r : Bool} (law : (r ≡ true) ↔ Accepted b msgs) where
   pub runs : {t : ℕ} → r ≡ true → t ≡ running_of b → Runs (memory b msgs) t
   runs y e = record { sound = λ h. e ∙ running_law b msgs h; damaged = λ h. absurd (h (law.0 y)) }
 
   pub idle : r ≡ false → Runs (memory b msgs) 0
-  idle e = record { sound = λ h. absurd (refuted e h); damaged = λ h. refl }
+  idle e = record { sound = λ h. absurd (true≢false (sym (law.1 h) ∙ e)); damaged = λ h. refl }
 
 -- ---- the states of all tasks
 
-module _ {b msgs : List ℕ} {code : ℤ} {id : ℕ} (J : Judged b msgs code id) where
-  pub unlisted : (s : List ℕ) → of_z w32 code ≢ 0 → {c : ℤ} → c ≡ code → Lists (memory b msgs) c 0 s s
-  unlisted s n e = record { sound = λ h. absurd (n (ap (of_z w32) (J.exactly.1 h))); damaged = λ h. (e ∙ (J.damaged h).0, refl, refl) }
+module _ {b msgs : List ℕ} where
+  pub unlisted : (f : Breach) → Judged b msgs (Err f) → (s : List ℕ) → Lists (memory b msgs) f.code 0 s s
+  unlisted f J s = record { sound = λ h. absurd (J.0 h); damaged = λ _. (J.1, refl, refl) }
 
-  module _ (f : mag code < 2 ^ 31) (z : of_z w32 code ≡ 0) {n : ℕ} (en : n ≡ tasks_shown b) where
-    accepted : Accepted b msgs
-    accepted = J.exactly.0 (sym (signed code f) ∙ ap (to_z w32) z)
-
+  module _ (A : Accepted b msgs) {n : ℕ} (en : n ≡ tasks_shown b) where
     pub few : n ≤ 32
-    few = omega (arith, en, few_tasks b msgs accepted)
+    few = omega (arith, en, few_tasks b msgs A)
 
     -- each is a task's, so it is what the rule shows
     shown : (t : ℕ) → In t n → number_at b t ≡ (tsk_sts (view_shown b msgs) (pos t)).w1
     unfolding tsk_sts
-    shown t h = sym (number_read b msgs t (omega (arith, h.0), omega (arith, h.1, en, tasks_count b msgs)) accepted)
+    shown t h = sym (number_read b msgs t (omega (arith, h.0), omega (arith, h.1, en, tasks_count b msgs)) A)
 
     pub listed : {old new : List ℕ} → Listed (number_at b) n old new → Lists (memory b msgs) (number OK) n old new
     listed L = record {
       sound = λ h. (refl, record { count = en ∙ sym (tasks_count b msgs); states = record { each = λ t k. L.each t k ∙ shown t k; rest = L.rest } });
-      damaged = λ h. absurd (h accepted);
+      damaged = λ h. absurd (h A);
     }

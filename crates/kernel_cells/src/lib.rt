@@ -11,11 +11,9 @@ use call_judging::is_outside;
 use call_reading::state_number;
 use call_words::codes::{E_NOEXS, E_RLWAI, E_TMOUT, OK};
 use call_words::named;
-use check_damage::{H_NUMBER, SOUND, first_breach, judged};
+use check_damage::{H_NUMBER, judged};
 use check_state::accepts;
-use memory_columns::{
-    ABSENT, CELL_OK, CELL_RLWAI, CELL_TMOUT, STATE_WORDS, TASKS, code, status, system, word,
-};
+use memory_columns::{ABSENT, CELL_OK, CELL_RLWAI, CELL_TMOUT, Column, STATE_WORDS, TASKS};
 use memory_running::running_task;
 
 // Places for the states of tasks: the most tasks of a setup.
@@ -30,6 +28,7 @@ pub struct Reading {
 }
 
 // The code that a cell keeps by a small number.
+#[tactic(auto, unfolding(rules::specs::Codes::number, memory_picture::specs::Picture::code_of))]
 fn code_of(kept: u32) -> i32
     ensures { result ≡ Promises.kept kept }
 {
@@ -46,29 +45,22 @@ fn code_of(kept: u32) -> i32
 pub fn cell(words: &[u32; STATE_WORDS], messages: &[u32; 256], task: i32) -> Reading
     ensures { Reads (memory words.now messages.now) task result.code result.word }
 {
-    if !accepts(words, messages) {
-        let broken = first_breach(words, messages);
+    if let Err(broken) = judged(words, messages) {
         return Reading {
             code: broken.code,
             word: 0,
         };
     }
     let t = named(task);
-    if is_outside(t, system(words, TASKS)) {
-        return Reading {
-            code: E_NOEXS,
-            word: 0,
-        };
-    }
-    if status(words, t) == ABSENT {
+    if is_outside(t, Column::System.get(words, TASKS)) || Column::Status.get(words, t) == ABSENT {
         return Reading {
             code: E_NOEXS,
             word: 0,
         };
     }
     Reading {
-        code: code_of(code(words, t)),
-        word: word(words, t),
+        code: code_of(Column::Code.get(words, t)),
+        word: Column::Word.get(words, t),
     }
 }
 
@@ -98,10 +90,8 @@ fn list_states(words: &[u32; STATE_WORDS], n: u32, out: &mut [u32])
     requires { n ≤ length out.old }
     ensures { Listed (number_at words.now) n out.old out.new }
 {
-    let mut i: u32 = 0;
-    while i < n {
+    for i in 0..n {
         out[i as usize] = state_number(words, i + 1);
-        i += 1;
     }
 }
 
@@ -115,14 +105,15 @@ pub fn states(
     ensures { Lists (memory words.now messages.now) result.code result.tasks
         out.old out.new }
 {
-    let found = judged(words, messages);
-    if found.code != SOUND {
-        return Shown {
-            code: found.code,
+    match judged(words, messages) {
+        Ok(()) => {
+            let n = Column::System.get(words, TASKS);
+            list_states(words, n, out);
+            Shown { code: OK, tasks: n }
+        }
+        Err(broken) => Shown {
+            code: broken.code,
             tasks: 0,
-        };
+        },
     }
-    let n = system(words, TASKS);
-    list_states(words, n, out);
-    Shown { code: OK, tasks: n }
 }

@@ -15,13 +15,14 @@ use Rattle.rules.specs.Runs.{answers, states}
 use Rattle.rules.proofs.Events.{cell_reads}
 use Rattle.memory_picture.specs.Picture.{Memory, view_in}
 use Rattle.kernel_start.specs.Starting.{Starts, Holds}
-use Rattle.kernel_start.specs.declared.Started.{Started}
+use Rattle.std.specs.Prelude.{Result}
+use Rattle.setup_sections.specs.declared.Refusal.{Refusal}
 use Rattle.kernel_cells.specs.Promises.{Runs}
 use Rattle.kernel_steps.specs.Steps.{Reply, told, Step, Link, Chain, last_memory}
 use Rattle.kernel_demands.specs.Demands.{CellIs}
 
 -- a start leaves the fresh state of its setup
-pub start_holds : (s : List ℕ) (u : Setup) (i : ℕ) → setup s ≡ got u i → (r : Started) (old m : Memory) → Starts s r old m → Holds m (fresh u)
+pub start_holds : (s : List ℕ) (u : Setup) (i : ℕ) → setup s ≡ got u i → (r : Result (Unit {0}) Refusal) (old m : Memory) → Starts s r old m → Holds m (fresh u)
 unfolding Starts
 start_holds s u i e r old m S = let h = rw e at S in record { accepted = h.1; view = h.2 }
 

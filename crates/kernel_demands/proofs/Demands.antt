@@ -30,7 +30,8 @@ use Rattle.rules.proofs.Broken.{stays_broken}
 use Rattle.rules.proofs.OnlyBroken.{only_rel_wai, never_answered}
 use Rattle.memory_picture.specs.Picture.{Memory, view_in, SoundIn}
 use Rattle.kernel_start.specs.Starting.{Starts, Holds}
-use Rattle.kernel_start.specs.declared.Started.{Started}
+use Rattle.std.specs.Prelude.{Result}
+use Rattle.setup_sections.specs.declared.Refusal.{Refusal}
 use Rattle.kernel_steps.specs.Steps.{Reply, told, unsound, Step, Link, Chain}
 use Rattle.kernel_demands.specs.Demands.{Same, seen, Demand3OnCode, Balanced, OutNotGranted, BlocksOnce, seen_all, WornEvenlyOnCode, state_in, StaysBrokenOnCode, BrokenOnCode, OnlyRelWaiOnCode}
 use Rattle.kernel_demands.proofs.Chains.{start_holds, chain_words, runs_is, cell_is, step_holds, step_says}
@@ -88,7 +89,7 @@ on_code past {m} {v} s (k ∷ l) H C D = (
     }
 
 -- from every start on a setup that is accepted
-pub demand3_on_code : (s : List ℕ) (u : Setup) (i : ℕ) → setup s ≡ got u i → (r : Started) (old m : Memory) → Starts s r old m
+pub demand3_on_code : (s : List ℕ) (u : Setup) (i : ℕ) → setup s ≡ got u i → (r : Result (Unit {0}) Refusal) (old m : Memory) → Starts s r old m
     → (l : List Link) → Chain m l → Demand3OnCode [] m (plain_fresh u) l
 demand3_on_code s u i e r old m S l C =
     on_code [] (plain_fresh u) l (start_holds s u i e r old m S) C (demand3 s u i e (map (λ k. k.event) l) (chain_words m l C))

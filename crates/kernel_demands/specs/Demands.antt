@@ -1,5 +1,5 @@
 -- What the customer demands of runs, said of the code: of every chain of steps.
-use Rattle.std.specs.Prelude.{Bool, false, not, List, [], ◌∷◌, map, ◌≢◌, ◌≡◌, ℕ, ◌+◌, ◌/◌, ◌%◌, ◌^◌, ℤ, pos, length}
+use Rattle.std.specs.Prelude.{Bool, false, not, List, [], ◌∷◌, map, ◌≢◌, ◌≡◌, ℕ, ◌+◌, ◌/◌, ◌%◌, ◌^◌, ℤ, pos, length, Result, Ok}
 use Rattle.rules.specs.Ids.{of, In, once}
 use Rattle.rules.specs.Codes.{number, in_damage, E-RLWAI}
 use Rattle.rules.specs.State.{State, Cell, is_open, task}
@@ -17,8 +17,7 @@ use Rattle.memory_columns.specs.Layout as Layout
 use Rattle.memory_columns.specs.Layout.{put}
 use Rattle.memory_picture.specs.Picture.{Memory, memory, view_in, SoundIn}
 use Rattle.kernel_start.specs.Starting.{Starts}
-use Rattle.kernel_start.specs.declared.Started.{Started}
-use Rattle.kernel_start.specs.declared.Started.TheVariants.{Fresh}
+use Rattle.setup_sections.specs.declared.Refusal.{Refusal}
 use Rattle.kernel_cells.specs.Promises.{Reads, Runs}
 use Rattle.kernel_steps.specs.Steps.{Reply, told, Link, Chain, last_memory}
 
@@ -146,5 +145,5 @@ Every P (c ∷ l) = P c × Every P l
 -- the start takes a sheet's bytes, and each case holds of the memory that it leaves, once the case's clock is written
 abbrev pub SheetOnCode : Sheet → Type 0
 SheetOnCode s =
-    (r : Started) (old m : Memory) → Starts s.bytes r old m
-    → (r ≡ Fresh) × Every (λ c. CaseHolds (memory (clock_set c.clock m.words) m.marks) c) s.cases
+    (r : Result (Unit {0}) Refusal) (old m : Memory) → Starts s.bytes r old m
+    → (r ≡ Ok tt) × Every (λ c. CaseHolds (memory (clock_set c.clock m.words) m.marks) c) s.cases

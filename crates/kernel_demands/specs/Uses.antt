@@ -1,14 +1,13 @@
 -- From the functions that a user calls to the demands: what `run` promises, and what `start` and then any mix of `call`, `tick`, `enter`, `leave` and `events`
 -- promise, is a chain of steps, of which the demands are said.
-use Rattle.std.specs.Prelude.{List, [], ◌∷◌, ◌++◌, ◌≡◌, ℕ, ℤ}
+use Rattle.std.specs.Prelude.{List, [], ◌∷◌, ◌++◌, ◌≡◌, ℕ, ℤ, Result, Ok, Err}
 use Rattle.rules.specs.Setup.{got, Setup, setup}
 use Rattle.rules.specs.Events.{Event}
 use Rattle.rules.specs.Plain.{plain_fresh}
 use Rattle.memory_picture.specs.Picture.{Memory}
 use Rattle.kernel_start.specs.Starting.{Starts}
-use Rattle.kernel_start.specs.declared.Started.TheVariants.{Fresh}
 use Rattle.kernel_steps.specs.Steps.{Reply, Step, Link}
-use Rattle.kernel_batches.specs.declared.Batch.{Batch}
+use Rattle.kernel_batches.specs.declared.Unfit.{Unfit}
 use Rattle.kernel_batches.specs.Batches.{Lent, lent, RanThrough, fitted, BatchedAs, Batched}
 use Rattle.kernel_demands.specs.Demands.{Demand3OnCode, BrokenOnCode, OnlyRelWaiOnCode, BlocksOnce, WornEvenlyOnCode, InterruptedOnCode}
 use Rattle.kernel_demands.specs.Turns.{InTurnOnCode}
@@ -39,7 +38,7 @@ pub record RunDemanded (s : List ℕ) (given : List ℤ) (old new : Lent) : Type
   pub end : ℕ
   pub accepted : setup s ≡ got read end
   pub started : Memory
-  pub starts : Starts s Fresh old.memory started
+  pub starts : Starts s (Ok tt) old.memory started
   pub ran : RanThrough given (lent started old.codes old.answers) new
   pub demanded : Demanded read started ran.links
 
@@ -49,7 +48,7 @@ pub record RunDemanded (s : List ℕ) (given : List ℤ) (old new : Lent) : Type
 -- answers, and all that it left
 pub data Turn : Type 0 where
   one : Event → Reply → Memory → Turn
-  many : List ℤ → Batch → List ℤ → List ℕ → Lent → Turn
+  many : List ℤ → Result (Unit {0}) Unfit → List ℤ → List ℕ → Lent → Turn
 
 -- each turn is as its function promises, from the memory that the last one left
 abbrev pub Mix : Memory → List Turn → Type 0
@@ -58,11 +57,9 @@ Mix m (one e r new ∷ t) = Step e m r new × Mix new t
 Mix m (many given q codes answers new ∷ t) = Batched given q (lent m codes answers) new × Mix new.memory t
 
 -- the links of a batch: those that it promises, none if it did not run
-abbrev pub batch_links : (q : Batch) (given : List ℤ) (old new : Lent) → BatchedAs q given old new → List Link
-batch_links Batch.Done given old new R = R.links
-batch_links Batch.Ragged given old new R = []
-batch_links Batch.FewCodes given old new R = []
-batch_links Batch.FewWords given old new R = []
+abbrev pub batch_links : (q : Result (Unit {0}) Unfit) (given : List ℤ) (old new : Lent) → BatchedAs q given old new → List Link
+batch_links (Ok t) given old new R = R.links
+batch_links (Err u) given old new R = []
 
 -- the links of a mix, in order
 unfoldable pub mix_links : (m : Memory) (t : List Turn) → Mix m t → List Link

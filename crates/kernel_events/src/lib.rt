@@ -6,14 +6,9 @@ ghost use Rattle.memory_picture.specs.Picture.{memory};
 ghost use Rattle.kernel_steps.specs.Steps.{reply_of, Step};
 
 use call_judging::is_above;
-use check_damage::judged;
-use kernel_serving::{serve, serve_enter, serve_leave, serve_tick};
-use kernel_steps::{Answer, misnamed};
+use kernel_serving::{Event, HANDLER, serve, serve_enter, serve_leave, serve_tick};
+use kernel_steps::{Answer, look, misnamed};
 use memory_columns::STATE_WORDS;
-use memory_running::running_task;
-
-// The last context of a call: 0 task, 1 handler.
-const HANDLER: u32 = 1;
 
 // A call from a context (0 task, 1 handler) by its number.
 pub fn call(
@@ -28,12 +23,18 @@ pub fn call(
     ensures { Step (Events.call context number a b c) (memory words.old messages.old)
         (reply_of result) (memory words.new messages.new) }
 {
-    let found = judged(words, messages);
-    let me = running_task(words);
+    let known = look(words, messages);
     if is_above(context, HANDLER) {
-        return misnamed(found, me);
+        return misnamed(known);
     }
-    serve(words, messages, found, me, context, number, a, b, c)
+    let event = Event {
+        kind: context,
+        number,
+        a,
+        b,
+        c,
+    };
+    serve(words, messages, known, event)
 }
 
 // A tick.
@@ -41,9 +42,8 @@ pub fn tick(words: &mut [u32; STATE_WORDS], messages: &[u32; 256]) -> Answer
     ensures { Step Events.tick (memory words.old messages.now)
         (reply_of result) (memory words.new messages.now) }
 {
-    let found = judged(words, messages);
-    let now = running_task(words);
-    serve_tick(words, messages, found, now)
+    let known = look(words, messages);
+    serve_tick(words, messages, known)
 }
 
 // The entry of a handler.
@@ -51,9 +51,8 @@ pub fn enter(words: &mut [u32; STATE_WORDS], messages: &[u32; 256]) -> Answer
     ensures { Step Events.enter (memory words.old messages.now)
         (reply_of result) (memory words.new messages.now) }
 {
-    let found = judged(words, messages);
-    let now = running_task(words);
-    serve_enter(words, messages, found, now)
+    let known = look(words, messages);
+    serve_enter(words, messages, known)
 }
 
 // The return of a handler.
@@ -61,7 +60,6 @@ pub fn leave(words: &mut [u32; STATE_WORDS], messages: &[u32; 256]) -> Answer
     ensures { Step Events.exit (memory words.old messages.now)
         (reply_of result) (memory words.new messages.now) }
 {
-    let found = judged(words, messages);
-    let now = running_task(words);
-    serve_leave(words, messages, found, now)
+    let known = look(words, messages);
+    serve_leave(words, messages, known)
 }

@@ -6,8 +6,6 @@ use Rattle.memory_columns.specs.declared.Rings.TheVariants as Rings
 use Rattle.memory_columns.specs.Layout as Layout
 use Rattle.memory_columns.specs.Layout.{state_words, max_alarms, at_most, ready_node, wait_node, mail_node, free_node, put}
 use Rattle.memory_queues.specs.Moves.{emptied as emptied_at}
-use Rattle.kernel_fresh.specs.declared.Section.{Section}
-use Rattle.kernel_fresh.specs.declared.Section.TheVariants.{Tasks, Semaphores, Flags, Pools, Alarms}
 
 -- f for n ids from i on
 unfoldable pub in_turn : (ℕ → List ℕ → List ℕ) → ℕ → ℕ → List ℕ → List ℕ
@@ -42,14 +40,6 @@ laid_pool s at i b = put Layout.size i (word_of_id s at 4 i) b
 -- alarm k of the counter whose entry lies there: idle, with its task, and 1 if it wakes it
 unfoldable pub laid_alarm : List ℕ → ℕ → ℕ → List ℕ → List ℕ
 laid_alarm s at k b = put Layout.alarm_wakes k (at_most (word_at s (at + (8 * (k - 1) + 8))) 1) (put Layout.alarm_task k (word_at s (at + (8 * (k - 1) + 4))) b)
-
--- entry i of a section
-abbrev pub laid_entry : Section → List ℕ → ℕ → ℕ → List ℕ → List ℕ
-laid_entry Tasks s at = laid_task s at
-laid_entry Semaphores s at = laid_semaphore s at
-laid_entry Flags s at = laid_flag s at
-laid_entry Pools s at = laid_pool s at
-laid_entry Alarms s at = laid_alarm s at
 
 -- the counter, if there is one
 unfoldable pub laid_counter : List ℕ → ℕ → ℕ → List ℕ → List ℕ

@@ -1,17 +1,19 @@
 -- An event that is done as it is judged makes a step. Assumes nothing.
 use mathlib.Core.Bool.{Bool, true, false, cond, ◌&&◌, ◌||◌, true≢false, false≢true}
 use mathlib.Core.List.{List}
-use mathlib.Core.Logic.{◌≢◌}
 use mathlib.Core.Path.{◌≡◌, refl, sym, ap, ◌∙◌, subst}
 use Prim.Native.Nat.{ℕ, zero, suc, ◌<◌, ◌^◌}
 use native.Mathlib.Omega.{arith}
 use lib.Dec.{eqb}
-use lib.IntN.{ℤ, pos, negsuc, ℤ_discrete}
+use lib.IntN.{ℤ, pos, negsuc}
 use lib.Signed.{mag}
+use denote.Ref.{MutBor}
 use borrow.Author.Tests.{le-leb}
 use mir.Syntax.{w32}
 use mir.Val.{SFits, to_z, of_z}
 use mir.Facts.{to_z-of_z}
+use Rattle.std.specs.Prelude.{Result, Ok, Err}
+use Rattle.std.specs.Result.{result_and}
 use Rattle.rules.specs.Codes.{number, negative, in_damage, tells_damage, H-CALL}
 use Rattle.rules.specs.Breach.{breach}
 use Rattle.rules.specs.Events.{Event, tick, enter, exit, call, event_of, Word, Words, nat, above}
@@ -28,19 +30,16 @@ use Rattle.rules.proofs.Released.{released_by_acts}
 use Rattle.memory_picture.specs.Picture.{handlers_shown, body_shown, view_shown, Accepted, Memory, memory, view_in, SoundIn}
 use Rattle.memory_running.specs.Running.{running_of}
 use Rattle.memory_running.proofs.Running.{running_law}
-use Rattle.rules.specs.Time.{ticked}
-use Rattle.rules.specs.Handling.{entered, exited}
 use Rattle.call_words.specs.declared.Outcome.{Outcome}
 use Rattle.call_words.specs.Outcomes.{outcome}
-use Rattle.call_words.specs.Doing.{Does, Anything, DoesOnWords}
-use Rattle.call_words.specs.Naming.{Runs}
+use Rattle.call_words.specs.Doing.{Does, DoesOnWords}
 use Rattle.call_words.proofs.Verdicts.{refuses_with}
 use Rattle.call_dispatch.specs.Dispatching.{Dispatches}
 use Rattle.call_dispatch.proofs.Done.{does_law}
 use Rattle.check_damage.specs.declared.Breach.{Breach}
-use Rattle.check_damage.specs.Judged.{Judged}
 use Rattle.kernel_steps.specs.Steps.{Reply, reply, told, unsound, Step}
-use Rattle.kernel_steps.specs.Serving.{replied, Known, Misnames}
+use Rattle.kernel_steps.specs.Serving.{replied, Known, Serves, Misnames}
+use Rattle.kernel_serving.specs.Acting.{Acts}
 
 -- ---- words
 
@@ -130,12 +129,9 @@ module _ {me : ℕ} {b m : List ℕ} (here : Accepted b m) (runs : me ≡ runnin
       done_step (call x n a c d) b m b' m' here w (subst (λ (q : Verdict). Does q o b m b' m') y (D here)) (λ A. er ∙ running_law b' m' A)
 
 -- from no context
-pub misnamed_step : {f : Breach} {me : ℕ} {m : Memory} (K : Known f me m) (x n a c d : ℤ) → Words (call x n a c d) → above x 1 ≡ true → {r : Reply} → Misnames f me r → Step (call x n a c d) m r m
-misnamed_step {f} {me} {m} K x n a c d w e {r} M = go (ℤ_discrete f.code (pos 0))
-  where
-    go : Dec (f.code ≡ pos 0) → Step (call x n a c d) m r m
-    go (yes s) = subst (λ (q : Reply). Step (call x n a c d) m q m) (sym (M.0 s)) (let A = K.0.0 s in call_misnamed A (K.1 A) x n a c d w e refl)
-    go (no s) = let z : SoundIn m → ⊥ = λ A. s (K.0.1 A) in unsound_step (call x n a c d) m r w z (M.1 s ∙ K.2 z)
+pub misnamed_step : (k : Result ℕ Breach) {m : Memory} (x n a c d : ℤ) → Words (call x n a c d) → above x 1 ≡ true → {r : Reply} → Misnames k r → Serves (call x n a c d) k m r m
+misnamed_step (Ok me) x n a c d w e M K = rw M (call_misnamed K.0 K.1 x n a c d w e refl)
+misnamed_step (Err f) x n a c d w e M K = unsound_step (call x n a c d) _ _ w K.0 (M ∙ K.1)
 
 -- from a context, as an event of five words
 pub named_kind : (x n a b c : ℤ) → above x 1 ≡ false → event_of x n a b c ≡ call x n a b c
@@ -170,18 +166,15 @@ kind_call (negsuc k) n a b c x y z = refl
 
 -- ---- the tick, entry and return
 
-module _ {f : Breach} {me : ℕ} {b m : List ℕ} (K : Known f me (memory b m)) (s : f.code ≡ pos 0) {b' : List ℕ} {o : Outcome} {r : ℕ} (runs : r ≡ running_of b') where
-  pub tick_done : DoesOnWords Anything ticked o b b' → Step tick (memory b m) (replied o r) (memory b' m)
-  unfolding judge
-  tick_done D = let A = K.0.0 s in done_step tick b m b' m A tt (D m A tt) (λ A'. runs ∙ running_law b' m A')
-
-  pub enter_done : DoesOnWords (Runs me) entered o b b' → Step enter (memory b m) (replied o r) (memory b' m)
-  unfolding judge
-  enter_done D = let A = K.0.0 s in done_step enter b m b' m A tt (D m A (K.1 A)) (λ A'. runs ∙ running_law b' m A')
-
-  pub leave_done : DoesOnWords Anything exited o b b' → Step exit (memory b m) (replied o r) (memory b' m)
-  unfolding judge
-  leave_done D = let A = K.0.0 s in done_step exit b m b' m A tt (D m A tt) (λ A'. runs ∙ running_law b' m A')
+module _ {gives : MutBor (List ℕ) → ℕ → Outcome → MutBor (List ℕ) → Type 0} {m : List ℕ} where
+  -- an act that its rule tells, of whoever runs
+  pub acts_step : (e : Event) (P : ℕ → View → Type 0) (rule : View → Verdict) → ((v : View) → judge v e ≡ rule v) → Words e → ((me : ℕ) (v : View) → me ≡ running v → P me v)
+      → ((x y : MutBor (List ℕ)) (me : ℕ) (o : Outcome) → gives x me o y → DoesOnWords (P me) rule o x.now y.now)
+      → (k : Result ℕ Breach) {b b' : List ℕ} {r : Reply} → Acts gives k b r b' → Serves e k (memory b m) r (memory b' m)
+  acts_step e P rule judged w there does (Ok me) {b} {b'} D K =
+      let h : DoesOnWords (P me) rule D.outcome b b' = rw (← D.shows, ← D.leaves) (does D.lent D.left me D.outcome D.gave) in
+      rw D.says (done_step e b m b' m K.0 w (rw judged (h m K.0 (there me _ K.1))) (λ A. running_law b' m A))
+  acts_step e P rule judged w there does (Err f) R K = rw R.kept (unsound_step e _ _ w K.0 (R.says ∙ K.1))
 
 -- ---- what is known
 
@@ -198,37 +191,16 @@ answer_runs : (v : View) (e : Event) → (served v e).answer.runs ≡ running (s
 unfolding served answer
 answer_runs v e = refl
 
-module _ {f : Breach} {me : ℕ} {old : Memory} (K : Known f me old) where
-  pub not_sound : f.code ≢ pos 0 → SoundIn old → ⊥
-  not_sound n A = n (K.0.1 A)
-
-  module _ {e : Event} {r : Reply} {new : Memory} (S : Step e old r new) where
-    -- a memory that is not accepted stays as it is
-    same : (SoundIn old → ⊥) → new ≡ old
-    same n = S.kept (ap (λ (x : Reply). negative x.code) (S.refuses n) ∙ breach_negative (view_in old))
-
-    back : Dec (f.code ≡ pos 0) → SoundIn new → f.code ≡ pos 0
-    back (yes q) A = q
-    back (no q) A = absurd (not_sound q (subst SoundIn (same (not_sound q)) A))
-
-    -- what is broken stays broken
-    tells : Dec (f.code ≡ pos 0) → (SoundIn new → ⊥) → reply f.code f.id 0 0 0 ≡ unsound new
-    tells (yes q) n = absurd (n (S.accepted (K.0.0 q)))
-    tells (no q) n = K.2 (not_sound q) ∙ ap unsound (sym (same (not_sound q)))
-
-    -- the same is known after the event
-    sound? : Dec (f.code ≡ pos 0)
-    sound? = ℤ_discrete f.code (pos 0)
-
-    pub known_on : Known f r.runs new
-    known_on = ((λ q. S.accepted (K.0.0 q), back sound?), λ A'. runs (K.0.0 (back sound? A')), tells sound?)
-      where
-        runs : SoundIn old → r.runs ≡ running (view_in new)
-        runs A =
-            let v : View = view_in old in
-            let u : event v e ≡ served v e = event_served v e A.sound in
-            ap (λ (x : Reply). x.runs) (S.answers A) ∙ ap (λ (o : Kernel.Outcome). o.answer.runs) u ∙ answer_runs v e ∙ ap (λ (o : Kernel.Outcome). running o.next) (sym u) ∙ ap running (sym (S.shows A))
-
--- the first check tells whether the state is sound, and what is broken if it is not
-pub known_first : (b m : List ℕ) {f : Breach} {me : ℕ} → Judged b m f.code f.id → me ≡ running_of b → Known f me (memory b m)
-known_first b m J e = (J.exactly, (λ A. e ∙ running_law b m A), λ n. (λ z. reply ((J.damaged n).0 z) ((J.damaged n).1 z) 0 0 0))
+-- the same is known after the event: who runs, or what is broken, which stays broken
+pub known_on : (k : Result ℕ Breach) {e : Event} {old new : Memory} {r : Reply} → Known k old → Step e old r new → Known (result_and k (Ok r.runs)) new
+known_on (Ok me) {e} {old} {new} {r} K S = (S.accepted K.0, runs)
+  where
+    runs : r.runs ≡ running (view_in new)
+    runs =
+        let v : View = view_in old in
+        let u : event v e ≡ served v e = event_served v e K.0.sound in
+        ap (λ (x : Reply). x.runs) (S.answers K.0) ∙ ap (λ (o : Kernel.Outcome). o.answer.runs) u ∙ answer_runs v e ∙ ap (λ (o : Kernel.Outcome). running o.next) (sym u) ∙ ap running (sym (S.shows K.0))
+known_on (Err f) {e} {old} {new} {r} K S = rw same K
+  where
+    same : new ≡ old
+    same = S.kept (ap (λ (x : Reply). negative x.code) (S.refuses K.0) ∙ breach_negative (view_in old))

@@ -5,6 +5,8 @@ use Prim.Native.Nat.{ℕ, zero, suc, ◌+◌, ◌*◌, ◌/◌, ◌≤◌, ◌<�
 use native.Mathlib.Omega.{arith}
 use lib.IntN.{ℤ, pos}
 use lib.ListN.{length, drop, get_or, set, length-append, length-map, drop_of_length-le}
+use Rattle.std.specs.Prelude.{Result, Ok}
+use Rattle.std.specs.Result.{result_and}
 use Rattle.rules.specs.Events.{Event, tick, event_of, events_of}
 use Rattle.memory_picture.specs.Picture.{Memory}
 use Rattle.check_damage.specs.declared.Breach.{Breach}
@@ -150,25 +152,26 @@ module _ (given : List ℤ) (i : ℕ) (old new : Lent) (S : SoFar given i old ne
 -- ---- the loop
 
 -- what holds where i events have run: so much is done, and it is known whether the state is sound and who runs
-pub record Running (given : List ℤ) (f : Breach) (me i : ℕ) (old new : Lent) : Type 0 where
+pub record Running (given : List ℤ) (k : Result ℕ Breach) (i : ℕ) (old new : Lent) : Type 0 where
   pub so_far : SoFar given i old new
-  pub known : Known f me new.memory
+  pub known : Known k new.memory
 
-pub begins : (given : List ℤ) (old : Lent) {f : Breach} {me : ℕ} → Known f me old.memory → Running given f me 0 old old
+pub begins : (given : List ℤ) (old : Lent) {k : Result ℕ Breach} → Known k old.memory → Running given k 0 old old
 begins given old K = record { so_far = none_yet given old; known = K }
 
-pub goes_on : {given : List ℤ} {f : Breach} {me i now : ℕ} {old new later : Lent} → Room given old → i < length given / 5 → Running given f me i old new → EventRan given i new later now → Running given f now (i + 1) old later
-goes_on {given} {f} {me} {i} {now} {old} {new} {later} P h R E = let e : suc i ≡ i + 1 = omega arith in subst (λ (k : ℕ). Running given f now k old later) e (record {
+pub goes_on : {given : List ℤ} {k : Result ℕ Breach} {i now : ℕ} {old new later : Lent} → Room given old → i < length given / 5 → Running given k i old new → EventRan given i new later now
+    → {k' : Result ℕ Breach} → k' ≡ result_and k (Ok now) → Running given k' (i + 1) old later
+goes_on {given} {k} {i} {now} {old} {new} {later} P h R E {k'} n = let e : suc i ≡ i + 1 = omega arith in subst (λ (j : ℕ). Running given k' j old later) e (record {
   so_far = one_more given i old new R.so_far (omega (arith, h)) (omega (arith, h, P.codes)) (omega (arith, h, P.answers)) later E;
-  known = subst (λ (x : ℕ). Known f x later.memory) (sym E.runs) (known_on R.known E.step);
+  known = subst (λ (x : Result ℕ Breach). Known x later.memory) (ap (λ (x : ℕ). result_and k (Ok x)) (sym E.runs) ∙ sym n) (known_on k R.known E.step);
 })
 
-pub ends : {given : List ℤ} {f : Breach} {me i : ℕ} {old new : Lent} → Room given old → length given / 5 ≤ i → Running given f me i old new → RanThrough given old new
+pub ends : {given : List ℤ} {k : Result ℕ Breach} {i : ℕ} {old new : Lent} → Room given old → length given / 5 ≤ i → Running given k i old new → RanThrough given old new
 ends {given} {i = i} {old = old} {new = new} P h R = all_run given i old new (omega (arith, h, P.whole)) R.so_far
 
 -- in the loop: the same, for who knows what is known before the first and that there is room; and the lent places keep their lengths
-pub record Turning (given : List ℤ) (f : Breach) (me now i : ℕ) (old new : Lent) : Type 0 where
-  pub running : Known f me old.memory → Room given old → Running given f now i old new
+pub record Turning (given : List ℤ) (k now : Result ℕ Breach) (i : ℕ) (old new : Lent) : Type 0 where
+  pub running : Known k old.memory → Room given old → Running given now i old new
   pub codes : length new.codes ≡ length old.codes
   pub answers : length new.answers ≡ length old.answers
 

@@ -1,4 +1,4 @@
-// Events on a memory of which it is known whether it is sound and who runs: what is promised is as much as that
+// Events on a memory of which it is known that it is sound and who runs, or what is broken: what is promised is as much as that
 // knowledge (`Serves`, `ServesAll`). `kernel_events` and `kernel_batches` look first.
 #![tactic(auto)]
 
@@ -9,17 +9,19 @@ ghost use Rattle.memory_picture.specs.Picture.{memory};
 ghost use Rattle.kernel_steps.specs.Steps.{reply_of};
 ghost use Rattle.kernel_steps.specs.Serving.{Serves, ServesCall};
 ghost use Rattle.kernel_steps.specs.Written.{lent, answered, ServesAt, ServesAll};
+ghost use Rattle.kernel_serving.specs.Acting.{Acts};
 
 use call_dispatch::dispatch;
-use call_judging::is_above;
-use call_words::named;
-use check_damage::{Breach, SOUND};
+use call_judging::{Caller, is_above};
+use call_words::{Outcome, named};
+use check_damage::Breach;
 use kernel_steps::{Answer, answer_of, caller, damaged, handles, misnamed};
 use memory_columns::STATE_WORDS;
 use memory_running::{is_open, running_task};
 
-// The context of a call, or the kind of an event.
-const HANDLER: u32 = 1;
+// The last context of a call (0 task, 1 handler), or the kind of an event. Kinds come in as words from outside, and any word may: so they are
+// numbers here.
+pub const HANDLER: u32 = 1;
 
 const TICK: i32 = 2;
 
@@ -27,109 +29,121 @@ const ENTRY: i32 = 3;
 
 const RETURN: i32 = 4;
 
+// An event of five words: kind (0 task, 1 handler, 2 tick, 3 entry, 4 return), call, a, b, c.
+#[derive(Clone, Copy)]
+pub struct Event {
+    pub kind: i32,
+    pub number: i32,
+    pub a: i32,
+    pub b: i32,
+    pub c: i32,
+}
+
 // A call from a context that is one. It is known that the state is sound and that `me` runs.
 fn serve_call(
     words: &mut [u32; STATE_WORDS],
     messages: &mut [u32; 256],
     me: u32,
-    context: i32,
-    number: i32,
-    a: i32,
-    b: i32,
-    c: i32,
+    event: Event,
 ) -> Answer
-    ensures { ServesCall context number a b c me (memory words.old messages.old)
+    ensures { ServesCall event.kind event.number event.a event.b event.c me (memory words.old messages.old)
         (reply_of result) (memory words.new messages.new) }
 {
-    let handler = named(context) == HANDLER;
+    let Event {
+        kind,
+        number,
+        a,
+        b,
+        c,
+    } = event;
+    let handler = named(kind) == HANDLER;
     let n = named(number);
     let inside = is_open(words);
-    let me = caller(handler, inside, me);
-    let o = dispatch(words, messages, handles(handler, inside), me, n, a, b, c);
+    let who = Caller {
+        handler: handles(handler, inside),
+        me: caller(handler, inside, me),
+    };
+    let o = dispatch(words, messages, who, n, a, b, c);
     let runs = running_task(words);
     answer_of(o, runs)
 }
 
-// A tick, where it is known whether the state is sound and, if so, that `me` runs.
+// An act of an event that names no words, where it is known that the state is sound and who runs, or what is broken.
+fn serve_act<F: FnOnce(&mut [u32; STATE_WORDS], u32) -> Outcome>(
+    words: &mut [u32; STATE_WORDS],
+    known: Result<u32, Breach>,
+    act: F,
+) -> Answer
+    requires { F.IsAlwaysCallable act }
+    ensures { Acts (F.post act) known words.old (reply_of result) words.new }
+{
+    match known {
+        Ok(me) => {
+            let o = act(words, me);
+            let runs = running_task(words);
+            answer_of(o, runs)
+        }
+        Err(broken) => damaged(broken),
+    }
+}
+
+// A tick, where the same is known.
 pub fn serve_tick(
     words: &mut [u32; STATE_WORDS],
     messages: &[u32; 256],
-    found: Breach,
-    me: u32,
+    known: Result<u32, Breach>,
 ) -> Answer
-    ensures { Serves Events.tick found me (memory words.old messages.now)
+    ensures { Serves Events.tick known (memory words.old messages.now)
         (reply_of result) (memory words.new messages.now) }
 {
-    if found.code != SOUND {
-        return damaged(found);
-    }
-    let o = call_tick::tick(words);
-    let runs = running_task(words);
-    answer_of(o, runs)
+    serve_act(words, known, |words, _| call_tick::tick(words))
 }
 
-// The entry of a handler, where the same is known.
+// The entry of a handler.
 pub fn serve_enter(
     words: &mut [u32; STATE_WORDS],
     messages: &[u32; 256],
-    found: Breach,
-    me: u32,
+    known: Result<u32, Breach>,
 ) -> Answer
-    ensures { Serves Events.enter found me (memory words.old messages.now)
+    ensures { Serves Events.enter known (memory words.old messages.now)
         (reply_of result) (memory words.new messages.now) }
 {
-    if found.code != SOUND {
-        return damaged(found);
-    }
-    let o = call_handlers::enter(words, me);
-    let runs = running_task(words);
-    answer_of(o, runs)
+    serve_act(words, known, call_handlers::enter)
 }
 
 // The return of one.
 pub fn serve_leave(
     words: &mut [u32; STATE_WORDS],
     messages: &[u32; 256],
-    found: Breach,
-    me: u32,
+    known: Result<u32, Breach>,
 ) -> Answer
-    ensures { Serves Events.exit found me (memory words.old messages.now)
+    ensures { Serves Events.exit known (memory words.old messages.now)
         (reply_of result) (memory words.new messages.now) }
 {
-    if found.code != SOUND {
-        return damaged(found);
-    }
-    let o = call_handlers::leave(words);
-    let next = running_task(words);
-    answer_of(o, next)
+    serve_act(words, known, |words, _| call_handlers::leave(words))
 }
 
-// An event of five words: kind (0 task, 1 handler, 2 tick, 3 entry, 4 return), call, a, b, c. Calls are tried for before the rest.
+// By its kind. Calls are tried for before the rest.
 fn serve_event(
     words: &mut [u32; STATE_WORDS],
     messages: &mut [u32; 256],
-    found: Breach,
-    me: u32,
-    kind: i32,
-    number: i32,
-    a: i32,
-    b: i32,
-    c: i32,
+    known: Result<u32, Breach>,
+    event: Event,
 ) -> Answer
-    ensures { Serves (event_of kind number a b c) found me (memory words.old messages.old)
+    ensures { Serves (event_of event.kind event.number event.a event.b event.c) known (memory words.old messages.old)
         (reply_of result) (memory words.new messages.new) }
 {
-    if found.code != SOUND {
-        return damaged(found);
+    if !is_above(event.kind, HANDLER) {
+        return match known {
+            Ok(me) => serve_call(words, messages, me, event),
+            Err(broken) => damaged(broken),
+        };
     }
-    if !is_above(kind, HANDLER) {
-        return serve_call(words, messages, me, kind, number, a, b, c);
-    }
-    match kind {
-        TICK => serve_tick(words, messages, found, me),
-        ENTRY => serve_enter(words, messages, found, me),
-        RETURN => serve_leave(words, messages, found, me),
-        _ => misnamed(found, me),
+    match event.kind {
+        TICK => serve_tick(words, messages, known),
+        ENTRY => serve_enter(words, messages, known),
+        RETURN => serve_leave(words, messages, known),
+        _ => misnamed(known),
     }
 }
 
@@ -155,34 +169,30 @@ fn write_code(codes: &mut [i32], i: usize, code: i32)
     codes[i] = code;
 }
 
-// Event i is served and its answer written. It is known whether the state is sound and, if so, that `me` runs. Gives who runs after it.
+// Event i is served and its answer written. It is known that the state is sound and who runs, or what is broken. Gives who runs after it.
 fn serve_one(
     words: &mut [u32; STATE_WORDS],
     messages: &mut [u32; 256],
-    found: Breach,
-    me: u32,
+    known: Result<u32, Breach>,
     events: &[i32],
     i: usize,
     codes: &mut [i32],
     answers: &mut [u32],
 ) -> u32
     requires { (5 * i + 5 ≤ length events.now) × (suc i ≤ length codes.old) × (4 * i + 4 ≤ length answers.old) }
-    ensures { ServesAt events.now i found me
+    ensures { ServesAt events.now i known
         (lent (memory words.old messages.old) codes.old answers.old)
         (lent (memory words.new messages.new) codes.new answers.new) result }
 {
     let at = 5 * i;
-    let r = serve_event(
-        words,
-        messages,
-        found,
-        me,
-        events[at],
-        events[at + 1],
-        events[at + 2],
-        events[at + 3],
-        events[at + 4],
-    );
+    let event = Event {
+        kind: events[at],
+        number: events[at + 1],
+        a: events[at + 2],
+        b: events[at + 3],
+        c: events[at + 4],
+    };
+    let r = serve_event(words, messages, known, event);
     write_code(codes, i, r.code);
     write_words(answers, i, r);
     r.running
@@ -195,13 +205,7 @@ fn count(events: usize, codes: usize, answers: usize) -> usize
         (events / 5 ≤ codes → 4 * (events / 5) ≤ answers → result ≡ events / 5) }
 {
     let n = events / 5;
-    if codes < n {
-        return 0;
-    }
-    if answers / 4 < n {
-        return 0;
-    }
-    n
+    if codes < n || answers / 4 < n { 0 } else { n }
 }
 
 // The events, five words each, one after the other, where there is place for their answers. Whoever serves an event
@@ -209,44 +213,37 @@ fn count(events: usize, codes: usize, answers: usize) -> usize
 pub fn serve_all(
     words: &mut [u32; STATE_WORDS],
     messages: &mut [u32; 256],
-    found: Breach,
-    me: u32,
+    known: Result<u32, Breach>,
     events: &[i32],
     codes: &mut [i32],
     answers: &mut [u32],
 )
-    ensures { ServesAll events.now found me
+    ensures { ServesAll events.now known
         (lent (memory words.old messages.old) codes.old answers.old)
         (lent (memory words.new messages.new) codes.new answers.new) }
 {
     let n = count(events.len(), codes.len(), answers.len());
-    let mut runs = me;
-    let mut i: usize = 0;
-    while i < n {
-        runs = serve_one(words, messages, found, runs, events, i, codes, answers);
-        i += 1;
+    let mut now = known;
+    for i in 0..n {
+        let runs = serve_one(words, messages, now, events, i, codes, answers);
+        now = now.and(Ok(runs));
     }
 }
 
-// One event of five words, as a batch of one.
+// One event, as a batch of one.
 pub fn serve(
     words: &mut [u32; STATE_WORDS],
     messages: &mut [u32; 256],
-    found: Breach,
-    me: u32,
-    kind: i32,
-    number: i32,
-    a: i32,
-    b: i32,
-    c: i32,
+    known: Result<u32, Breach>,
+    event: Event,
 ) -> Answer
-    ensures { Serves (event_of kind number a b c) found me (memory words.old messages.old)
+    ensures { Serves (event_of event.kind event.number event.a event.b event.c) known (memory words.old messages.old)
         (reply_of result) (memory words.new messages.new) }
 {
-    let event = [kind, number, a, b, c];
+    let event = [event.kind, event.number, event.a, event.b, event.c];
     let mut code = [0i32; 1];
     let mut answer = [0u32; 4];
-    serve_all(words, messages, found, me, &event, &mut code, &mut answer);
+    serve_all(words, messages, known, &event, &mut code, &mut answer);
     Answer {
         code: code[0],
         w1: answer[0],

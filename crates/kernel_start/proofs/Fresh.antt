@@ -23,8 +23,8 @@ use Rattle.rules.proofs.Queues.{sound_act, body_act}
 use Rattle.rules.proofs.Accepted.{GoodSetup, setup_good, idle_sound, all_there}
 use Rattle.rules.proofs.Calls.{AllThere, start_there}
 use Rattle.setup_plan.specs.declared.Plan.{Plan}
-use Rattle.setup_sections.specs.declared.Judged.{Judged}
-use Rattle.setup_sections.specs.declared.Judged.TheVariants.{Bad, Good}
+use Rattle.std.specs.Prelude.{Result, Ok, Err}
+use Rattle.setup_sections.specs.declared.Refusal.{Refusal}
 use Rattle.setup_sections.specs.Judging.{judged_of}
 use Rattle.setup_plan.specs.Layout.{plan_of, PlanShows}
 use Rattle.setup_plan.proofs.Plans.{whole_plan_law, plan_fits}
@@ -36,7 +36,6 @@ use Rattle.memory_picture.specs.Perform.{performed, performed_marks}
 use Rattle.memory_picture.proofs.Perform.{perform_law}
 use Rattle.kernel_fresh.specs.Laying.{in_turn, word_of_id, counted, entered, emptied, laid}
 use Rattle.kernel_start.specs.Starting.{StartsAs, Starts, Holds, freed, freed_pool, begun, fresh_words}
-use Rattle.kernel_start.specs.declared.Started.TheVariants.{Fresh, Refused}
 use Rattle.kernel_start.proofs.Shown.{Blank, zeros_blank, idle_shown, idle_accepted}
 
 same_sizes : (b : Body) → SameSizes b b
@@ -243,19 +242,19 @@ fresh_held s u k e =
 
 -- ---- the contract: what was judged decides
 
-module _ (s : List ℕ) (old : Memory) {j : Judged} (e : j ≡ judged_of (setup s)) where
-  pub start_refused : (d i : ℕ) → j ≡ Bad d i → Starts s (Refused d i) old old
+module _ (s : List ℕ) (old : Memory) {j : Result ℕ Refusal} (e : j ≡ judged_of (setup s)) where
+  pub start_refused : (d : Refusal) → j ≡ Err d → Starts s (Err d) old old
   unfolding Starts
-  start_refused d i h = go (setup s) e
+  start_refused d h = go (setup s) e
     where
-      go : (r : Read Setup) → j ≡ judged_of r → StartsAs r (Refused d i) old old
+      go : (r : Read Setup) → j ≡ judged_of r → StartsAs r (Err d) old old
       go (got u k) f = absurd (let x : ◌≡◌ {A = ℕ} 0 1 = cc in omega arith)
       go (refused q k) f = (cc, refl)
 
-  pub start_fresh : (i : ℕ) {words' marks' : List ℕ} → j ≡ Good i → words' ≡ fresh_words s → marks' ≡ replicate max_messages 0 → Starts s Fresh old (memory words' marks')
+  pub start_fresh : (i : ℕ) {words' marks' : List ℕ} → j ≡ Ok i → words' ≡ fresh_words s → marks' ≡ replicate max_messages 0 → Starts s (Ok tt) old (memory words' marks')
   unfolding Starts
   start_fresh i {words'} {marks'} h w m = go (setup s) refl e
     where
-      go : (r : Read Setup) → setup s ≡ r → j ≡ judged_of r → StartsAs r Fresh old (memory words' marks')
+      go : (r : Read Setup) → setup s ≡ r → j ≡ judged_of r → StartsAs r (Ok tt) old (memory words' marks')
       go (got u k) q f = let H = fresh_held s u k q in rw (w, m) (refl, H.accepted, H.view)
       go (refused d k) q f = absurd (let x : ◌≡◌ {A = ℕ} 0 1 = cc in omega arith)

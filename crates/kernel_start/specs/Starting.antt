@@ -1,6 +1,6 @@
 -- The start: what the bytes of a setup make of the lent memory, and the words that each function of src/lib.rt writes.
-use Rattle.std.specs.Prelude.{true, cond, List, ◌≡◌, ℕ, ◌+◌, ◌-◌, ◌*◌, eqb}
-use Rattle.rules.specs.Setup.{digit, Read, got, refused, word_at, Setup, setup}
+use Rattle.std.specs.Prelude.{true, cond, List, ◌≡◌, ℕ, ◌+◌, ◌-◌, ◌*◌, eqb, Result, Ok, Err}
+use Rattle.rules.specs.Setup.{Read, got, refused, word_at, Setup, setup}
 use Rattle.rules.specs.View.{View}
 use Rattle.rules.specs.Kernel.{fresh}
 use Rattle.setup_plan.specs.Layout.{plan_of}
@@ -8,19 +8,19 @@ use Rattle.memory_columns.specs.Layout.{max_blocks, at_most}
 use Rattle.memory_tasks.specs.Moves.{started}
 use Rattle.memory_objects.specs.Moves.{marked}
 use Rattle.memory_picture.specs.Picture.{Memory, view_in, SoundIn}
-use Rattle.kernel_start.specs.declared.Started.{Started}
-use Rattle.kernel_start.specs.declared.Started.TheVariants.{Fresh, Refused}
+use Rattle.setup_sections.specs.Judging.{refusal}
+use Rattle.setup_sections.specs.declared.Refusal.{Refusal}
 use Rattle.kernel_fresh.specs.Laying.{in_turn, word_of_id, laid}
 
 -- ---- the contract
 
 -- A setup that is refused: its fault and place, and the memory as it was. One that is read: the memory shows the fresh state and is whole.
-abbrev pub StartsAs : Read Setup → Started → Memory → Memory → Type 0
-StartsAs (refused f place) r old new = (r ≡ Refused (digit f) place) × (new ≡ old)
-StartsAs (got u end) r old new = (r ≡ Fresh) × SoundIn new × (view_in new ≡ fresh u)
+abbrev pub StartsAs : Read Setup → Result (Unit {0}) Refusal → Memory → Memory → Type 0
+StartsAs (refused f place) r old new = (r ≡ Err (refusal f place)) × (new ≡ old)
+StartsAs (got u end) r old new = (r ≡ Ok tt) × SoundIn new × (view_in new ≡ fresh u)
 
 -- the bytes, the answer, and the memory before and after
-unfoldable pub Starts : List ℕ → Started → Memory → Memory → Type 0
+unfoldable pub Starts : List ℕ → Result (Unit {0}) Refusal → Memory → Memory → Type 0
 Starts s r old new = StartsAs (setup s) r old new
 
 -- ---- for the contracts above

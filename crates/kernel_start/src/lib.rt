@@ -12,14 +12,7 @@ use kernel_fresh::{lay_plan, word_at};
 use memory_columns::{MAX_BLOCKS, MESSAGE_WORDS, STATE_WORDS, at_most};
 use memory_objects::marks::mark_block;
 use memory_tasks::begin;
-use setup_sections::Judged;
-
-// Fresh: the memory holds the fresh state. Refused: fault digit and place; the memory is as it was.
-#[derive(Clone, Copy)]
-pub enum Started {
-    Fresh,
-    Refused(u32, usize),
-}
+use setup_sections::Refusal;
 
 // ---- the free blocks
 
@@ -28,16 +21,13 @@ fn free_blocks(words: &mut [u32; STATE_WORDS], p: u32, k: u32)
     requires { k ≤ max_blocks }
     ensures { words.new ≡ in_turn (freed p) k 1 words.old }
 {
-    let mut i: u32 = 1;
-    let mut left = k;
-    while 0 < left {
+    for i in 1..k + 1 {
         mark_block(words, p, i, true);
-        i += 1;
-        left -= 1;
     }
 }
 
 // Those of pool p, as many as its entry says.
+#[tactic(auto, unfolding(crate::specs::Starting::freed_pool))]
 fn free_pool(bytes: &[u8], at: usize, p: u32, words: &mut [u32; STATE_WORDS])
     requires { 1 ≤ p }
     ensures { words.new ≡ freed_pool bytes.now at p words.old }
@@ -50,18 +40,15 @@ fn free_pools(bytes: &[u8], at: usize, n: u32, words: &mut [u32; STATE_WORDS])
     requires { n ≤ max_pools }
     ensures { words.new ≡ in_turn (freed_pool bytes.now at) n 1 words.old }
 {
-    let mut p: u32 = 1;
-    let mut left = n;
-    while 0 < left {
+    for p in 1..n + 1 {
         free_pool(bytes, at, p, words);
-        p += 1;
-        left -= 1;
     }
 }
 
 // ---- the started tasks
 
 // Task i is started if its entry says so.
+#[tactic(auto, unfolding(crate::specs::Starting::begun))]
 fn begin_task(bytes: &[u8], at: usize, i: u32, words: &mut [u32; STATE_WORDS])
     requires { 1 ≤ i }
     ensures { words.new ≡ begun bytes.now at i words.old }
@@ -76,12 +63,8 @@ fn begin_tasks(bytes: &[u8], at: usize, n: u32, words: &mut [u32; STATE_WORDS])
     requires { n ≤ max_tasks }
     ensures { words.new ≡ in_turn (begun bytes.now at) n 1 words.old }
 {
-    let mut i: u32 = 1;
-    let mut left = n;
-    while 0 < left {
+    for i in 1..n + 1 {
         begin_task(bytes, at, i, words);
-        i += 1;
-        left -= 1;
     }
 }
 
@@ -97,20 +80,16 @@ fn lay_fresh(bytes: &[u8], words: &mut [u32; STATE_WORDS], messages: &mut [u32; 
     begin_tasks(bytes, p.at.tasks, p.tasks, words);
 }
 
-// The memory of a fresh kernel, from the bytes of a setup.
+// The memory of a fresh kernel, from the bytes of a setup. A refusal leaves the memory as it was.
 pub fn start(
     bytes: &[u8],
     words: &mut [u32; STATE_WORDS],
     messages: &mut [u32; MESSAGE_WORDS],
-) -> Started
+) -> Result<(), Refusal>
     ensures { Starts bytes.now result (memory words.old messages.old)
         (memory words.new messages.new) }
 {
-    match setup::judge_whole(bytes) {
-        Judged::Bad(d, i) => Started::Refused(d, i),
-        Judged::Good(_) => {
-            lay_fresh(bytes, words, messages);
-            Started::Fresh
-        }
-    }
+    setup::judge_whole(bytes)?;
+    lay_fresh(bytes, words, messages);
+    Ok(())
 }

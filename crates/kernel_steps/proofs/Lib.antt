@@ -1,2 +1,2 @@
--- Laws of answers.
-pub mod Codes
+-- What is known of a memory.
+pub mod Looking

@@ -1,5 +1,5 @@
--- What serves an event on a memory of which it is known whether it is sound, who runs, and what is broken.
-use Rattle.std.specs.Prelude.{false, ◌↔◌, ◌≢◌, ◌≡◌, ℕ, ℤ, pos}
+-- What serves an event on a memory of which it is known that it is sound and who runs, or what is broken.
+use Rattle.std.specs.Prelude.{false, ◌≡◌, ℕ, ℤ, Result, Ok, Err}
 use Rattle.rules.specs.Codes.{number, H-CALL}
 use Rattle.rules.specs.Events.{Event, call, above}
 use Rattle.rules.specs.View.{running}
@@ -12,18 +12,20 @@ use Rattle.kernel_steps.specs.Steps.{Reply, reply, unsound, Step}
 abbrev pub replied : Outcome → ℕ → Reply
 replied o n = reply o.code o.w1 o.w2 n o.released
 
--- what is known of a memory before an event: whether it is sound, who runs if it is, and what is broken if it is not
-abbrev pub Known : Breach → ℕ → Memory → Type 0
-Known f me m = ((f.code ≡ pos 0) ↔ SoundIn m) × (SoundIn m → me ≡ running (view_in m)) × ((SoundIn m → ⊥) → reply f.code f.id 0 0 0 ≡ unsound m)
+-- what is known of a memory before an event: that it is sound and who runs, or that it is not and what is broken
+abbrev pub Known : Result ℕ Breach → Memory → Type 0
+Known (Ok me) m = SoundIn m × (me ≡ running (view_in m))
+Known (Err f) m = (SoundIn m → ⊥) × (reply f.code f.id 0 0 0 ≡ unsound m)
 
 -- a step, for who knows this
-abbrev pub Serves : Event → Breach → ℕ → Memory → Reply → Memory → Type 0
-Serves e f me old r new = Known f me old → Step e old r new
+abbrev pub Serves : Event → Result ℕ Breach → Memory → Reply → Memory → Type 0
+Serves e k old r new = Known k old → Step e old r new
 
 -- a call from a context that is one, for who knows that the state is sound and who runs
 abbrev pub ServesCall : ℤ → ℤ → ℤ → ℤ → ℤ → ℕ → Memory → Reply → Memory → Type 0
 ServesCall x n a c d me old r new = above x 1 ≡ false → SoundIn old → me ≡ running (view_in old) → Step (call x n a c d) old r new
 
 -- what a call from no context answers: H_CALL, or what is broken
-abbrev pub Misnames : Breach → ℕ → Reply → Type 0
-Misnames f me r = (f.code ≡ pos 0 → r ≡ reply (number H-CALL) 0 0 me 0) × (f.code ≢ pos 0 → r ≡ reply f.code f.id 0 0 0)
+abbrev pub Misnames : Result ℕ Breach → Reply → Type 0
+Misnames (Ok me) r = r ≡ reply (number H-CALL) 0 0 me 0
+Misnames (Err f) r = r ≡ reply f.code f.id 0 0 0

@@ -1,5 +1,5 @@
 -- Events that come as words, five for each, and whose answers are written into lent places.
-use Rattle.std.specs.Prelude.{List, [], ◌∷◌, ◌++◌, map, ◌≡◌, ℕ, ◌+◌, ◌*◌, ◌/◌, ◌%◌, ◌≤◌, ℤ, pos, length, drop, get_or, set}
+use Rattle.std.specs.Prelude.{List, [], ◌∷◌, ◌++◌, map, ◌≡◌, ℕ, ◌+◌, ◌*◌, ◌/◌, ◌%◌, ◌≤◌, ℤ, pos, length, drop, get_or, set, Result}
 use Rattle.rules.specs.Events.{Event, event_of, events_of}
 use Rattle.memory_picture.specs.Picture.{Memory}
 use Rattle.check_damage.specs.declared.Breach.{Breach}
@@ -45,9 +45,9 @@ pub record EventRan (given : List ℤ) (i : ℕ) (old new : Lent) (now : ℕ) : 
   pub answers : new.answers ≡ answered i reply.w1 reply.w2 reply.runs reply.released old.answers
   pub runs : now ≡ reply.runs
 
--- for who knows whether the state is sound, who runs, and what is broken
-abbrev pub ServesAt : List ℤ → ℕ → Breach → ℕ → Lent → Lent → ℕ → Type 0
-ServesAt given i f me old new now = Known f me old.memory → EventRan given i old new now
+-- for who knows that the state is sound and who runs, or what is broken
+abbrev pub ServesAt : List ℤ → ℕ → Result ℕ Breach → Lent → Lent → ℕ → Type 0
+ServesAt given i k old new now = Known k old.memory → EventRan given i old new now
 
 -- The events ran one after the other: there is a chain of just these events, from the memory before to the memory after, and its codes and words
 -- are what was written.
@@ -66,5 +66,5 @@ pub record Room (given : List ℤ) (old : Lent) : Type 0 where
   pub answers : 4 * (length given / 5) ≤ length old.answers
 
 -- the same of all events, where there is room
-abbrev pub ServesAll : List ℤ → Breach → ℕ → Lent → Lent → Type 0
-ServesAll given f me old new = Known f me old.memory → Room given old → RanThrough given old new
+abbrev pub ServesAll : List ℤ → Result ℕ Breach → Lent → Lent → Type 0
+ServesAll given k old new = Known k old.memory → Room given old → RanThrough given old new

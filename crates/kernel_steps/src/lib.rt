@@ -3,12 +3,15 @@
 #![tactic(auto)]
 
 ghost use Rattle.std.specs.Prelude.{◌≡◌, cond, ◌&&◌, ◌||◌};
+ghost use Rattle.memory_picture.specs.Picture.{memory};
 ghost use Rattle.kernel_steps.specs.Steps.{reply, reply_of};
-ghost use Rattle.kernel_steps.specs.Serving.{replied, Misnames};
+ghost use Rattle.kernel_steps.specs.Serving.{replied, Known, Misnames};
 
 use call_words::codes::H_CALL;
 use call_words::{Outcome, refuse};
-use check_damage::{Breach, SOUND};
+use check_damage::{Breach, judged};
+use memory_columns::{MESSAGE_WORDS, STATE_WORDS};
+use memory_running::running_task;
 
 // What comes back of an event: code, two words, the running task after it, and the number of tasks released.
 #[repr(C)]
@@ -29,18 +32,26 @@ pub fn answer_of(o: Outcome, running: u32) -> Answer
         code: o.code,
         w1: o.w1,
         w2: o.w2,
-        running: running,
+        running,
         released: o.released,
     }
 }
 
+// Whether the state is sound: who runs if it is, what is broken if it is not. Whoever serves events looks first.
+pub fn look(words: &[u32; STATE_WORDS], messages: &[u32; MESSAGE_WORDS]) -> Result<u32, Breach>
+    ensures { Known result (memory words.now messages.now) }
+{
+    judged(words, messages)?;
+    Ok(running_task(words))
+}
+
 // What is broken, and where.
-pub fn damaged(found: Breach) -> Answer
-    ensures { reply_of result ≡ reply found.code found.id 0 0 0 }
+pub fn damaged(broken: Breach) -> Answer
+    ensures { reply_of result ≡ reply broken.code broken.id 0 0 0 }
 {
     Answer {
-        code: found.code,
-        w1: found.id,
+        code: broken.code,
+        w1: broken.id,
         w2: 0,
         running: 0,
         released: 0,
@@ -48,28 +59,25 @@ pub fn damaged(found: Breach) -> Answer
 }
 
 // What a call from a context that is none answers.
-pub fn misnamed(found: Breach, me: u32) -> Answer
-    ensures { Misnames found me (reply_of result) }
+pub fn misnamed(known: Result<u32, Breach>) -> Answer
+    ensures { Misnames known (reply_of result) }
 {
-    if found.code != SOUND {
-        return damaged(found);
+    match known {
+        Ok(me) => answer_of(refuse(H_CALL), me),
+        Err(broken) => damaged(broken),
     }
-    answer_of(refuse(H_CALL), me)
 }
 
 // A handler calls, and one is open.
 pub fn handles(handler: bool, inside: bool) -> bool
     ensures { result ≡ handler && inside }
 {
-    if handler { inside } else { false }
+    handler && inside
 }
 
 // The task that calls: nobody from a handler, and nobody while one is open.
 pub fn caller(handler: bool, inside: bool, me: u32) -> u32
     ensures { result ≡ cond (handler || inside) 0 me }
 {
-    if handler {
-        return 0;
-    }
-    if inside { 0 } else { me }
+    if handler || inside { 0 } else { me }
 }

@@ -2,6 +2,8 @@
 -- nodes of the rings, indexed by id; entry 0 is unused. Nothing else knows an offset.
 use Rattle.std.specs.Prelude.{Bool, true, false, cond, ◌&&◌, ◌||◌, List, [], ◌∷◌, ◌++◌, ◌≡◌, ℕ, pred, ◌+◌, ◌*◌, eqb, leb, get_or}
 use Rattle.memory_rings.specs.Columns.{col, store}
+use Rattle.memory_columns.specs.declared.Column as Named
+use Rattle.memory_columns.specs.declared.Column.TheVariants as Names
 use Rattle.memory_columns.specs.declared.Rings.{Rings}
 use Rattle.memory_columns.specs.declared.Rings.TheVariants.{Tasks, Messages, Blocks}
 
@@ -146,6 +148,33 @@ alarm_due = column 1742 9
 
 abbrev pub alarm_period : Column
 alarm_period = column 1751 9
+
+-- the column that the code names
+abbrev pub column_of : Named.Column → Column
+column_of Names.Status = status
+column_of Names.Priority = priority
+column_of Names.Start = start
+column_of Names.Wakeups = wakeups
+column_of Names.Code = code
+column_of Names.Word = word
+column_of Names.Kind = kind
+column_of Names.Object = object
+column_of Names.Wish = wish
+column_of Names.Mode = mode
+column_of Names.Ticks = ticks
+column_of Names.Semaphore = semaphore
+column_of Names.Flag = flag
+column_of Names.Free = free
+column_of Names.Size = size
+column_of Names.System = system
+column_of Names.Handling = handling
+column_of Names.Nonempty = nonempty
+column_of Names.Counter = counter
+column_of Names.AlarmTask = alarm_task
+column_of Names.AlarmWakes = alarm_wakes
+column_of Names.AlarmCode = alarm_code
+column_of Names.AlarmDue = alarm_due
+column_of Names.AlarmPeriod = alarm_period
 
 -- ---- the entries of the system's column
 

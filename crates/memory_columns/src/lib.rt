@@ -6,7 +6,7 @@ pub mod bits;
 ghost use Rattle.std.specs.Prelude.{◌≡◌, ◌+◌, ◌≤◌, get_or};
 ghost use Rattle.memory_rings.specs.Columns.{col, store};
 ghost use Rattle.memory_columns.specs.Layout as Layout;
-ghost use Rattle.memory_columns.specs.Layout.{state_words, entry, put, at_most};
+ghost use Rattle.memory_columns.specs.Layout.{state_words, column_of, entry, put, at_most};
 
 // The rings in which tasks, messages and free blocks stand.
 #[derive(Clone, Copy)]
@@ -231,335 +231,123 @@ pub const CELL_TMOUT: u32 = 1;
 
 pub const CELL_RLWAI: u32 = 2;
 
-// Entry i of the `width` words from `at` on.
-fn read(words: &[u32; STATE_WORDS], at: usize, width: usize, i: u32) -> u32
-    requires { at + width ≤ state_words }
-    ensures { result ≡ get_or (col at width words.now) i 0 }
-{
-    let k = i as usize;
-    if k < width { words[at + k] } else { 0 }
+// The columns, each with what its entry i is.
+#[derive(Clone, Copy)]
+pub enum Column {
+    // The state of task i.
+    Status,
+    // Its priority.
+    Priority,
+    // Its starting priority.
+    Start,
+    // Its wake-up count.
+    Wakeups,
+    // The code of its cell, by its number.
+    Code,
+    // The word of its cell.
+    Word,
+    // What it waits for.
+    Kind,
+    // The object that it waits on.
+    Object,
+    // The pattern that it asks of a flag.
+    Wish,
+    // The mode in which it asks.
+    Mode,
+    // The ticks that are left of a timed wait.
+    Ticks,
+    // The count of semaphore i.
+    Semaphore,
+    // The pattern of flag i.
+    Flag,
+    // The marks of the free blocks of pool i: bit k - 1 is block k.
+    Free,
+    // The number of blocks of pool i.
+    Size,
+    // How many there are, and the clock.
+    System,
+    // The handlers that are open.
+    Handling,
+    // The word of nonempty ready queues: bit p - 1 is that of priority p.
+    Nonempty,
+    // The counter.
+    Counter,
+    // The task of alarm i.
+    AlarmTask,
+    // What it does to its task.
+    AlarmWakes,
+    // Its kept code, without the sign.
+    AlarmCode,
+    // One more than its expiry, 0 if it is idle.
+    AlarmDue,
+    // Its period.
+    AlarmPeriod,
 }
 
-fn write(words: &mut [u32; STATE_WORDS], at: usize, width: usize, i: u32, v: u32)
-    requires { at + width ≤ state_words }
-    ensures { words.new ≡ store at width i v words.old }
-{
-    let k = i as usize;
-    if k < width {
-        words[at + k] = v;
+// Where a column begins among the words, and how many entries it has.
+#[derive(Clone, Copy)]
+struct Place {
+    at: usize,
+    width: usize,
+}
+
+impl Column {
+    fn place(self) -> Place
+        ensures lies { (result.at ≡ (column_of self).at) × (result.width ≡ (column_of self).width) }
+        ensures inside { result.at + result.width ≤ state_words }
+    {
+        let (at, width) = match self {
+            Column::Status => (AT_STATUS, TASK_ENTRIES),
+            Column::Priority => (AT_PRIORITY, TASK_ENTRIES),
+            Column::Start => (AT_START, TASK_ENTRIES),
+            Column::Wakeups => (AT_WAKEUPS, TASK_ENTRIES),
+            Column::Code => (AT_CODE, TASK_ENTRIES),
+            Column::Word => (AT_WORD, TASK_ENTRIES),
+            Column::Kind => (AT_KIND, TASK_ENTRIES),
+            Column::Object => (AT_OBJECT, TASK_ENTRIES),
+            Column::Wish => (AT_WISH, TASK_ENTRIES),
+            Column::Mode => (AT_MODE, TASK_ENTRIES),
+            Column::Ticks => (AT_TICKS, TASK_ENTRIES),
+            Column::Semaphore => (AT_SEMAPHORE, OBJECT_ENTRIES),
+            Column::Flag => (AT_FLAG, OBJECT_ENTRIES),
+            Column::Free => (AT_FREE, POOL_ENTRIES),
+            Column::Size => (AT_SIZE, POOL_ENTRIES),
+            Column::System => (AT_SYSTEM, SYSTEM_ENTRIES),
+            Column::Handling => (AT_HANDLING, HANDLING_ENTRIES),
+            Column::Nonempty => (AT_NONEMPTY, NONEMPTY_ENTRIES),
+            Column::Counter => (AT_COUNTER, COUNTER_ENTRIES),
+            Column::AlarmTask => (AT_ALARM_TASK, ALARM_ENTRIES),
+            Column::AlarmWakes => (AT_ALARM_WAKES, ALARM_ENTRIES),
+            Column::AlarmCode => (AT_ALARM_CODE, ALARM_ENTRIES),
+            Column::AlarmDue => (AT_ALARM_DUE, ALARM_ENTRIES),
+            Column::AlarmPeriod => (AT_ALARM_PERIOD, ALARM_ENTRIES),
+        };
+        Place { at, width }
     }
-}
 
-// The state of task i.
-pub fn status(words: &[u32; STATE_WORDS], i: u32) -> u32
-    ensures { result ≡ entry Layout.status words.now i }
-{
-    read(words, AT_STATUS, TASK_ENTRIES, i)
-}
+    // Entry i, 0 where there is none.
+    pub fn get(self, words: &[u32; STATE_WORDS], i: u32) -> u32
+        ensures { result ≡ entry (column_of self) words.now i }
+    {
+        let place = self.place();
+        let k = i as usize;
+        if k < place.width {
+            words[place.at + k]
+        } else {
+            0
+        }
+    }
 
-pub fn set_status(words: &mut [u32; STATE_WORDS], i: u32, v: u32)
-    ensures { words.new ≡ put Layout.status i v words.old }
-{
-    write(words, AT_STATUS, TASK_ENTRIES, i, v);
-}
-
-// Its priority.
-pub fn priority(words: &[u32; STATE_WORDS], i: u32) -> u32
-    ensures { result ≡ entry Layout.priority words.now i }
-{
-    read(words, AT_PRIORITY, TASK_ENTRIES, i)
-}
-
-pub fn set_priority(words: &mut [u32; STATE_WORDS], i: u32, v: u32)
-    ensures { words.new ≡ put Layout.priority i v words.old }
-{
-    write(words, AT_PRIORITY, TASK_ENTRIES, i, v);
-}
-
-// Its starting priority.
-pub fn start(words: &[u32; STATE_WORDS], i: u32) -> u32
-    ensures { result ≡ entry Layout.start words.now i }
-{
-    read(words, AT_START, TASK_ENTRIES, i)
-}
-
-pub fn set_start(words: &mut [u32; STATE_WORDS], i: u32, v: u32)
-    ensures { words.new ≡ put Layout.start i v words.old }
-{
-    write(words, AT_START, TASK_ENTRIES, i, v);
-}
-
-// Its wake-up count.
-pub fn wakeups(words: &[u32; STATE_WORDS], i: u32) -> u32
-    ensures { result ≡ entry Layout.wakeups words.now i }
-{
-    read(words, AT_WAKEUPS, TASK_ENTRIES, i)
-}
-
-pub fn set_wakeups(words: &mut [u32; STATE_WORDS], i: u32, v: u32)
-    ensures { words.new ≡ put Layout.wakeups i v words.old }
-{
-    write(words, AT_WAKEUPS, TASK_ENTRIES, i, v);
-}
-
-// The code of its cell, by its number.
-pub fn code(words: &[u32; STATE_WORDS], i: u32) -> u32
-    ensures { result ≡ entry Layout.code words.now i }
-{
-    read(words, AT_CODE, TASK_ENTRIES, i)
-}
-
-pub fn set_code(words: &mut [u32; STATE_WORDS], i: u32, v: u32)
-    ensures { words.new ≡ put Layout.code i v words.old }
-{
-    write(words, AT_CODE, TASK_ENTRIES, i, v);
-}
-
-// The word of its cell.
-pub fn word(words: &[u32; STATE_WORDS], i: u32) -> u32
-    ensures { result ≡ entry Layout.word words.now i }
-{
-    read(words, AT_WORD, TASK_ENTRIES, i)
-}
-
-pub fn set_word(words: &mut [u32; STATE_WORDS], i: u32, v: u32)
-    ensures { words.new ≡ put Layout.word i v words.old }
-{
-    write(words, AT_WORD, TASK_ENTRIES, i, v);
-}
-
-// What it waits for.
-pub fn kind(words: &[u32; STATE_WORDS], i: u32) -> u32
-    ensures { result ≡ entry Layout.kind words.now i }
-{
-    read(words, AT_KIND, TASK_ENTRIES, i)
-}
-
-pub fn set_kind(words: &mut [u32; STATE_WORDS], i: u32, v: u32)
-    ensures { words.new ≡ put Layout.kind i v words.old }
-{
-    write(words, AT_KIND, TASK_ENTRIES, i, v);
-}
-
-// The object that it waits on.
-pub fn object(words: &[u32; STATE_WORDS], i: u32) -> u32
-    ensures { result ≡ entry Layout.object words.now i }
-{
-    read(words, AT_OBJECT, TASK_ENTRIES, i)
-}
-
-pub fn set_object(words: &mut [u32; STATE_WORDS], i: u32, v: u32)
-    ensures { words.new ≡ put Layout.object i v words.old }
-{
-    write(words, AT_OBJECT, TASK_ENTRIES, i, v);
-}
-
-// The pattern that it asks of a flag.
-pub fn wish(words: &[u32; STATE_WORDS], i: u32) -> u32
-    ensures { result ≡ entry Layout.wish words.now i }
-{
-    read(words, AT_WISH, TASK_ENTRIES, i)
-}
-
-pub fn set_wish(words: &mut [u32; STATE_WORDS], i: u32, v: u32)
-    ensures { words.new ≡ put Layout.wish i v words.old }
-{
-    write(words, AT_WISH, TASK_ENTRIES, i, v);
-}
-
-// The mode in which it asks.
-pub fn mode(words: &[u32; STATE_WORDS], i: u32) -> u32
-    ensures { result ≡ entry Layout.mode words.now i }
-{
-    read(words, AT_MODE, TASK_ENTRIES, i)
-}
-
-pub fn set_mode(words: &mut [u32; STATE_WORDS], i: u32, v: u32)
-    ensures { words.new ≡ put Layout.mode i v words.old }
-{
-    write(words, AT_MODE, TASK_ENTRIES, i, v);
-}
-
-// The ticks that are left of a timed wait.
-pub fn ticks(words: &[u32; STATE_WORDS], i: u32) -> u32
-    ensures { result ≡ entry Layout.ticks words.now i }
-{
-    read(words, AT_TICKS, TASK_ENTRIES, i)
-}
-
-pub fn set_ticks(words: &mut [u32; STATE_WORDS], i: u32, v: u32)
-    ensures { words.new ≡ put Layout.ticks i v words.old }
-{
-    write(words, AT_TICKS, TASK_ENTRIES, i, v);
-}
-
-// The count of semaphore i.
-pub fn semaphore(words: &[u32; STATE_WORDS], i: u32) -> u32
-    ensures { result ≡ entry Layout.semaphore words.now i }
-{
-    read(words, AT_SEMAPHORE, OBJECT_ENTRIES, i)
-}
-
-pub fn set_semaphore(words: &mut [u32; STATE_WORDS], i: u32, v: u32)
-    ensures { words.new ≡ put Layout.semaphore i v words.old }
-{
-    write(words, AT_SEMAPHORE, OBJECT_ENTRIES, i, v);
-}
-
-// The pattern of flag i.
-pub fn flag(words: &[u32; STATE_WORDS], i: u32) -> u32
-    ensures { result ≡ entry Layout.flag words.now i }
-{
-    read(words, AT_FLAG, OBJECT_ENTRIES, i)
-}
-
-pub fn set_flag(words: &mut [u32; STATE_WORDS], i: u32, v: u32)
-    ensures { words.new ≡ put Layout.flag i v words.old }
-{
-    write(words, AT_FLAG, OBJECT_ENTRIES, i, v);
-}
-
-// The marks of the free blocks of pool i: bit k - 1 is block k.
-pub fn free(words: &[u32; STATE_WORDS], i: u32) -> u32
-    ensures { result ≡ entry Layout.free words.now i }
-{
-    read(words, AT_FREE, POOL_ENTRIES, i)
-}
-
-pub fn set_free(words: &mut [u32; STATE_WORDS], i: u32, v: u32)
-    ensures { words.new ≡ put Layout.free i v words.old }
-{
-    write(words, AT_FREE, POOL_ENTRIES, i, v);
-}
-
-// The number of blocks of pool i.
-pub fn size(words: &[u32; STATE_WORDS], i: u32) -> u32
-    ensures { result ≡ entry Layout.size words.now i }
-{
-    read(words, AT_SIZE, POOL_ENTRIES, i)
-}
-
-pub fn set_size(words: &mut [u32; STATE_WORDS], i: u32, v: u32)
-    ensures { words.new ≡ put Layout.size i v words.old }
-{
-    write(words, AT_SIZE, POOL_ENTRIES, i, v);
-}
-
-// How many there are, and the clock.
-pub fn system(words: &[u32; STATE_WORDS], i: u32) -> u32
-    ensures { result ≡ entry Layout.system words.now i }
-{
-    read(words, AT_SYSTEM, SYSTEM_ENTRIES, i)
-}
-
-pub fn set_system(words: &mut [u32; STATE_WORDS], i: u32, v: u32)
-    ensures { words.new ≡ put Layout.system i v words.old }
-{
-    write(words, AT_SYSTEM, SYSTEM_ENTRIES, i, v);
-}
-
-// The handlers that are open.
-pub fn handling(words: &[u32; STATE_WORDS], i: u32) -> u32
-    ensures { result ≡ entry Layout.handling words.now i }
-{
-    read(words, AT_HANDLING, HANDLING_ENTRIES, i)
-}
-
-pub fn set_handling(words: &mut [u32; STATE_WORDS], i: u32, v: u32)
-    ensures { words.new ≡ put Layout.handling i v words.old }
-{
-    write(words, AT_HANDLING, HANDLING_ENTRIES, i, v);
-}
-
-// The word of nonempty ready queues: bit p - 1 is that of priority p.
-pub fn nonempty(words: &[u32; STATE_WORDS]) -> u32
-    ensures { result ≡ entry Layout.nonempty words.now 0 }
-{
-    read(words, AT_NONEMPTY, NONEMPTY_ENTRIES, 0)
-}
-
-pub fn set_nonempty(words: &mut [u32; STATE_WORDS], v: u32)
-    ensures { words.new ≡ put Layout.nonempty 0 v words.old }
-{
-    write(words, AT_NONEMPTY, NONEMPTY_ENTRIES, 0, v);
-}
-
-// The counter.
-pub fn counter(words: &[u32; STATE_WORDS], i: u32) -> u32
-    ensures { result ≡ entry Layout.counter words.now i }
-{
-    read(words, AT_COUNTER, COUNTER_ENTRIES, i)
-}
-
-pub fn set_counter(words: &mut [u32; STATE_WORDS], i: u32, v: u32)
-    ensures { words.new ≡ put Layout.counter i v words.old }
-{
-    write(words, AT_COUNTER, COUNTER_ENTRIES, i, v);
-}
-
-// The task of alarm i.
-pub fn alarm_task(words: &[u32; STATE_WORDS], i: u32) -> u32
-    ensures { result ≡ entry Layout.alarm_task words.now i }
-{
-    read(words, AT_ALARM_TASK, ALARM_ENTRIES, i)
-}
-
-pub fn set_alarm_task(words: &mut [u32; STATE_WORDS], i: u32, v: u32)
-    ensures { words.new ≡ put Layout.alarm_task i v words.old }
-{
-    write(words, AT_ALARM_TASK, ALARM_ENTRIES, i, v);
-}
-
-// What it does to its task.
-pub fn alarm_wakes(words: &[u32; STATE_WORDS], i: u32) -> u32
-    ensures { result ≡ entry Layout.alarm_wakes words.now i }
-{
-    read(words, AT_ALARM_WAKES, ALARM_ENTRIES, i)
-}
-
-pub fn set_alarm_wakes(words: &mut [u32; STATE_WORDS], i: u32, v: u32)
-    ensures { words.new ≡ put Layout.alarm_wakes i v words.old }
-{
-    write(words, AT_ALARM_WAKES, ALARM_ENTRIES, i, v);
-}
-
-// Its kept code, without the sign.
-pub fn alarm_code(words: &[u32; STATE_WORDS], i: u32) -> u32
-    ensures { result ≡ entry Layout.alarm_code words.now i }
-{
-    read(words, AT_ALARM_CODE, ALARM_ENTRIES, i)
-}
-
-pub fn set_alarm_code(words: &mut [u32; STATE_WORDS], i: u32, v: u32)
-    ensures { words.new ≡ put Layout.alarm_code i v words.old }
-{
-    write(words, AT_ALARM_CODE, ALARM_ENTRIES, i, v);
-}
-
-// One more than its expiry, 0 if it is idle.
-pub fn alarm_due(words: &[u32; STATE_WORDS], i: u32) -> u32
-    ensures { result ≡ entry Layout.alarm_due words.now i }
-{
-    read(words, AT_ALARM_DUE, ALARM_ENTRIES, i)
-}
-
-pub fn set_alarm_due(words: &mut [u32; STATE_WORDS], i: u32, v: u32)
-    ensures { words.new ≡ put Layout.alarm_due i v words.old }
-{
-    write(words, AT_ALARM_DUE, ALARM_ENTRIES, i, v);
-}
-
-// Its period.
-pub fn alarm_period(words: &[u32; STATE_WORDS], i: u32) -> u32
-    ensures { result ≡ entry Layout.alarm_period words.now i }
-{
-    read(words, AT_ALARM_PERIOD, ALARM_ENTRIES, i)
-}
-
-pub fn set_alarm_period(words: &mut [u32; STATE_WORDS], i: u32, v: u32)
-    ensures { words.new ≡ put Layout.alarm_period i v words.old }
-{
-    write(words, AT_ALARM_PERIOD, ALARM_ENTRIES, i, v);
+    // Entry i becomes v; where there is none nothing is written.
+    pub fn set(self, words: &mut [u32; STATE_WORDS], i: u32, v: u32)
+        ensures { words.new ≡ put (column_of self) i v words.old }
+    {
+        let place = self.place();
+        let k = i as usize;
+        if k < place.width {
+            words[place.at + k] = v;
+        }
+    }
 }
 
 // A count that a damaged memory cannot make long.

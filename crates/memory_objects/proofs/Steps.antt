@@ -1,15 +1,15 @@
 -- The code's steps put together: each law takes what the calls of a function give, in order, and ends in what the function does.
 -- Assumes nothing.
-use Prim.Native.Nat.{ℕ, zero, suc, ◌-◌, ◌≤◌, ◌<◌}
+use Prim.Native.Nat.{ℕ, zero, suc, ◌-◌, ◌≤◌}
 use mathlib.Core.Bool.{Bool, true, false}
 use mathlib.Core.List.{List}
 use mathlib.Core.Path.{◌≡◌, refl, sym, ◌∙◌}
 use native.Mathlib.Numerals.{sub-one}
 use native.Mathlib.Omega.{arith}
-use lib.ListN.{get_or, set, length, get_or-eq_default}
+use lib.ListN.{set, length}
 use lib.Seq.{set_out}
-use borrow.Author.Tests.{le-leb, lt-leb, lt-ltb}
-use Rattle.rules.specs.Ids.{of, put}
+use borrow.Author.Tests.{le-leb, lt-ltb}
+use Rattle.rules.specs.Ids.{put}
 use Rattle.memory_columns.specs.Layout as Layout
 use Rattle.memory_columns.specs.Layout.{max_blocks, entry}
 use Rattle.memory_columns.specs.Bits.{remasked}
@@ -18,14 +18,6 @@ use Rattle.memory_queues.specs.Moves.{free_anchor, node_of_block, linked, unlink
 use Rattle.memory_objects.specs.Moves.{listed, marked}
 
 -- ---- tables by id
-
-pub of_at : (l : List ℕ) (i : ℕ) → (i ≡ 0 → ⊥) → get_or l (i - 1) 0 ≡ of l i 0
-of_at l zero ne = absurd (ne refl)
-of_at l (suc i) ne = rw sub-one
-
-pub of_past : (l : List ℕ) (i : ℕ) → (i ≡ 0 → ⊥) → length l ≤ i - 1 → 0 ≡ of l i 0
-of_past l zero ne h = refl
-of_past l (suc i) ne h = sym (get_or-eq_default l 0 (omega arith))
 
 pub put_at : (l : List ℕ) (i v : ℕ) → (i ≡ 0 → ⊥) → set l (i - 1) v ≡ put l i v
 put_at l zero v ne = absurd (ne refl)
@@ -36,15 +28,6 @@ put_past l zero v ne h = refl
 put_past l (suc i) v ne h = sym (set_out l i v (omega arith))
 
 -- ---- blocks
-
-module _ (p k : ℕ) (t : Bool) (b : List ℕ) where
-  pub block_none : k ≡ 0 → b ≡ marked p k t b
-  unfolding marked
-  block_none e = rw e
-
-  pub block_past : max_blocks < k → b ≡ marked p k t b
-  unfolding marked
-  block_past h = rw (le-leb 1 k (omega arith), lt-leb k max_blocks h)
 
 -- its place in the queue
 module _ (p k : ℕ) (b : List ℕ) {n : ℕ} {b₁ : List ℕ} (e : n ≡ node_of_block p k) (f : b₁ ≡ unlinked Blocks n b) where

@@ -7,7 +7,7 @@ ghost use Rattle.memory_queues.specs.Moves.{linked, unlinked, mail_anchor};
 ghost use Rattle.memory_objects.specs.Moves.{listed, marked};
 
 use memory_columns::bits::with_bit;
-use memory_columns::{MAX_BLOCKS, MESSAGE_WORDS, Rings, STATE_WORDS, free, set_free};
+use memory_columns::{Column, MAX_BLOCKS, MESSAGE_WORDS, Rings, STATE_WORDS};
 use memory_queues::{block_node, free_anchor, link, mail_anchor, unlink};
 
 // The mailbox in which message j lies, 0 if in none.
@@ -17,9 +17,7 @@ pub fn mark_of(messages: &[u32; MESSAGE_WORDS], j: u32) -> u32
     if j == 0 {
         return 0;
     }
-    let all = &messages[..];
-    let k = (j - 1) as usize;
-    if k < all.len() { all[k] } else { 0 }
+    messages.get((j - 1) as usize).copied().unwrap_or(0)
 }
 
 // Writes in which mailbox message j lies.
@@ -73,13 +71,9 @@ fn list_block(words: &mut [u32; STATE_WORDS], pool: u32, k: u32, yes: bool)
 pub fn mark_block(words: &mut [u32; STATE_WORDS], pool: u32, k: u32, yes: bool)
     ensures { words.new ≡ marked pool k yes words.old }
 {
-    if k == 0 {
-        return;
+    if 1 <= k && k <= MAX_BLOCKS {
+        let mask = Column::Free.get(words, pool);
+        Column::Free.set(words, pool, with_bit(mask, k - 1, yes));
+        list_block(words, pool, k, yes);
     }
-    if MAX_BLOCKS < k {
-        return;
-    }
-    let mask = free(words, pool);
-    set_free(words, pool, with_bit(mask, k - 1, yes));
-    list_block(words, pool, k, yes);
 }

@@ -20,6 +20,10 @@ links_fit Tasks = refl
 links_fit Messages = refl
 links_fit Blocks = refl
 
+-- the words from p to e come back as m, as many as they were
+pub part_back : (p e : ℕ) (b : List ℕ) {l m : List ℕ} → p ≤ e → e ≤ length b → length m ≡ length (col p (e - p) b) → l ≡ m → put_mid p (e - p) b l ≡ splice p m b
+part_back p e b h k s f = rw f (put_back p (e - p) _ b (s ∙ length_col p (e - p) b (omega arith)))
+
 module _ (b : List ℕ) (h : Sized b) (r : Rings) where
   pub nexts_links : nexts (words (links_of r) b) ≡ words (next_of r) b
   nexts_links = nexts_both (next_of r) b h (links_fit r)
@@ -35,10 +39,9 @@ module _ (b : List ℕ) (h : Sized b) (r : Rings) where
     pub links_part : col p (e - p) b ≡ words (links_of r) b
     links_part = let z : e - p ≡ (links_of r).width = omega arith in rw (z, x)
 
-    -- what f makes of that part comes back in its place
-    pub links_back : (f : List ℕ → List ℕ) {c : List ℕ} → c ≡ splice p (f (col p (e - p) b)) b → c ≡ splice (links_of r).at (f (words (links_of r) b)) b
-    links_back f k = k ∙ ap (λ (l : List ℕ). splice p (f l) b) links_part ∙ ap (λ (i : ℕ). splice i (f (words (links_of r) b)) b) x
-
--- the words from p to e come back as m, as many as they were
-pub part_back : (p e : ℕ) (b : List ℕ) {l m : List ℕ} → p ≤ e → e ≤ length b → length m ≡ length (col p (e - p) b) → l ≡ m → put_mid p (e - p) b l ≡ splice p m b
-part_back p e b h k s f = rw f (put_back p (e - p) _ b (s ∙ length_col p (e - p) b (omega arith)))
+    -- what f makes of that part comes back in its place, as many words as they were
+    pub links_back : (f : List ℕ → List ℕ) → ((l : List ℕ) → length (f l) ≡ length l) → {l : List ℕ} → l ≡ f (col p (e - p) b)
+        → put_mid p (e - p) b l ≡ splice (links_of r).at (f (words (links_of r) b)) b
+    links_back f s k =
+        let w = links_within in
+        part_back p e b w.0 w.1 (s _) k ∙ ap (λ (l : List ℕ). splice p (f l) b) links_part ∙ ap (λ (i : ℕ). splice i (f (words (links_of r) b)) b) x

@@ -70,7 +70,7 @@ module _ (b : List ℕ) (L : ℕ → List ℕ) where
 
 -- ---- the lowest bit of such a word
 
-lowest_zero : (k p : ℕ) → lowest_mark k p 0 ≡ 0
+pub lowest_zero : (k p : ℕ) → lowest_mark k p 0 ≡ 0
 unfolding lowest_mark
 lowest_zero zero p = refl
 lowest_zero (suc k) p = lowest_zero k (suc p)

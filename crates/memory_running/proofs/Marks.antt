@@ -1,11 +1,13 @@
 -- The loop over priorities, the search in the word of one_bit marks, the best task and the running task, step by step. Assumes nothing.
-use Prim.Native.Nat.{ℕ, zero, suc, ◌+◌, ◌-◌, ◌*◌, ◌/◌, ◌%◌, ◌^◌, ◌≤◌, ◌<◌}
-use mathlib.Core.Path.{◌≡◌, refl, sym, ◌∙◌}
+use Prim.Native.Nat.{ℕ, zero, suc, pred, ◌+◌, ◌-◌, ◌*◌, ◌/◌, ◌%◌, ◌^◌, ◌≤◌, ◌<◌}
+use mathlib.Core.Path.{◌≡◌, refl, ap, sym, ◌∙◌}
 use mathlib.Core.Bool.{Bool, true, false, cond, not, true≢false}
 use mathlib.Core.List.{List}
 use native.Mathlib.Numerals.{add-one, sub-one}
 use native.Mathlib.Omega.{arith}
 use borrow.Author.Tests.{ne_eqb}
+use Rattle.std.specs.Int.{w32}
+use Rattle.std.proofs.lemmas.Nat.Bits.{bit_at-trailing_zeros}
 use lib.Bits.{bit_or}
 use lib.Count.{under, count_trailing_zeros}
 use lib.Dec.{eqb}
@@ -17,6 +19,7 @@ use Rattle.memory_columns.specs.Layout.{words, entry}
 use Rattle.memory_queues.specs.Moves.{ready_anchor}
 use Rattle.memory_columns.proofs.OneBit.{one_bit}
 use Rattle.memory_picture.specs.Picture.{open_shown, handlers_shown}
+use Rattle.memory_running.proofs.Lowest.{lowest_zero}
 use Rattle.memory_running.specs.Running.{head_at, marks_of, lowest_mark, best_of, running_of}
 
 -- the lowest set bit stands above as many bits as are 0 before it; n of the k bits are searched, the first of them being place p
@@ -32,49 +35,41 @@ lowest_at (suc n) (suc k) p w l h = go (w % 2) (omega arith) (lowest_at n k (suc
     go (suc zero) b rest h = omega arith
     go (suc (suc d)) b rest h = absurd (omega arith)
 
-pub lowest_none : (n k p w : ℕ) → n ≤ k → n ≤ count_trailing_zeros k w → 0 ≡ lowest_mark n p w
-unfolding lowest_mark count_trailing_zeros
-lowest_none zero k p w l h = refl
-lowest_none (suc n) zero p w l h = absurd (omega arith)
-lowest_none (suc n) (suc k) p w l h = go (w % 2) (omega arith) (lowest_none n k (suc p) (w / 2) (omega arith)) h
-  where
-    go : (d : ℕ) → d < 2 → (n ≤ count_trailing_zeros k (w / 2) → 0 ≡ lowest_mark n (suc p) (w / 2))
-        → suc n ≤ under d (count_trailing_zeros k (w / 2)) → 0 ≡ cond (eqb d 1) p (lowest_mark n (suc p) (w / 2))
-    go zero b rest h = rest (omega arith)
-    go (suc zero) b rest h = absurd (omega arith)
-    go (suc (suc d)) b rest h = absurd (omega arith)
-
-module _ (p w : ℕ) (b : List ℕ) where
-  pub marks_none : (left : ℕ) → left ≤ 0 → w ≡ marks_of left p w b
+-- the loop over n priorities, at priority p, where w has the marks of those before
+module _ (n p w : ℕ) (b : List ℕ) where
+  pub marks_none : n < p → w ≡ marks_of (n + 1 - p) p w b
   unfolding marks_of
-  marks_none zero h = refl
-  marks_none (suc left) h = absurd (omega arith)
+  marks_none h = let z : n + 1 - p ≡ 0 = omega arith in rw z
 
   module _ {a r : ℕ} (ea : a ≡ ready_anchor p) (er : r ≡ first_of (words Layout.next b) a) where
     head : r ≡ head_at b p
     head = er ∙ rw ea
 
-    pub marks_skip : (left : ℕ) {m : ℕ} → 0 < left → r ≡ 0 → m ≡ w → marks_of (left - 1) (p + 1) m b ≡ marks_of left p w b
+    marks_step : {m v : ℕ} → p ≤ n → v ≡ cond (eqb (head_at b p) 0) w (bit_or w (2 ^ pred p)) → m ≡ v → marks_of (n + 1 - (p + 1)) (p + 1) m b ≡ marks_of (n + 1 - p) p w b
     unfolding marks_of
-    marks_skip zero h z e = absurd (omega arith)
-    marks_skip (suc left) h z e = rw (sub-one, add-one, e, ← head, z)
+    marks_step {m} h f e =
+        let behind : n + 1 - (p + 1) ≡ n - p = omega arith in
+        let here : suc (n - p) ≡ n + 1 - p = omega arith in
+        let one : marks_of (n - p) (suc p) m b ≡ marks_of (suc (n - p)) p w b = rw (e, f) in
+        rw (behind, add-one p) (one ∙ ap (λ (k : ℕ). marks_of k p w b) here)
 
-    pub marks_set : (left : ℕ) {m : ℕ} → 0 < left → (r ≡ 0 → ⊥) → p - 1 < 32 → m ≡ bit_or w ((1 * 2 ^ (p - 1)) % 2 ^ 32) → marks_of (left - 1) (p + 1) m b ≡ marks_of left p w b
-    unfolding marks_of
-    marks_set zero h z k e = absurd (omega arith)
-    marks_set (suc left) h z k e = rw (e, one_bit (p - 1) k, sub-one p, sub-one, add-one, ← head, ne_eqb r 0 z)
+    pub marks_skip : {m : ℕ} → p ≤ n → r ≡ 0 → m ≡ w → marks_of (n + 1 - (p + 1)) (p + 1) m b ≡ marks_of (n + 1 - p) p w b
+    marks_skip h z e = marks_step h (rw (← head, z)) e
 
-module _ (b : List ℕ) {m p : ℕ} (em : m ≡ entry Layout.nonempty b 0) (ep : p ≡ lowest_mark 32 1 m) where
-  found : p ≡ lowest_mark 32 1 (entry Layout.nonempty b 0)
-  found = ep ∙ rw em
+    pub marks_set : {m : ℕ} → p ≤ n → (r ≡ 0 → ⊥) → p - 1 < 32 → m ≡ bit_or w ((1 * 2 ^ (p - 1)) % 2 ^ 32) → marks_of (n + 1 - (p + 1)) (p + 1) m b ≡ marks_of (n + 1 - p) p w b
+    marks_set h z k e = marks_step h (rw (one_bit (p - 1) k, sub-one p, ← head, ne_eqb r 0 z)) e
 
-  pub best_none : p ≡ 0 → 0 ≡ best_of b
+module _ (b : List ℕ) {m : ℕ} (em : m ≡ entry Layout.nonempty b 0) where
+  pub best_none : m ≡ 0 → 0 ≡ best_of b
   unfolding best_of
-  best_none h = rw (← found, h)
+  best_none h = rw (← em, h, lowest_zero 32 1)
 
-  pub best_first : {a r : ℕ} → (p ≡ 0 → ⊥) → a ≡ ready_anchor p → r ≡ first_of (words Layout.next b) a → r ≡ best_of b
+  -- the place of the lowest bit is a priority
+  pub best_first : {a r : ℕ} → (m ≡ 0 → ⊥) → m < 2 ^ 32 → a ≡ ready_anchor (count_trailing_zeros 32 m + 1) → r ≡ first_of (words Layout.next b) a → r ≡ best_of b
   unfolding best_of
-  best_first h ea er = er ∙ rw (ea, ← found, ne_eqb p 0 h)
+  best_first ne few ea er =
+      let at = lowest_at 32 32 1 m (omega arith) (bit_at-trailing_zeros w32 m (omega arith) few).0 in
+      er ∙ rw (ea, ← em, ← at, ne_eqb (count_trailing_zeros 32 m + 1) 0 (λ z. omega arith))
 
 -- ---- the running task
 

@@ -4,25 +4,22 @@
 ghost use Rattle.std.specs.Prelude.{◌≡◌};
 ghost use Rattle.memory_tasks.specs.Moves.{celled, rotated, readied, started, retired, ranked, created, deleted, regraded};
 
-use memory_columns::{
-    ABSENT, CELL_OK, DORMANT, READY, STATE_WORDS, priority, set_code, set_priority, set_start,
-    set_status, set_ticks, set_wakeups, set_word, start, status,
-};
+use memory_columns::{ABSENT, CELL_OK, Column, DORMANT, READY, STATE_WORDS};
 use memory_queues::{leave, push, ready_anchor};
 
 // Writes the cell of task t.
 pub fn write_cell(words: &mut [u32; STATE_WORDS], t: u32, code: u32, word: u32)
     ensures { words.new ≡ celled t code word words.old }
 {
-    set_code(words, t, code);
-    set_word(words, t, word);
+    Column::Code.set(words, t, code);
+    Column::Word.set(words, t, word);
 }
 
 // Task t goes last in the ready queue of its priority.
 pub fn rotate(words: &mut [u32; STATE_WORDS], t: u32)
     ensures { words.new ≡ rotated t words.old }
 {
-    let anchor = ready_anchor(priority(words, t));
+    let anchor = ready_anchor(Column::Priority.get(words, t));
     leave(words, t);
     push(words, anchor, t);
 }
@@ -31,7 +28,7 @@ pub fn rotate(words: &mut [u32; STATE_WORDS], t: u32)
 pub fn make_ready(words: &mut [u32; STATE_WORDS], t: u32)
     ensures { words.new ≡ readied t words.old }
 {
-    set_status(words, t, READY);
+    Column::Status.set(words, t, READY);
     rotate(words, t);
 }
 
@@ -39,8 +36,8 @@ pub fn make_ready(words: &mut [u32; STATE_WORDS], t: u32)
 pub fn begin(words: &mut [u32; STATE_WORDS], t: u32)
     ensures { words.new ≡ started t words.old }
 {
-    let p = start(words, t);
-    set_priority(words, t, p);
+    let p = Column::Start.get(words, t);
+    Column::Priority.set(words, t, p);
     write_cell(words, t, CELL_OK, 0);
     make_ready(words, t);
 }
@@ -49,11 +46,11 @@ pub fn begin(words: &mut [u32; STATE_WORDS], t: u32)
 pub fn retire(words: &mut [u32; STATE_WORDS], t: u32)
     ensures { words.new ≡ retired t words.old }
 {
-    let p = start(words, t);
-    set_status(words, t, DORMANT);
-    set_priority(words, t, p);
-    set_wakeups(words, t, 0);
-    set_ticks(words, t, 0);
+    let p = Column::Start.get(words, t);
+    Column::Status.set(words, t, DORMANT);
+    Column::Priority.set(words, t, p);
+    Column::Wakeups.set(words, t, 0);
+    Column::Ticks.set(words, t, 0);
     leave(words, t);
 }
 
@@ -61,10 +58,10 @@ pub fn retire(words: &mut [u32; STATE_WORDS], t: u32)
 fn write_task(words: &mut [u32; STATE_WORDS], t: u32, status: u32, p: u32)
     ensures { words.new ≡ ranked t status p words.old }
 {
-    set_status(words, t, status);
-    set_priority(words, t, p);
-    set_start(words, t, p);
-    set_wakeups(words, t, 0);
+    Column::Status.set(words, t, status);
+    Column::Priority.set(words, t, p);
+    Column::Start.set(words, t, p);
+    Column::Wakeups.set(words, t, 0);
 }
 
 // Task t is made: dormant, with starting priority p.
@@ -88,8 +85,8 @@ pub fn delete(words: &mut [u32; STATE_WORDS], t: u32)
 pub fn regrade(words: &mut [u32; STATE_WORDS], t: u32, p: u32)
     ensures { words.new ≡ regraded t p words.old }
 {
-    let s = status(words, t);
-    set_priority(words, t, p);
+    let s = Column::Status.get(words, t);
+    Column::Priority.set(words, t, p);
     if s == READY {
         rotate(words, t);
     }

@@ -1,6 +1,6 @@
 -- The code's steps put together: each law takes what the calls of a function give, in order, and ends in what the function does.
 -- Assumes nothing.
-use Prim.Native.Nat.{ℕ, zero, suc, pred, ◌+◌, ◌-◌, ◌%◌, ◌^◌, ◌≤◌, ◌<◌}
+use Prim.Native.Nat.{ℕ, zero, suc, ◌+◌, ◌-◌, ◌%◌, ◌^◌, ◌≤◌, ◌<◌}
 use mathlib.Core.List.{List}
 use mathlib.Core.Path.{◌≡◌, refl, ap, ◌∙◌}
 use native.Mathlib.Numerals.{sub-one, add-one}
@@ -10,9 +10,9 @@ use Rattle.memory_columns.specs.Layout as Layout
 use Rattle.memory_columns.specs.Layout.{entry}
 use Rattle.memory_time.specs.Elapsing.{aged, aged_from, clocked, counted}
 
-pub age_one : (t : ℕ) (b : List ℕ) {n m : ℕ} {b₁ : List ℕ} → n ≡ entry Layout.ticks b t → m ≡ pred n → b₁ ≡ Layout.put Layout.ticks t m b → b₁ ≡ aged t b
+pub age_one : (t : ℕ) (b : List ℕ) {n m : ℕ} {b₁ : List ℕ} → n ≡ entry Layout.ticks b t → m ≡ n - 1 → b₁ ≡ Layout.put Layout.ticks t m b → b₁ ≡ aged t b
 unfolding aged
-age_one t b e f g = g ∙ rw (f, e)
+age_one t b e f g = g ∙ rw (f, e, sub-one)
 
 pub age_none : (n t : ℕ) (b : List ℕ) → n ≤ 0 → b ≡ aged_from n t b
 unfolding aged_from
@@ -23,10 +23,6 @@ pub age_step : (n t : ℕ) (b : List ℕ) {b₁ : List ℕ} → 0 < n → b₁ �
 unfolding aged_from
 age_step zero t b h e = absurd (omega arith)
 age_step (suc n) t b h e = rw (sub-one, add-one, e)
-
--- from the first of n tasks to the last
-pub age_first : (n : ℕ) (b : List ℕ) → aged_from (n + 1 - 1) 1 b ≡ aged_from n 1 b
-age_first n b = ap (λ (k : ℕ). aged_from k 1 b) (omega arith)
 
 pub age_next : (n t : ℕ) (b : List ℕ) {b₁ : List ℕ} → t ≤ n → b₁ ≡ aged t b → aged_from (n + 1 - (t + 1)) (t + 1) b₁ ≡ aged_from (n + 1 - t) t b
 age_next n t b {b₁} h e = ap (λ (k : ℕ). aged_from k (t + 1) b₁) (omega arith) ∙ age_step (n + 1 - t) t b (omega arith) e

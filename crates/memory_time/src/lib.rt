@@ -1,75 +1,58 @@
 // What a tick changes: each timed wait loses one, and the clock and the counter rise (`elapsed` is the three in this order).
 #![tactic(auto)]
 
-ghost use Rattle.std.specs.Prelude.{◌≡◌, pred, ◌≤◌};
-ghost use Rattle.memory_columns.specs.Layout.{max_tasks};
-ghost use Rattle.memory_time.specs.Elapsing.{aged, aged_from, aged_all, clocked, counted};
+ghost use Rattle.std.specs.Prelude.{◌≡◌};
+ghost use Rattle.memory_time.specs.Elapsing.{aged, aged_all, clocked, counted};
 
 use memory_columns::{
-    CLOCK_HIGH, CLOCK_LOW, COUNTER_NOW, COUNTER_SIZE, MAX_TASKS, STATE_WORDS, TASKS, at_most,
-    counter, set_counter, set_system, set_ticks, system, ticks,
+    CLOCK_HIGH, CLOCK_LOW, COUNTER_NOW, COUNTER_SIZE, Column, MAX_TASKS, STATE_WORDS, TASKS,
+    at_most,
 };
-
-fn one_less(n: u32) -> u32
-    ensures { result ≡ pred n }
-{
-    if n == 0 { 0 } else { n - 1 }
-}
 
 // A tick less is left of task t, if any is.
 fn age(words: &mut [u32; STATE_WORDS], t: u32)
     ensures { words.new ≡ aged t words.old }
 {
-    let n = one_less(ticks(words, t));
-    set_ticks(words, t, n);
-}
-
-// A tick less is left of each of the tasks 1 to n.
-fn age_tasks(words: &mut [u32; STATE_WORDS], n: u32)
-    requires { n ≤ max_tasks }
-    ensures { words.new ≡ aged_from n 1 words.old }
-{
-    let mut t: u32 = 1;
-    while t <= n {
-        age(words, t);
-        t += 1;
-    }
+    let n = Column::Ticks.get(words, t).saturating_sub(1);
+    Column::Ticks.set(words, t, n);
 }
 
 // A tick less is left of each task. No state and no kind is asked, so that the loop is one over a column.
 pub fn age_all(words: &mut [u32; STATE_WORDS])
     ensures { words.new ≡ aged_all words.old }
 {
-    let n = at_most(system(words, TASKS), MAX_TASKS);
-    age_tasks(words, n);
+    let n = at_most(Column::System.get(words, TASKS), MAX_TASKS);
+    for t in 1..n + 1 {
+        age(words, t);
+    }
 }
 
 // The clock rises by one; after 2^48 - 1 comes 0.
 pub fn step_clock(words: &mut [u32; STATE_WORDS])
     ensures { words.new ≡ clocked words.old }
 {
-    let low = system(words, CLOCK_LOW);
-    if low < 4294967295 {
-        set_system(words, CLOCK_LOW, low + 1);
+    let low = Column::System.get(words, CLOCK_LOW);
+    if low < u32::MAX {
+        Column::System.set(words, CLOCK_LOW, low + 1);
         return;
     }
-    let high = system(words, CLOCK_HIGH) % 65536;
-    set_system(words, CLOCK_LOW, 0);
-    set_system(words, CLOCK_HIGH, (high + 1) % 65536);
+    let high = Column::System.get(words, CLOCK_HIGH) % 65536;
+    Column::System.set(words, CLOCK_LOW, 0);
+    Column::System.set(words, CLOCK_HIGH, (high + 1) % 65536);
 }
 
 // The counter rises by one, and after m - 1 comes 0. Where there is no counter nothing is written.
 pub fn step_counter(words: &mut [u32; STATE_WORDS])
     ensures { words.new ≡ counted words.old }
 {
-    let size = counter(words, COUNTER_SIZE);
+    let size = Column::Counter.get(words, COUNTER_SIZE);
     if size == 0 {
         return;
     }
-    let n = counter(words, COUNTER_NOW);
+    let n = Column::Counter.get(words, COUNTER_NOW);
     if n < size - 1 {
-        set_counter(words, COUNTER_NOW, n + 1);
+        Column::Counter.set(words, COUNTER_NOW, n + 1);
         return;
     }
-    set_counter(words, COUNTER_NOW, 0);
+    Column::Counter.set(words, COUNTER_NOW, 0);
 }

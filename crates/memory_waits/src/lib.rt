@@ -5,10 +5,7 @@
 ghost use Rattle.std.specs.Prelude.{◌≡◌};
 ghost use Rattle.memory_waits.specs.Waits.{ended, halted, resumed, released, awaiting, slept, waited};
 
-use memory_columns::{
-    READY, STATE_WORDS, SUSPEND, WAIT, WAIT_SUSPEND, set_kind, set_mode, set_object, set_status,
-    set_ticks, set_wish, status,
-};
+use memory_columns::{Column, READY, STATE_WORDS, SUSPEND, WAIT, WAIT_SUSPEND};
 use memory_queues::{leave, push, wait_anchor};
 use memory_tasks::{make_ready, write_cell};
 
@@ -17,21 +14,20 @@ fn end_wait(words: &mut [u32; STATE_WORDS], t: u32, code: u32, word: u32)
     ensures { words.new ≡ ended t code word words.old }
 {
     write_cell(words, t, code, word);
-    set_ticks(words, t, 0);
+    Column::Ticks.set(words, t, 0);
 }
 
 // Task t is suspended: a ready one leaves its queue, a waiting one keeps its place.
 pub fn suspend(words: &mut [u32; STATE_WORDS], t: u32)
     ensures { words.new ≡ halted t words.old }
 {
-    let s = status(words, t);
-    if s == READY {
-        set_status(words, t, SUSPEND);
-        leave(words, t);
-        return;
-    }
-    if s == WAIT {
-        set_status(words, t, WAIT_SUSPEND);
+    match Column::Status.get(words, t) {
+        READY => {
+            Column::Status.set(words, t, SUSPEND);
+            leave(words, t);
+        }
+        WAIT => Column::Status.set(words, t, WAIT_SUSPEND),
+        _ => {}
     }
 }
 
@@ -39,13 +35,10 @@ pub fn suspend(words: &mut [u32; STATE_WORDS], t: u32)
 pub fn resume(words: &mut [u32; STATE_WORDS], t: u32)
     ensures { words.new ≡ resumed t words.old }
 {
-    let s = status(words, t);
-    if s == SUSPEND {
-        make_ready(words, t);
-        return;
-    }
-    if s == WAIT_SUSPEND {
-        set_status(words, t, WAIT);
+    match Column::Status.get(words, t) {
+        SUSPEND => make_ready(words, t),
+        WAIT_SUSPEND => Column::Status.set(words, t, WAIT),
+        _ => {}
     }
 }
 
@@ -53,44 +46,54 @@ pub fn resume(words: &mut [u32; STATE_WORDS], t: u32)
 pub fn release(words: &mut [u32; STATE_WORDS], t: u32, code: u32, word: u32)
     ensures { words.new ≡ released t code word words.old }
 {
-    let s = status(words, t);
-    if s == WAIT {
-        end_wait(words, t, code, word);
-        make_ready(words, t);
-        return;
-    }
-    if s == WAIT_SUSPEND {
-        end_wait(words, t, code, word);
-        set_status(words, t, SUSPEND);
-        leave(words, t);
+    match Column::Status.get(words, t) {
+        WAIT => {
+            end_wait(words, t, code, word);
+            make_ready(words, t);
+        }
+        WAIT_SUSPEND => {
+            end_wait(words, t, code, word);
+            Column::Status.set(words, t, SUSPEND);
+            leave(words, t);
+        }
+        _ => {}
     }
 }
 
-// Writes that task t waits, and for what.
-fn write_wait(
-    words: &mut [u32; STATE_WORDS],
-    t: u32,
+// What a task waits for, as its columns say it.
+#[derive(Clone, Copy)]
+struct Awaited {
     kind: u32,
     object: u32,
     wish: u32,
     mode: u32,
     ticks: u32,
-)
-    ensures { words.new ≡ awaiting t kind object wish mode ticks words.old }
+}
+
+// Writes that task t waits, and for what.
+fn write_wait(words: &mut [u32; STATE_WORDS], t: u32, w: Awaited)
+    ensures { words.new ≡ awaiting t w.kind w.object w.wish w.mode w.ticks words.old }
 {
-    set_status(words, t, WAIT);
-    set_kind(words, t, kind);
-    set_object(words, t, object);
-    set_wish(words, t, wish);
-    set_mode(words, t, mode);
-    set_ticks(words, t, ticks);
+    Column::Status.set(words, t, WAIT);
+    Column::Kind.set(words, t, w.kind);
+    Column::Object.set(words, t, w.object);
+    Column::Wish.set(words, t, w.wish);
+    Column::Mode.set(words, t, w.mode);
+    Column::Ticks.set(words, t, w.ticks);
 }
 
 // Task t sleeps: for ever (ASLEEP), or for so many ticks (TIMED).
 pub fn sleep(words: &mut [u32; STATE_WORDS], t: u32, kind: u32, ticks: u32)
     ensures { words.new ≡ slept t kind ticks words.old }
 {
-    write_wait(words, t, kind, 0, 0, 0, ticks);
+    let w = Awaited {
+        kind,
+        object: 0,
+        wish: 0,
+        mode: 0,
+        ticks,
+    };
+    write_wait(words, t, w);
     leave(words, t);
 }
 
@@ -98,7 +101,14 @@ pub fn sleep(words: &mut [u32; STATE_WORDS], t: u32, kind: u32, ticks: u32)
 pub fn wait(words: &mut [u32; STATE_WORDS], t: u32, kind: u32, object: u32, wish: u32, mode: u32)
     ensures { words.new ≡ waited t kind object wish mode words.old }
 {
-    write_wait(words, t, kind, object, wish, mode, 0);
+    let w = Awaited {
+        kind,
+        object,
+        wish,
+        mode,
+        ticks: 0,
+    };
+    write_wait(words, t, w);
     leave(words, t);
     push(words, wait_anchor(kind, object), t);
 }

@@ -4,10 +4,9 @@
 // is done: its name, how many events ran, and the run's refusal, if there is one.
 #![tactic(auto)]
 
-use call_words::bits_of;
-use run_files::count_file;
-use run_month::{COUNTS, RECORDS, Reporting, Sum, none, plus, report};
-use run_tally::{CODE, CODES, STATES, TASKS};
+use run_files::{Run, count_file};
+use run_month::{COUNTS, RECORDS, Sum, Unreported, none, plus, report};
+use run_tally::{CODE, STATES, TASKS};
 use std::env::{Env, FillError};
 use std::fs;
 use std::fs::Files;
@@ -24,141 +23,87 @@ const LONG: i32 = 36;
 
 const NO_TEXT: i32 = 84;
 
-const MOST_WORD: u32 = 4294967295;
-
-// The first word that is negative as a signed one.
-const NEGATIVE: u32 = 2147483648;
-
-// The sum so far, and whether every file was read.
-#[derive(Clone, Copy)]
-struct Summed {
-    sum: Sum,
-    is_read: bool,
-}
-
 // ---- files
 
-fn tell(err: &impl Print, path: &[u8], events: u64, number: u32, place: usize) {
+fn tell(err: &impl Print, path: &[u8], run: &Run) {
     write_all(err, path);
     write_all(err, b" ");
-    print_decimal(err, events);
-    if number != 0 {
+    print_decimal(err, run.events);
+    if let Some(refusal) = run.refusal {
         write_all(err, b" refused ");
-        print_decimal(err, number as u64);
+        print_decimal(err, refusal.number);
         write_all(err, b" ");
-        print_decimal(err, place as u64);
+        print_decimal(err, refusal.place);
     }
     write_all(err, b"\n");
 }
 
-// A file that cannot be read is named, and nothing is added.
-fn unread(err: &impl Print, path: &[u8], failure: Error, sum: Sum) -> Summed {
-    fail(err, path, failure);
-    Summed {
-        sum,
-        is_read: false,
-    }
-}
-
-// The run of a file is added.
-fn add_path(files: &impl Files, err: &impl Print, path: &[u8], sum: Sum) -> Summed {
+// The run of the file with that path.
+fn run_at(files: &impl Files, path: &[u8]) -> Result<Run, Error> {
     let Ok(name) = str::from_utf8(path) else {
-        return unread(err, path, Error::from_raw_os_error(NO_TEXT), sum);
+        return Err(Error::from_raw_os_error(NO_TEXT));
     };
-    let mut file = match fs::open(files, name) {
-        Ok(file) => file,
-        Err(failure) => return unread(err, path, failure, sum),
-    };
-    let run = count_file(&mut file);
-    if let Some(failure) = run.failure {
-        return unread(err, path, failure, sum);
-    }
-    tell(err, path, run.events, run.number, run.place);
-    let record = run.record;
-    let more = plus(sum, record);
-    Summed {
-        sum: more,
-        is_read: true,
-    }
+    count_file(&mut fs::open(files, name)?)
 }
 
-// The file that argument i names.
-fn add_file(rt: &(impl Env + Files), err: &impl Print, i: usize, sum: Sum) -> Summed {
-    let mut path = [0u8; PATH];
-    match rt.arg(i, &mut path) {
-        Ok(length) => add_path(rt, err, &path[..length], sum),
-        Err(FillError::TooLong) => unread(err, b"path", Error::from_raw_os_error(LONG), sum),
-        Err(FillError::NotPresent) => unread(err, b"path", Error::from_raw_os_error(INVALID), sum),
-    }
+// The run of the file that argument i names. Where it can't be read, it is named on standard error.
+fn run_of(rt: &(impl Env + Files), err: &impl Print, i: usize) -> Option<Run> {
+    let mut buf = [0u8; PATH];
+    let (what, failure) = match rt.arg(i, &mut buf) {
+        Ok(length) => {
+            let path = &buf[..length];
+            match run_at(rt, path) {
+                Ok(run) => {
+                    tell(err, path, &run);
+                    return Some(run);
+                }
+                Err(failure) => (path, failure),
+            }
+        }
+        Err(FillError::TooLong) => (&b"path"[..], Error::from_raw_os_error(LONG)),
+        Err(FillError::NotPresent) => (&b"path"[..], Error::from_raw_os_error(INVALID)),
+    };
+    fail(err, what, failure);
+    None
 }
 
 // How many arguments there are, the program's own name among them; one more than a month has records is enough.
 fn arg_count(rt: &impl Env) -> usize {
     let mut path = [0u8; PATH];
-    let mut n: usize = 0;
-    while n < RECORDS + 2 {
+    for n in 0..RECORDS + 2 {
         if let Err(FillError::NotPresent) = rt.arg(n, &mut path) {
             return n;
         }
-        n += 1;
     }
-    n
+    RECORDS + 2
 }
 
-// The files that arguments 1 to n name, up to one that cannot be read.
-fn add_files(rt: &(impl Env + Files), err: &impl Print, n: usize) -> Summed {
-    let empty = none();
-    let mut t = Summed {
-        sum: empty,
-        is_read: true,
-    };
-    let mut i: usize = 0;
-    while i < n && t.is_read {
-        i += 1;
-        let sum = t.sum;
-        let next = add_file(rt, err, i, sum);
-        t = next;
+// The files that arguments 1 to n name. There is no sum where one cannot be read, and then no later one is.
+fn add_files(rt: &(impl Env + Files), err: &impl Print, n: usize) -> Option<Sum> {
+    let mut sum = none();
+    for i in 1..=n {
+        let run = run_of(rt, err, i)?;
+        sum = plus(sum, run.record);
     }
-    t
+    Some(sum)
 }
 
 // ---- the report
 
-fn write_number(to: &impl Print, n: u32) {
-    print_decimal(to, n as u64);
-}
-
-fn write_states(to: &impl Print, out: &[u32; COUNTS]) {
-    let mut i: usize = 0;
-    while i < STATES * TASKS {
-        write_number(to, out[i]);
-        if i % STATES == STATES - 1 {
-            write_all(to, b"\n");
-        } else {
-            write_all(to, b" ");
-        }
-        i += 1;
+fn write_states(to: &impl Print, states: &[u32]) {
+    for (i, n) in states.iter().enumerate() {
+        print_decimal(to, *n);
+        let last = i % STATES == STATES - 1;
+        write_all(to, if last { b"\n" } else { b" " });
     }
 }
 
-fn write_code(to: &impl Print, code: i32) {
-    let bits = bits_of(code);
-    if bits < NEGATIVE {
-        write_number(to, bits);
-    } else {
-        write_all(to, b"-");
-        print_decimal(to, (MOST_WORD - bits) as u64 + 1);
-    }
-}
-
-fn write_codes(to: &impl Print, out: &[u32; COUNTS]) {
-    let mut k: usize = 0;
-    while k < CODES {
-        write_code(to, CODE[k]);
+fn write_codes(to: &impl Print, counts: &[u32]) {
+    for (code, n) in CODE.iter().zip(counts) {
+        print_decimal(to, *code);
         write_all(to, b" ");
-        write_number(to, out[STATES * TASKS + k]);
+        print_decimal(to, *n);
         write_all(to, b"\n");
-        k += 1;
     }
 }
 
@@ -166,19 +111,14 @@ fn write_codes(to: &impl Print, out: &[u32; COUNTS]) {
 fn write_report(to: &impl Print, sum: Sum, records: usize) {
     let mut out = [0u32; COUNTS];
     match report(sum, records, &mut out) {
-        Reporting::Done => {
-            write_states(to, &out);
-            write_codes(to, &out);
+        Ok(()) => {
+            let (states, codes) = out.split_at(STATES * TASKS);
+            write_states(to, states);
+            write_codes(to, codes);
         }
-        Reporting::Many => {
-            write_all(to, b"T1\n");
-        }
-        Reporting::Size => {
-            write_all(to, b"T2\n");
-        }
-        Reporting::Beyond => {
-            write_all(to, b"T3\n");
-        }
+        Err(Unreported::Many) => write_all(to, b"T1\n"),
+        Err(Unreported::Size) => write_all(to, b"T2\n"),
+        Err(Unreported::Beyond) => write_all(to, b"T3\n"),
     }
 }
 
@@ -187,16 +127,13 @@ fn main(rt: HostRuntime) {
     let to = rt.stdout();
     let n = arg_count(&rt);
     if RECORDS + 1 < n {
-        let sum = none();
-        write_report(&to, sum, RECORDS + 1);
+        write_report(&to, none(), RECORDS + 1);
         return;
     }
     if n < 1 {
         return;
     }
-    let t = add_files(&rt, &rt.stderr(), n - 1);
-    if t.is_read {
-        let sum = t.sum;
+    if let Some(sum) = add_files(&rt, &rt.stderr(), n - 1) {
         write_report(&to, sum, n - 1);
     }
 }

@@ -1,23 +1,24 @@
 -- The answers of `start`, `events` and `run` in numbers, as the exported functions give them.
-use Rattle.std.specs.Prelude.{List, ◌≡◌, ℕ, ◌+◌, ℤ}
+use Rattle.std.specs.Prelude.{List, ◌≡◌, ℕ, ◌+◌, ℤ, Result, Ok, Err}
 use Rattle.memory_picture.specs.Picture.{Memory}
 use Rattle.kernel_start.specs.Starting.{Starts}
-use Rattle.kernel_batches.specs.declared.Ran.{Ran}
+use Rattle.setup_sections.specs.Judging.{digit_of}
+use Rattle.kernel_batches.specs.declared.RunError.{RunError}
 use Rattle.kernel_batches.specs.Batches.{batch_number, Lent, Batched, RunsFrom}
 use Rattle.export_numbers.specs.Numbers.{start_number, start_place}
 
 -- ---- numbers and places
 
 -- 0; 1 to 3 as a batch; 11 to 14 for S1 to S4
-abbrev pub ran_number : Ran → ℕ
-ran_number Ran.Done = 0
-ran_number (Ran.Unfit b) = batch_number b
-ran_number (Ran.Refused digit place) = 10 + digit
+abbrev pub ran_number : Result (Unit {0}) RunError → ℕ
+ran_number (Ok t) = 0
+ran_number (Err (RunError.Unfit u)) = batch_number (Err u)
+ran_number (Err (RunError.Refused r)) = 10 + digit_of r.fault
 
-abbrev pub ran_place : Ran → ℕ
-ran_place Ran.Done = 0
-ran_place (Ran.Unfit b) = 0
-ran_place (Ran.Refused digit place) = place
+abbrev pub ran_place : Result (Unit {0}) RunError → ℕ
+ran_place (Ok t) = 0
+ran_place (Err (RunError.Unfit u)) = 0
+ran_place (Err (RunError.Refused r)) = r.place
 
 -- ---- the contracts
 

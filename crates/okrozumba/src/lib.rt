@@ -32,7 +32,7 @@ use export_numbers::{
     Display, Judgement, Level, Outcome, batch_number, judged_told, leveled_told, report_number,
     shown_told, start_outcome,
 };
-use kernel_batches::Ran;
+use kernel_batches::RunError;
 use kernel_cells::{Reading, TASK_PLACES};
 use kernel_steps::Answer;
 use memory_columns::STATE_WORDS;
@@ -158,23 +158,21 @@ pub extern "C" fn okrozumba_events(
     batch_number(kernel_batches::events(words, messages, events, codes, answers))
 }
 
-// A setup's fault has a digit of 1 to 4.
-fn run_outcome(ran: Ran) -> Outcome
-    requires { ran_number ran ≤ 14 }
+fn run_outcome(ran: Result<(), RunError>) -> Outcome
     ensures { (result.number ≡ ran_number ran) × (result.place ≡ ran_place ran) }
 {
     match ran {
-        Ran::Done => Outcome {
+        Ok(()) => Outcome {
             number: 0,
             place: 0,
         },
-        Ran::Unfit(b) => Outcome {
-            number: batch_number(b),
+        Err(RunError::Unfit(unfit)) => Outcome {
+            number: batch_number(Err(unfit)),
             place: 0,
         },
-        Ran::Refused(digit, place) => Outcome {
-            number: 10 + digit,
-            place,
+        Err(RunError::Refused(refusal)) => Outcome {
+            number: 10 + u32::from(refusal.fault),
+            place: refusal.place,
         },
     }
 }

@@ -2,7 +2,7 @@
 // memory is fixed, however long the input is. After a refusal nothing more is read.
 #![tactic(auto)]
 
-ghost use Rattle.std.specs.Prelude.{◌≤◌, length};
+ghost use Rattle.std.specs.Prelude.{◌≤◌, ◌<◌, length, IfSome};
 
 use memory_columns::{MESSAGE_WORDS, STATE_WORDS};
 use run_reading::HEAD;
@@ -18,6 +18,16 @@ const OUTPUT: usize = 65536;
 // Of what `part` says: there was no room for the rest.
 const FULL: u32 = 6;
 
+// What is kept of the run between its parts, and room for its lines.
+#[derive(Clone, Copy)]
+struct Player {
+    numbers: [u32; NUMBERS],
+    held: [u8; HEAD],
+    words: [u32; STATE_WORDS],
+    messages: [u32; MESSAGE_WORDS],
+    text: [u8; OUTPUT],
+}
+
 fn show(out: &impl Print, text: &[u8], n: usize)
     requires { n ≤ length text.now }
 {
@@ -25,123 +35,64 @@ fn show(out: &impl Print, text: &[u8], n: usize)
 }
 
 // A part of what was read. Gives how many bytes were taken, or none where the run was refused.
-fn play_part(
-    out: &impl Print,
-    numbers: &mut [u32; NUMBERS],
-    held: &mut [u8; HEAD],
-    words: &mut [u32; STATE_WORDS],
-    messages: &mut [u32; MESSAGE_WORDS],
-    bytes: &[u8],
-    text: &mut [u8; OUTPUT],
-) -> usize
-    ensures { result ≤ length bytes.now }
+fn play_part(out: &impl Print, player: &mut Player, bytes: &[u8]) -> Option<usize>
+    ensures { IfSome result (λ n. (0 < n) × (n ≤ length bytes.now)) }
 {
-    let p = run_recorder::part(numbers, held, words, messages, bytes, text);
-    show(out, text, p.written);
-    if p.number == 0 {
-        return p.taken;
-    }
-    if p.number == FULL {
-        return p.taken;
-    }
-    0
+    let p = run_recorder::part(
+        &mut player.numbers,
+        &mut player.held,
+        &mut player.words,
+        &mut player.messages,
+        bytes,
+        &mut player.text,
+    );
+    show(out, &player.text, p.written);
+    let goes_on = p.number == 0 || p.number == FULL;
+    (goes_on && 0 < p.taken).then_some(p.taken)
 }
 
 // All of what was read, in as many parts as it takes. Is more to be read?
-fn play_read(
-    out: &impl Print,
-    numbers: &mut [u32; NUMBERS],
-    held: &mut [u8; HEAD],
-    words: &mut [u32; STATE_WORDS],
-    messages: &mut [u32; MESSAGE_WORDS],
-    bytes: &[u8],
-    text: &mut [u8; OUTPUT],
-) -> bool {
-    let mut i: usize = 0;
-    while i < bytes.len() {
-        let n = play_part(out, numbers, held, words, messages, &bytes[i..], text);
-        if n == 0 {
+fn play_read(out: &impl Print, player: &mut Player, bytes: &[u8]) -> bool {
+    let mut rest = bytes;
+    while !rest.is_empty() {
+        let Some(n) = play_part(out, player, rest) else {
             return false;
-        }
-        i += n;
+        };
+        rest = &rest[n..];
     }
     true
 }
 
-// Reads once and plays what came. Is more to be read?
-fn play_some(
-    input: &mut impl Read,
-    out: &impl Print,
-    numbers: &mut [u32; NUMBERS],
-    held: &mut [u8; HEAD],
-    words: &mut [u32; STATE_WORDS],
-    messages: &mut [u32; MESSAGE_WORDS],
-    file: &mut [u8; INPUT],
-    text: &mut [u8; OUTPUT],
-) -> bool {
-    let n = read_some(input, file);
-    if n == 0 {
-        return false;
-    }
-    let all = &file[..];
-    if INPUT < n {
-        return false;
-    }
-    play_read(out, numbers, held, words, messages, &all[..n], text)
-}
-
-// A proved loop has to end, and nothing says that an input does. So the loop counts its turns down, from a number that no run uses up.
-fn play_all(
-    input: &mut impl Read,
-    out: &impl Print,
-    numbers: &mut [u32; NUMBERS],
-    held: &mut [u8; HEAD],
-    words: &mut [u32; STATE_WORDS],
-    messages: &mut [u32; MESSAGE_WORDS],
-    file: &mut [u8; INPUT],
-    text: &mut [u8; OUTPUT],
-) {
-    let mut turns = u64::MAX;
-    while turns > 0 {
-        if play_some(input, out, numbers, held, words, messages, file, text) {
-            turns -= 1;
-        } else {
-            turns = 0;
+// Reads and plays what came, again and again. A proved loop has to end, and nothing says that an input does. So the loop has so many
+// turns that no run uses them up.
+fn play_all(input: &mut impl Read, out: &impl Print, player: &mut Player) {
+    let mut file = [0u8; INPUT];
+    for _ in 0..u64::MAX {
+        let n = read_some(input, &mut file);
+        if n == 0 || !play_read(out, player, &file[..n]) {
+            return;
         }
     }
 }
 
 // The line of a refusal at the end.
-fn play_end(
-    out: &impl Print,
-    numbers: &mut [u32; NUMBERS],
-    held: &[u8; HEAD],
-    text: &mut [u8; OUTPUT],
-) {
-    let p = run_recorder::end(numbers, held, text);
+fn play_end(out: &impl Print, player: &mut Player) {
+    let p = run_recorder::end(&mut player.numbers, &player.held, &mut player.text);
     if p.number < FULL - 1 {
-        show(out, text, p.written);
+        show(out, &player.text, p.written);
     }
 }
 
 fn main(rt: HostRuntime) {
     let out = rt.stdout();
-    let mut numbers = [0u32; NUMBERS];
-    let mut held = [0u8; HEAD];
-    let mut words = [0u32; STATE_WORDS];
-    let mut messages = [0u32; MESSAGE_WORDS];
-    let mut file = [0u8; INPUT];
-    let mut text = [0u8; OUTPUT];
-    run_stream::begin(&mut numbers);
-    play_all(
-        &mut rt.stdin(),
-        &out,
-        &mut numbers,
-        &mut held,
-        &mut words,
-        &mut messages,
-        &mut file,
-        &mut text,
-    );
-    play_end(&out, &mut numbers, &held, &mut text);
+    let mut player = Player {
+        numbers: [0; NUMBERS],
+        held: [0; HEAD],
+        words: [0; STATE_WORDS],
+        messages: [0; MESSAGE_WORDS],
+        text: [0; OUTPUT],
+    };
+    run_stream::begin(&mut player.numbers);
+    play_all(&mut rt.stdin(), &out, &mut player);
+    play_end(&out, &mut player);
 }

@@ -5,16 +5,17 @@ use Prim.Native.Nat.{ℕ, zero, suc, ◌+◌, ◌-◌, ◌*◌, ◌/◌, ◌%◌
 use native.Mathlib.Omega.{arith}
 use lib.IntN.{ℤ}
 use lib.ListN.{length, take, drop, length-map, length-drop}
+use Rattle.std.proofs.lemmas.List.{length-take-le}
 use borrow.Author.Tests.{eq-eqb, le-leb}
+use Rattle.std.proofs.Common.{Result, Ok}
 use Rattle.rules.specs.Setup.{got, Setup, read_setup, setup}
 use Rattle.rules.specs.Events.{Event, events_of}
 use Rattle.rules.specs.Answers.{numbers}
 use Rattle.rules.specs.Kernel.{fresh}
 use Rattle.rules.specs.Runs.{answers}
-use Rattle.kernel_start.specs.declared.Started.TheVariants.{Fresh}
 use Rattle.kernel_start.specs.Starting.{Holds}
-use Rattle.kernel_batches.specs.declared.Batch.TheVariants.{Done}
-use Rattle.kernel_batches.specs.declared.Ran.{Ran}
+use Rattle.kernel_batches.specs.declared.Unfit.{Unfit}
+use Rattle.kernel_batches.specs.declared.RunError.{RunError}
 use Rattle.kernel_steps.specs.Steps.{Link, told}
 use Rattle.kernel_batches.specs.Batches.{fit_of, fitted, Lent, over, codes_of, words_of, RanFresh, RunsFrom}
 use Rattle.kernel_demands.specs.Demands.{figures}
@@ -67,19 +68,21 @@ take_front : {A : Type 0} (a b : List A) → take (length a) (a ++ b) ≡ a
 take_front [] b = refl
 take_front (x ∷ a) b = ap (λ l. x ∷ l) (take_front a b)
 
+take_first : {A : Type 0} (a b : List A) (n : ℕ) → n ≡ length a → take n (a ++ b) ≡ a
+take_first a b n e = rw e (take_front a b)
+
 module _ (s : List ℕ) (at n : ℕ) where
   given_length : length (given s at n) ≡ 5 * n
   given_length = length-map (words_from s (5 * n) (at + 4)) signed_word ∙ words_length s (5 * n) (at + 4)
 
   -- the events that are handed on are those that were decoded
-  pub given_part : {t : List ℤ} (old : List ℤ) → t ≡ given s at n ++ drop (5 * n) old → take (5 * n - 0) t ≡ given s at n
-  given_part old e =
-      let z : 5 * n - 0 ≡ length (given s at n) = omega (arith, given_length) in
-      rw (z, e) (take_front (given s at n) (drop (5 * n) old))
+  pub given_part : {t : List ℤ} (old rest : List ℤ) → 5 * n ≤ length old → t ≡ map signed_word (words_from s (length (take (5 * n) old)) (at + 4)) → take (5 * n) (t ++ rest) ≡ given s at n
+  given_part old rest h e =
+      rw (e, length-take-le (5 * n) old h) (take_first (given s at n) rest (5 * n) (sym given_length))
 
 -- ---- a run
 
-fits : (n c a : ℕ) → n ≤ c → 4 * n ≤ a → fit_of (5 * n) c a ≡ Done
+fits : (n c a : ℕ) → n ≤ c → 4 * n ≤ a → ◌≡◌ {A = Result (Unit {0}) Unfit} (fit_of (5 * n) c a) (Ok tt)
 unfolding fit_of
 fits n c a h k =
     let e : 5 * n / 5 ≡ n = omega arith in
@@ -94,17 +97,17 @@ module _ (s : List ℕ) (i j : ℕ) (h : j ≤ length s) (events : List ℤ) (n 
     ran_answers : RanFresh (take (j - i) (drop i s)) events old new → rows new.codes new.answers n 0 ≡ map numbers (answers (fresh u) (events_of events))
     unfolding over
     ran_answers F =
-        let H : Holds F.started (fresh u) = start_holds (take (j - i) (drop i s)) u (j - i) (alone s i j h u e) Fresh old.memory F.started F.starts in
+        let H : Holds F.started (fresh u) = start_holds (take (j - i) (drop i s)) u (j - i) (alone s i j h u e) (Ok tt) old.memory F.started F.starts in
         let R = F.ran in
         let l : List Link = R.links in
         let m : n ≡ length l = sym (events_length n events k) ∙ ap (λ (x : List Event). length x) (sym R.events) ∙ length-map l (λ x. x.event) in
         rw (R.codes, R.answers, m) (rows_links l (drop (length (codes_of l)) old.codes) (drop (length (words_of l)) old.answers))
         ∙ chain_says figures l H R.chain ∙ ap (λ (x : List Event). map (λ a. figures (told a)) (answers (fresh u) x)) R.events
 
-    pub ran_law : (d : Ran) → RunsFrom (take (j - i) (drop i s)) events d old new → rows new.codes new.answers n 0 ≡ map numbers (answers (fresh u) (events_of events))
+    pub ran_law : (d : Result (Unit {0}) RunError) → RunsFrom (take (j - i) (drop i s)) events d old new → rows new.codes new.answers n 0 ≡ map numbers (answers (fresh u) (events_of events))
     unfolding RunsFrom
     ran_law d B =
-        let f : fitted events old ≡ Done = ap (λ (x : ℕ). fit_of x (length old.codes) (length old.answers)) k ∙ fits n (length old.codes) (length old.answers) fc fw in
+        let f : ◌≡◌ {A = Result (Unit {0}) Unfit} (fitted events old) (Ok tt) = ap (λ (x : ℕ). fit_of x (length old.codes) (length old.answers)) k ∙ fits n (length old.codes) (length old.answers) fc fw in
         ran_answers (rw (f, alone s i j h u e) at B).1
 
 -- both

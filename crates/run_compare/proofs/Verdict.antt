@@ -1,34 +1,44 @@
 -- What was judged of an input decides its text. Assumes nothing.
 use mathlib.Core.List.{List}
-use mathlib.Core.Path.{◌≡◌, ap, subst}
+use mathlib.Core.Path.{◌≡◌, refl, ap, ◌∙◌, subst}
 use Prim.Native.Nat.{ℕ, ◌≤◌}
 use native.Mathlib.Omega.{arith}
 use lib.IntN.{ℤ}
 use lib.ListN.{length, take}
-use Rattle.rules.specs.Setup.{word_at}
+use Rattle.std.proofs.Common.{Result, Ok, Err}
+use Rattle.rules.specs.Setup.{Fault, S1, S2, S3, S4, digit, word_at}
+use Rattle.setup_sections.specs.declared.Refusal.{Refusal}
+use Rattle.setup_sections.specs.Judging.{coded, digit_of}
 use Rattle.run_text.specs.Lines.{refusal}
 use Rattle.run_compare_reading.specs.Compared.{input_bytes, Refuses, Lies, Judges}
 use Rattle.run_compare_reading.specs.declared.Places.{Places}
-use Rattle.run_compare_reading.specs.declared.Places.TheVariants.{Bad, Good}
 use Rattle.run_compare_reading.proofs.Offset.{rest_got}
 use Rattle.run_compare_reading.proofs.Later.{later_bytes}
-use Rattle.run_compare_text.specs.declared.Told.{Told}
+use Rattle.run_compare_text.specs.declared.Short.{Short}
 use Rattle.run_compare_text.specs.Output.{Shown}
 use Rattle.run_compare_text.specs.Rows.{text_in, Lent, lent_in}
 use Rattle.run_compare_text.proofs.Laid.{lent_in_lem}
 use Rattle.run_compare.specs.Difference.{difference_by, runs, difference_of}
 use Rattle.run_compare.specs.Playing.{BothRan}
 
+digit_coded : (f : Fault) → digit_of (coded f) ≡ digit f
+digit_coded S1 = refl
+digit_coded S2 = refl
+digit_coded S3 = refl
+digit_coded S4 = refl
+
 module _ (s : List ℕ) where
-  pub as_refused : {r : Places} {d place : ℕ} → Judges s r → r ≡ Bad d place → Refuses s d place
-  as_refused J e = subst (λ (x : Places). Judges s x) e J
+  pub as_refused : {r : Result Places Refusal} {e : Refusal} → Judges s r → r ≡ Err e → Refuses s e
+  as_refused J q = subst (Judges s) q J
 
-  pub as_good : {r : Places} {i j : ℕ} → Judges s r → r ≡ Good i j → Lies s i j
-  as_good J e = subst (λ (x : Places). Judges s x) e J
+  pub as_good : {r : Result Places Refusal} {p : Places} → Judges s r → r ≡ Ok p → Lies s p.second p.events
+  as_good J q = subst (Judges s) q J
 
-  pub refused_text : {d place : ℕ} → Refuses s d place → difference_of s ≡ refusal d place
+  pub refused_text : {e : Refusal} {d : ℕ} → Refuses s e → d ≡ digit_of e.fault → difference_of s ≡ refusal d e.place
   unfolding difference_of difference_by
-  refused_text R = rw (R.read, R.told)
+  refused_text {e} {d} R q =
+      let f : d ≡ digit R.fault = q ∙ ap digit_of R.told ∙ digit_coded R.fault in
+      rw (R.read, f) refl
 
   module _ {i j : ℕ} (L : Lies s i j) where
     -- the second setup ends behind its begin, and within the input
@@ -41,7 +51,7 @@ module _ (s : List ℕ) where
         rw (L.read, B.first L.all.first L.first, B.second L.all.second L.second, e, L.words)
 
 -- all answers are lent, so all are shown
-pub shown_all : (n : ℕ) (c : List ℤ) (w : List ℕ) (d : List ℤ) (v : List ℕ) → Lent n c w d v → {r : Told} {old new : List ℕ} → Shown (text_in (lent_in n c w d v) c w d v) r old new → Shown (text_in n c w d v) r old new
+pub shown_all : (n : ℕ) (c : List ℤ) (w : List ℕ) (d : List ℤ) (v : List ℕ) → Lent n c w d v → {r : Result ℕ Short} {old new : List ℕ} → Shown (text_in (lent_in n c w d v) c w d v) r old new → Shown (text_in n c w d v) r old new
 shown_all n c w d v L {r} {old} {new} S = subst (λ (k : ℕ). Shown (text_in k c w d v) r old new) (lent_in_lem n c w d v L) S
 
 -- No text depends on a byte behind the first `INPUT` ones, which are all that the program reads.

@@ -1,10 +1,10 @@
 -- The words of the events as they are decoded. Assumes nothing.
-use mathlib.Core.List.{List, [], ◌∷◌, ◌++◌, map}
+use mathlib.Core.List.{List, [], ◌∷◌, ◌++◌, map, append-nil}
 use mathlib.Core.Path.{◌≡◌, refl, ap}
 use Prim.Native.Nat.{ℕ, zero, suc, ◌+◌, ◌*◌, ◌≤◌, ◌<◌}
 use native.Mathlib.Omega.{arith}
 use lib.IntN.{ℤ}
-use lib.ListN.{length, drop, set}
+use lib.ListN.{length, drop, set, drop_of_length-le}
 use Rattle.rules.specs.Setup.{word_at}
 use Rattle.run_reading.specs.Recorded.{signed_word}
 use Rattle.run_compare_reading.specs.Compared.{words_from}
@@ -24,6 +24,8 @@ decode_next s from (suc i) (x ∷ t) h =
     let f : suc i + 1 ≡ suc (i + 1) = omega arith in
     rw (f, ← e) (ap (λ (l : List ℤ). signed_word (word_at s from) ∷ l) (decode_next s (from + 4) i t (omega (arith, h))))
 
-pub decode_all : (s : List ℕ) (from n i : ℕ) (t t' : List ℤ) → i ≤ n → n ≤ i → t' ≡ map signed_word (words_from s i from) ++ drop i t
-    → t' ≡ map signed_word (words_from s n from) ++ drop n t
-decode_all s from n i t t' h k e = let q : i ≡ n = omega (arith, h, k) in rw q at e
+pub decode_all : (s : List ℕ) (from i : ℕ) (t t' : List ℤ) → i ≤ length t → length t ≤ i → t' ≡ map signed_word (words_from s i from) ++ drop i t
+    → t' ≡ map signed_word (words_from s (length t) from)
+decode_all s from i t t' h k e =
+    let q : i ≡ length t = omega (arith, h, k) in
+    rw (drop_of_length-le t k, append-nil, q) at e

@@ -11,8 +11,8 @@ ghost use Rattle.run_compare.specs.Difference.{difference_of};
 ghost use Rattle.run_compare.specs.Playing.{RanFrom, BothRan};
 
 use memory_columns::{MESSAGE_WORDS, STATE_WORDS};
-use run_compare_reading::{EVENTS, Places, WORDS_OF_EVENT};
-use run_compare_text::{Told, WORDS_OF_ANSWER, show_changes, show_refusal};
+use run_compare_reading::{EVENTS, WORDS_OF_EVENT};
+use run_compare_text::{Answers, Short, WORDS_OF_ANSWER, show_changes, show_refusal};
 use run_reading::signed;
 
 // The words of all events, and those of all answers beside their codes.
@@ -20,15 +20,30 @@ const EVENT_WORDS: usize = WORDS_OF_EVENT * EVENTS;
 
 const ANSWER_WORDS: usize = WORDS_OF_ANSWER * EVENTS;
 
-// The `n` words from an offset on, as signed ones, in the first places; those behind them are as they were.
-fn decode(bytes: &[u8], from: usize, n: usize, events: &mut [i32])
-    requires { (n ≤ length events.old) × (from ≤ length bytes.now + 4) × (n ≤ 15000) }
-    ensures { events.new ≡ map signed_word (words_from bytes.now n from) ++ drop n events.old }
+// Places for the answers of a run.
+#[derive(Drop)]
+struct Lent {
+    codes: [i32; EVENTS],
+    answers: [u32; ANSWER_WORDS],
+}
+
+// The kernel's memory, the events, and the answers from the first setup and from the second.
+#[derive(Drop)]
+struct Work {
+    words: [u32; STATE_WORDS],
+    messages: [u32; MESSAGE_WORDS],
+    events: [i32; EVENT_WORDS],
+    first: Lent,
+    second: Lent,
+}
+
+// The words from an offset on, as signed ones.
+fn decode(bytes: &[u8], from: usize, events: &mut [i32])
+    requires { (from ≤ length bytes.now + 4) × (length events.old ≤ 15000) }
+    ensures { events.new ≡ map signed_word (words_from bytes.now (length events.old) from) }
 {
-    let mut i: usize = 0;
-    while i < n {
-        events[i] = signed(setup_sections::word(bytes, from + 4 * i));
-        i += 1;
+    for (i, event) in events.iter_mut().enumerate() {
+        *event = signed(setup_sections::word(bytes, from + 4 * i));
     }
 }
 
@@ -41,93 +56,84 @@ fn run(
     messages: &mut [u32; MESSAGE_WORDS],
     events: &[i32],
     n: usize,
-    codes: &mut [i32],
-    answers: &mut [u32],
+    out: &mut Lent,
 )
-    requires { (from ≤ to) × (to ≤ length input.now) × (length events.now ≡ 5 * n) × (n ≤ length codes.old) ×
-        (4 * n ≤ length answers.old) }
-    ensures { RanFrom input.now from to events.now n codes.new answers.new }
+    requires { (from ≤ to) × (to ≤ length input.now) × (length events.now ≡ 5 * n) × (n ≤ 3000) }
+    ensures { RanFrom input.now from to events.now n out.new.codes out.new.answers }
 {
-    kernel_batches::run(&input[from..to], words, messages, events, codes, answers);
+    // The setup was judged and all have room: nothing is refused.
+    let _ = kernel_batches::run(
+        &input[from..to],
+        words,
+        messages,
+        events,
+        &mut out.codes,
+        &mut out.answers,
+    );
 }
 
 // The n events behind the count at `at`, from the setup in front of `second` and from the one behind it.
-fn run_both(
-    input: &[u8],
-    second: usize,
-    at: usize,
-    n: usize,
-    words: &mut [u32; STATE_WORDS],
-    messages: &mut [u32; MESSAGE_WORDS],
-    events: &mut [i32],
-    codes1: &mut [i32],
-    answers1: &mut [u32],
-    codes2: &mut [i32],
-    answers2: &mut [u32],
-)
-    requires { (second ≤ at) × (at ≤ length input.now) × (n ≤ 3000) × (5 * n ≤ length events.old) ×
-        (n ≤ length codes1.old) × (4 * n ≤ length answers1.old) × (n ≤ length codes2.old) ×
-        (4 * n ≤ length answers2.old) }
-    ensures { BothRan input.now second at n codes1.new answers1.new
-        codes2.new answers2.new }
+fn run_both(input: &[u8], second: usize, at: usize, n: usize, work: &mut Work)
+    requires { (second ≤ at) × (at ≤ length input.now) × (n ≤ 3000) }
+    ensures { BothRan input.now second at n work.new.first.codes work.new.first.answers
+        work.new.second.codes work.new.second.answers }
 {
     let m = WORDS_OF_EVENT * n;
-    decode(input, at + 4, m, events);
-    let given = &events[0..m];
+    decode(input, at + 4, &mut work.events[..m]);
+    let given = &work.events[..m];
     run(
-        input, 0, second, words, messages, given, n, codes1, answers1,
+        input,
+        0,
+        second,
+        &mut work.words,
+        &mut work.messages,
+        given,
+        n,
+        &mut work.first,
     );
     run(
-        input, second, at, words, messages, given, n, codes2, answers2,
+        input,
+        second,
+        at,
+        &mut work.words,
+        &mut work.messages,
+        given,
+        n,
+        &mut work.second,
     );
-}
-
-// `compare` in places for the events and their answers that are lent.
-fn compare_in(
-    input: &[u8],
-    words: &mut [u32; STATE_WORDS],
-    messages: &mut [u32; MESSAGE_WORDS],
-    events: &mut [i32; EVENT_WORDS],
-    codes1: &mut [i32; EVENTS],
-    answers1: &mut [u32; ANSWER_WORDS],
-    codes2: &mut [i32; EVENTS],
-    answers2: &mut [u32; ANSWER_WORDS],
-    text: &mut [u8],
-) -> Told
-    ensures { Shown (difference_of input.now) result text.old text.new }
-{
-    match run_compare_reading::judge(input) {
-        Places::Bad(d, i) => show_refusal(text, d, i),
-        Places::Good(second, at) => {
-            let n = setup_sections::word(input, at) as usize;
-            run_both(
-                input, second, at, n, words, messages, events, codes1, answers1, codes2, answers2,
-            );
-            show_changes(text, n, codes1, answers1, codes2, answers2)
-        }
-    }
 }
 
 // What the second setup of an input changes in its run. It takes 190 kB of the stack: it is for the bench, not for the board.
-pub fn compare(input: &[u8], text: &mut [u8]) -> Told
+pub fn compare(input: &[u8], text: &mut [u8]) -> Result<usize, Short>
     ensures { Shown (difference_of input.now) result text.old text.new }
 {
-    let mut words = [0u32; STATE_WORDS];
-    let mut messages = [0u32; MESSAGE_WORDS];
-    let mut events = [0i32; EVENT_WORDS];
-    let mut codes1 = [0i32; EVENTS];
-    let mut answers1 = [0u32; ANSWER_WORDS];
-    let mut codes2 = [0i32; EVENTS];
-    let mut answers2 = [0u32; ANSWER_WORDS];
-    compare_in(
-        input,
-        &mut words,
-        &mut messages,
-        &mut events,
-        &mut codes1,
-        &mut answers1,
-        &mut codes2,
-        &mut answers2,
-        text,
-    )
+    match run_compare_reading::judge(input) {
+        Err(refusal) => show_refusal(text, u32::from(refusal.fault), refusal.place),
+        Ok(places) => {
+            let n = setup_sections::word(input, places.events) as usize;
+            let mut work = Work {
+                words: [0; STATE_WORDS],
+                messages: [0; MESSAGE_WORDS],
+                events: [0; EVENT_WORDS],
+                first: Lent {
+                    codes: [0; EVENTS],
+                    answers: [0; ANSWER_WORDS],
+                },
+                second: Lent {
+                    codes: [0; EVENTS],
+                    answers: [0; ANSWER_WORDS],
+                },
+            };
+            run_both(input, places.second, places.events, n, &mut work);
+            let first = Answers {
+                codes: &work.first.codes,
+                words: &work.first.answers,
+            };
+            let second = Answers {
+                codes: &work.second.codes,
+                words: &work.second.answers,
+            };
+            show_changes(text, n, first, second)
+        }
+    }
 }

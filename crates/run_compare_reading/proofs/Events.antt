@@ -9,7 +9,8 @@ use Rattle.rules.specs.Setup.{S2, S3, Read, got, refused, and_then, word_at, Ran
 use Rattle.rules.proofs.Accepted.{Reads, reads_both, reads_then}
 use Rattle.setup_sections.specs.Judging.{judged_of, on_good}
 use Rattle.setup.specs.Whole.{ended_at}
-use Rattle.setup_sections.specs.declared.Judged.{Judged}
+use Rattle.std.specs.Prelude.{Result}
+use Rattle.setup_sections.specs.declared.Refusal.{Refusal}
 use Rattle.setup_sections.proofs.Reading.{WordAt, word_lies}
 use Rattle.setup_sections.proofs.Judging.{map_judged}
 use Rattle.setup.proofs.Whole.{end_judged}
@@ -95,4 +96,4 @@ module _ (s : List ℕ) where
 
   pub events_judged : (i : ℕ) → judged_of (at_end s (read_events s i)) ≡ on_good (judged_of (read_section s events i)) (ended_at (length s))
   unfolding read_events
-  events_judged i = end_judged s (read_events s i) ∙ ap (λ (x : Judged). on_good x (ended_at (length s))) (map_judged (read_section s events i) _)
+  events_judged i = end_judged s (read_events s i) ∙ ap (λ (x : Result ℕ Refusal). on_good x (ended_at (length s))) (map_judged (read_section s events i) _)

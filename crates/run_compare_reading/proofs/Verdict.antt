@@ -10,8 +10,8 @@ use lib.ListN.{length}
 use Rattle.rules.specs.Setup.{Fault, S4, Read, got, refused, and_then, Setup, read_setup, at_end}
 use Rattle.rules.proofs.Accepted.{Reads, reads_itself, reads_then, from_read}
 use Rattle.setup_sections.specs.Judging.{judged_of}
-use Rattle.setup_sections.specs.declared.Judged.{Judged}
-use Rattle.setup_sections.specs.declared.Judged.TheVariants.{Bad, Good}
+use Rattle.std.specs.Prelude.{Result, Ok, Err}
+use Rattle.setup_sections.specs.declared.Refusal.{Refusal}
 use Rattle.setup_sections.proofs.Judging.{good_read, bad_read}
 use Rattle.run_compare_reading.specs.Compared.{Compared, read_events, compared, Refuses, Lies}
 use Rattle.run_compare_reading.proofs.Events.{Lie, events_lie}
@@ -65,30 +65,30 @@ module _ (s : List ℕ) where
 
   -- ---- what is judged
 
-  pub first_refused : {x : Judged} → x ≡ judged_of (read_setup s 0) → (d p : ℕ) → x ≡ Bad d p → Refuses s d p
-  first_refused e d p h =
-      let b = bad_read (read_setup s 0) d p (sym e ∙ h) in
-      record { fault = b.0; read = no_first b.0 p b.1; told = b.2 }
+  pub first_refused : {x : Result ℕ Refusal} → x ≡ judged_of (read_setup s 0) → (d : Refusal) → x ≡ Err d → Refuses s d
+  first_refused e d h =
+      let b = bad_read (read_setup s 0) d (sym e ∙ h) in
+      record { fault = b.0; read = no_first b.0 d.place b.1; told = b.2 }
 
-  pub first_good : {x : Judged} → x ≡ judged_of (read_setup s 0) → (i : ℕ) → x ≡ Good i → (u : Setup) × (read_setup s 0 ≡ got u i)
+  pub first_good : {x : Result ℕ Refusal} → x ≡ judged_of (read_setup s 0) → (i : ℕ) → x ≡ Ok i → (u : Setup) × (read_setup s 0 ≡ got u i)
   first_good e i h = good_read (read_setup s 0) i (sym e ∙ h)
 
-  module _ (u : Setup) (i : ℕ) (e : read_setup s 0 ≡ got u i) {x : Judged} (g : x ≡ judged_of (read_setup s i)) where
-    pub second_refused : (d p : ℕ) → x ≡ Bad d p → Refuses s d p
-    second_refused d p h =
-        let b = bad_read (read_setup s i) d p (sym g ∙ h) in
-        record { fault = b.0; read = no_second u i e b.0 p b.1; told = b.2 }
+  module _ (u : Setup) (i : ℕ) (e : read_setup s 0 ≡ got u i) {x : Result ℕ Refusal} (g : x ≡ judged_of (read_setup s i)) where
+    pub second_refused : (d : Refusal) → x ≡ Err d → Refuses s d
+    second_refused d h =
+        let b = bad_read (read_setup s i) d (sym g ∙ h) in
+        record { fault = b.0; read = no_second u i e b.0 d.place b.1; told = b.2 }
 
-    module _ (j : ℕ) (h : x ≡ Good j) {y : Judged} (f : y ≡ judged_of (at_end s (read_events s j))) where
+    module _ (j : ℕ) (h : x ≡ Ok j) {y : Result ℕ Refusal} (f : y ≡ judged_of (at_end s (read_events s j))) where
       abbrev second : (v : Setup) × (read_setup s i ≡ got v j)
       second = good_read (read_setup s i) j (sym g ∙ h)
 
-      pub events_refused : (d p : ℕ) → y ≡ Bad d p → Refuses s d p
-      events_refused d p k =
-          let b = bad_read (at_end s (read_events s j)) d p (sym f ∙ k) in
-          record { fault = b.0; read = behind u i e second.0 j second.1 ∙ then_refused _ _ b.0 p b.1; told = b.2 }
+      pub events_refused : (d : Refusal) → y ≡ Err d → Refuses s d
+      events_refused d k =
+          let b = bad_read (at_end s (read_events s j)) d (sym f ∙ k) in
+          record { fault = b.0; read = behind u i e second.0 j second.1 ∙ then_refused _ _ b.0 d.place b.1; told = b.2 }
 
-      pub all_good : (end : ℕ) → y ≡ Good end → Lies s i j
+      pub all_good : (end : ℕ) → y ≡ Ok end → Lies s i j
       all_good end k =
           let r = good_read (at_end s (read_events s j)) end (sym f ∙ k) in
           let L : Lie s j r.0 = from_read _ (read_events s j) r.0 end (end_got (read_events s j) r.0 end r.1) (events_lie s j) in

@@ -1,11 +1,12 @@
 -- Two setups and one run as bytes: the first setup, the second, then one more section, the events, then nothing. All of it is read as a setup is: the first
 -- fault decides, and its place is counted from the input's start.
-use Rattle.std.specs.Prelude.{List, [], ◌∷◌, map, ◌≡◌, ℕ, zero, suc, ◌+◌, ◌-◌, ◌*◌, ◌^◌, ◌≤◌, ℤ, length}
-use Rattle.rules.specs.Setup.{Fault, digit, Read, got, refused, and_then, word_at, Range, to, Section, section, read_section, Setup, read_setup, at_end}
+use Rattle.std.specs.Prelude.{List, [], ◌∷◌, map, ◌≡◌, ℕ, zero, suc, ◌+◌, ◌-◌, ◌*◌, ◌^◌, ◌≤◌, ℤ, length, Result, Ok, Err}
+use Rattle.rules.specs.Setup.{Fault, Read, got, refused, and_then, word_at, Range, to, Section, section, read_section, Setup, read_setup, at_end}
 use Rattle.rules.specs.Writing.{joined}
 use Rattle.run_reading.specs.Recorded.{head_bytes, event_bytes, signed_word}
+use Rattle.setup_sections.specs.Judging.{coded}
+use Rattle.setup_sections.specs.declared.Refusal.{Refusal}
 use Rattle.run_compare_reading.specs.declared.Places.{Places}
-use Rattle.run_compare_reading.specs.declared.Places.TheVariants.{Bad, Good}
 
 -- ---- the input
 
@@ -44,11 +45,11 @@ unfoldable pub words_from : List ℕ → ℕ → ℕ → List ℕ
 words_from s zero i = []
 words_from s (suc n) i = word_at s i ∷ words_from s n (i + 4)
 
--- it is refused, with this digit and place
-pub record Refuses (s : List ℕ) (d place : ℕ) : Type 0 where
+-- it is refused, with this fault and place
+pub record Refuses (s : List ℕ) (e : Refusal) : Type 0 where
   pub fault : Fault
-  pub read : compared s ≡ refused fault place
-  pub told : d ≡ digit fault
+  pub read : compared s ≡ refused fault e.place
+  pub told : e.fault ≡ coded fault
 
 -- it is accepted: the second setup begins at i, the count of events stands at j, their words behind it
 pub record Lies (s : List ℕ) (i j : ℕ) : Type 0 where
@@ -61,10 +62,6 @@ pub record Lies (s : List ℕ) (i j : ℕ) : Type 0 where
   pub few : word_at s j ≤ most_compared
   pub words : all.words ≡ map signed_word (words_from s (5 * word_at s j) (j + 4))
 
-abbrev pub Judges : List ℕ → Places → Type 0
-Judges s (Bad d place) = Refuses s d place
-Judges s (Good i j) = Lies s i j
-
--- the same of what stands behind a first setup that ends at i
-abbrev pub JudgesRest : List ℕ → ℕ → Places → Type 0
-JudgesRest s i r = (u : Setup) → read_setup s 0 ≡ got u i → Judges s r
+abbrev pub Judges : List ℕ → Result Places Refusal → Type 0
+Judges s (Err e) = Refuses s e
+Judges s (Ok p) = Lies s p.second p.events

@@ -1,5 +1,5 @@
 -- Two answers differ exactly if their numbers do, and the code's tests tell it. Assumes nothing.
-use mathlib.Core.Bool.{Bool, true, false, not, ◌||◌, false≢true}
+use mathlib.Core.Bool.{Bool, true, false, not, ◌&&◌, ◌||◌, false≢true}
 use mathlib.Core.List.{List, [], ◌∷◌}
 use mathlib.Core.Logic.{◌≢◌}
 use mathlib.Core.Path.{◌≡◌, refl, sym, ap, ◌∙◌}
@@ -8,57 +8,30 @@ use native.Mathlib.Omega.{arith}
 use lib.Dec.{eqb}
 use lib.IntN.{ℤ, pos}
 use lib.ListN.{length}
-use borrow.Author.Tests.{eq-eqb, ne_eqb}
-use mir.Syntax.{w32}
-use mir.Val.{SFits, to_z, of_z}
-use mir.Facts.{to_z-of_z}
+use Rattle.std.specs.Ordering.{int_eq}
+use Rattle.std.proofs.lemmas.Bool.Decides.{same_from_decides, Decides-int_eq}
 use Rattle.rules.specs.Codes.{same}
-use Rattle.rules.proofs.Numbers.{same_true, same_false, same_is}
+use Rattle.rules.proofs.Numbers.{same_true, same_is}
 use Rattle.run_compare_text.specs.Changes.{differ}
 
--- ---- the tests of the code
+-- ---- the test of the code
 
-or_false : (t : Bool) → (t || false) ≡ t
-or_false true = refl
-or_false false = refl
-
--- codes are compared by their bits
-pub same_code : {z w : ℤ} → SFits w32 z → SFits w32 w → of_z w32 z ≡ of_z w32 w → same z w ≡ true
-same_code {z} {w} f g e = let q : z ≡ w = sym (to_z-of_z f) ∙ ap (to_z w32) e ∙ to_z-of_z g in ap (same z) (sym q) ∙ same_true z z refl
-
-pub other_code : (z w : ℤ) → (of_z w32 z ≡ of_z w32 w → ⊥) → same z w ≡ false
-other_code z w h = same_false z w (λ e. h (ap (of_z w32) e))
-
--- the answers of two runs, number by number
-module _ {z y : ℤ} (f : SFits w32 z) (g : SFits w32 y) (a b : ℕ) (c d : ℕ) (k l : ℕ) (m n : ℕ) where
-  abbrev one : List ℤ
-  one = z ∷ pos a ∷ pos c ∷ pos k ∷ pos m ∷ []
-
-  abbrev other : List ℤ
-  other = y ∷ pos b ∷ pos d ∷ pos l ∷ pos n ∷ []
-
-  pub code_differs : (of_z w32 z ≡ of_z w32 y → ⊥) → differ one other ≡ true
-  unfolding differ
-  code_differs h = rw (other_code z y h)
-
-  module _ (e : of_z w32 z ≡ of_z w32 y) where
-    pub w1_differs : (a ≡ b → ⊥) → differ one other ≡ true
-    unfolding differ
-    w1_differs h = rw (same_code f g e, ne_eqb a b h)
-
-    module _ (p : a ≡ b) where
-      pub w2_differs : (c ≡ d → ⊥) → differ one other ≡ true
-      unfolding differ
-      w2_differs h = rw (same_code f g e, eq-eqb a b p, ne_eqb c d h)
-
-      module _ (q : c ≡ d) where
-        pub running_differs : (k ≡ l → ⊥) → differ one other ≡ true
-        unfolding differ
-        running_differs h = rw (same_code f g e, eq-eqb a b p, eq-eqb c d q, ne_eqb k l h)
-
-        pub released_decides : k ≡ l → differ one other ≡ not (eqb m n)
-        unfolding differ
-        released_decides r = rw (same_code f g e, eq-eqb a b p, eq-eqb c d q, eq-eqb k l r) (or_false (not (eqb m n)))
+-- by `==` of the answers, number by number
+pub differ_is : (z y : ℤ) (a b c d k l m n : ℕ)
+    → not (int_eq z y && (eqb a b && (eqb c d && (eqb k l && eqb m n))))
+    ≡ differ (z ∷ pos a ∷ pos c ∷ pos k ∷ pos m ∷ []) (y ∷ pos b ∷ pos d ∷ pos l ∷ pos n ∷ [])
+unfolding differ
+differ_is z y a b c d k l m n =
+    let e : int_eq z y ≡ same z y = same_from_decides _ _ (Decides-int_eq z y) (same_is z y, same_true z y) in
+    rw e (go (same z y) (eqb a b) (eqb c d) (eqb k l) (eqb m n))
+  where
+    go : (p q r s t : Bool) → not (p && (q && (r && (s && t)))) ≡ (not p || (not q || (not r || (not s || (not t || false)))))
+    go false q r s t = refl
+    go true false r s t = refl
+    go true true false s t = refl
+    go true true true false t = refl
+    go true true true true false = refl
+    go true true true true true = refl
 
 -- ---- as a statement
 

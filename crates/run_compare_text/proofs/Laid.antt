@@ -9,6 +9,7 @@ use lib.Dec.{leb}
 use lib.IntN.{ℤ}
 use lib.ListN.{length, take, drop, length-append, length-take}
 use borrow.Author.Tests.{le-leb, lt-leb, leb-true}
+use Rattle.std.proofs.Common.{Result, Ok, Err}
 use Rattle.run_text.specs.Lines.{event_line, count_line}
 use Rattle.run_text.specs.Output.{laid, Wrote}
 use Rattle.run_text.proofs.Laid.{laid_append, laid_length, laid_over, wrote_then}
@@ -16,8 +17,7 @@ use Rattle.run_compare_reading.specs.Compared.{most_compared}
 use Rattle.run_compare_text.specs.Changes.{differ, Change, change, changes, change_lines, changes_text, compared_text}
 use Rattle.run_compare_text.specs.Rows.{row_at, rows, changes_in, text_in, Lent, lent_count, lent_in}
 use Rattle.run_compare_text.specs.Output.{longest_text, output_of, told_of, Shown}
-use Rattle.run_compare_text.specs.declared.Told.{Told}
-use Rattle.run_compare_text.specs.declared.Told.TheVariants.{Written, Short}
+use Rattle.run_compare_text.specs.declared.Short.{Short}
 
 -- ---- a line
 
@@ -143,37 +143,39 @@ text_ended n c w d v x e y = wrote_then x (rw e at y)
 
 -- its length was counted first
 module _ {text t₀ t₁ : List ℕ} {n : ℕ} (counted : Wrote text 0 t₀ t₁ n) (h : n ≤ longest_text) (old : List ℕ) where
-  pub shown_short : length old < n → Shown text (Short n) old old
+  pub shown_short : length old < n → Shown text (Err (record { needed = n })) old old
   unfolding told_of output_of
   shown_short l =
       let e : n ≡ length text = counted.next ∙ omega arith in
       let s = lt-leb (length text) (length old) (omega (arith, l, e)) in
-      record { says = rw s (ap Short e); holds = rw s; fits = omega (arith, h, e) }
+      let E : ℕ → Result ℕ Short = λ k. Err (record { needed = k }) in
+      record { says = rw s (ap E e); holds = rw s; fits = omega (arith, h, e) }
 
-  pub shown_written : n ≤ length old → {new : List ℕ} {m : ℕ} → Wrote text 0 old new m → Shown text (Written n) old new
+  pub shown_written : n ≤ length old → {new : List ℕ} {m : ℕ} → Wrote text 0 old new m → Shown text (Ok m) old new
   unfolding told_of output_of
-  shown_written l w =
+  shown_written l {m = m} w =
       let e : n ≡ length text = counted.next ∙ omega arith in
+      let f : m ≡ length text = w.next ∙ omega arith in
       let s = le-leb (length text) (length old) (omega (arith, l, e)) in
-      record { says = rw s (ap Written e); holds = rw s (w.holds ∙ laid_over text old (omega (arith, l, e))); fits = omega (arith, h, e) }
+      let O : ℕ → Result ℕ Short = λ k. Ok k in
+      record { says = rw s (ap O f); holds = rw s (w.holds ∙ laid_over text old (omega (arith, l, e))); fits = omega (arith, h, e) }
 
 -- what is written lies within the output, and there is room for it in one that is long enough
-module _ {text : List ℕ} {r : Told} {old new : List ℕ} (S : Shown text r old new) where
-  pub written_within : (k : ℕ) → r ≡ Written k → k ≤ length old
+module _ {text : List ℕ} {r : Result ℕ Short} {old new : List ℕ} (S : Shown text r old new) where
+  pub written_within : (k : ℕ) → r ≡ Ok k → k ≤ length old
   unfolding told_of
   written_within k e = go (leb (length text) (length old)) refl (sym e ∙ S.says)
     where
-      go : (t : Bool) → leb (length text) (length old) ≡ t → Written k ≡ cond t (Written (length text)) (Short (length text)) → k ≤ length old
+      go : (t : Bool) → leb (length text) (length old) ≡ t → ◌≡◌ {A = Result ℕ Short} (Ok k) (cond t (Ok (length text)) (Err (record { needed = length text }))) → k ≤ length old
       go true q z = let y : k ≡ length text = cc in omega (arith, y, leb-true (length text) (length old) q)
-      go false q z = absurd (let y : ◌≡◌ {A = ℕ} 0 1 = cc in omega arith)
+      go false q z = cc
 
-  pub never_short : (k : ℕ) → longest_text ≤ length old → r ≡ Short k → ⊥
+  pub never_short : (k : Short) → longest_text ≤ length old → r ≡ Err k → ⊥
   unfolding told_of
   never_short k h e =
       let q = le-leb (length text) (length old) (omega (arith, S.fits, h)) in
-      let z : Short k ≡ Written (length text) = sym e ∙ (rw q at S.says) in
-      let y : ◌≡◌ {A = ℕ} 0 1 = cc in
-      omega arith
+      let z : Err k ≡ Ok (length text) = sym e ∙ (rw q at S.says) in
+      cc
 
 -- ---- the answers that are lent
 

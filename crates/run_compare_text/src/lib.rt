@@ -6,7 +6,7 @@
 ghost use Rattle.std.specs.Prelude.{◌≡◌, [], ◌∷◌, ◌++◌, ◌+◌, ◌*◌, ◌≤◌, ◌<◌, length};
 ghost use Rattle.run_text.specs.Lines.{event_line, refusal, count_line};
 ghost use Rattle.run_text.specs.Output.{Wrote};
-ghost use Rattle.run_compare_text.specs.Changes.{differ, changes, change_lines};
+ghost use Rattle.run_compare_text.specs.Changes.{changes, change_lines};
 ghost use Rattle.run_compare_text.specs.Rows.{numbers_of, row_at, changes_in, text_in, Lent, lent_count, lent_in};
 ghost use Rattle.run_compare_text.specs.Output.{longest_text, Shown};
 
@@ -19,16 +19,22 @@ pub const TEXT: usize = 366005;
 // The words of an answer beside its code.
 pub const WORDS_OF_ANSWER: usize = 4;
 
-// Written: the text stands in the first bytes of the output, so many of them. Short: it takes so many, and the output is as it was.
+// The text takes so many bytes. The output has fewer, and is as it was.
+#[derive(Clone, Copy, PartialEq, Eq)]
+pub struct Short {
+    pub needed: usize,
+}
+
+// The answers of a run as they lie in the lent places: the codes, and the words beside them.
 #[derive(Clone, Copy)]
-pub enum Told {
-    Written(usize),
-    Short(usize),
+pub struct Answers<'a> {
+    pub codes: &'a [i32],
+    pub words: &'a [u32],
 }
 
 // ---- an answer
 
-#[derive(Clone, Copy)]
+#[derive(Clone, Copy, PartialEq)]
 struct Row {
     code: i32,
     w1: u32,
@@ -38,37 +44,18 @@ struct Row {
 }
 
 // Answer i of a run.
-fn answer_at(codes: &[i32], answers: &[u32], i: usize) -> Row
-    requires { (i + 1 ≤ length codes.now) × (4 * i + 4 ≤ length answers.now) × (i < 3000) }
-    ensures { numbers_of result ≡ row_at codes.now answers.now i }
+fn answer_at(run: Answers, i: usize) -> Row
+    requires { (i + 1 ≤ length run.codes.now) × (4 * i + 4 ≤ length run.words.now) × (i < 3000) }
+    ensures { numbers_of result ≡ row_at run.entry.codes.now run.entry.words.now i }
 {
     let j = WORDS_OF_ANSWER * i;
     Row {
-        code: codes[i],
-        w1: answers[j],
-        w2: answers[j + 1],
-        runs: answers[j + 2],
-        released: answers[j + 3],
+        code: run.codes[i],
+        w1: run.words[j],
+        w2: run.words[j + 1],
+        runs: run.words[j + 2],
+        released: run.words[j + 3],
     }
-}
-
-// Is any of the five numbers different?
-fn is_change(a: Row, b: Row) -> bool
-    ensures { result ≡ differ (numbers_of a) (numbers_of b) }
-{
-    if a.code != b.code {
-        return true;
-    }
-    if a.w1 != b.w1 {
-        return true;
-    }
-    if a.w2 != b.w2 {
-        return true;
-    }
-    if a.runs != b.runs {
-        return true;
-    }
-    a.released != b.released
 }
 
 // ---- lines from a place on
@@ -80,8 +67,7 @@ fn answer_line(text: &mut [u8], at: usize, i: u32, a: Row) -> usize
 {
     let mut line = [0u8; LINE];
     let n = event_line(&mut line, i, a.code, a.w1, a.w2, a.runs, a.released);
-    let all = &line[..];
-    lay(text, at, &all[..n]);
+    lay(text, at, &line[..n]);
     at + n
 }
 
@@ -110,7 +96,7 @@ fn list_event(text: &mut [u8], listed: Listed, i: u32, a: Row, b: Row) -> Listed
         (result.events ≡ listed.events + length (changes i (numbers_of a ∷ []) (numbers_of b ∷ []))) ×
         (result.at ≤ listed.at + 122) × (result.events ≤ listed.events + 1) }
 {
-    if is_change(a, b) {
+    if a != b {
         let at = both_lines(text, listed.at, i, a, b);
         Listed {
             at,
@@ -122,29 +108,17 @@ fn list_event(text: &mut [u8], listed: Listed, i: u32, a: Row, b: Row) -> Listed
 }
 
 // All of n events.
-fn list_events(
-    text: &mut [u8],
-    n: usize,
-    codes1: &[i32],
-    answers1: &[u32],
-    codes2: &[i32],
-    answers2: &[u32],
-) -> Listed
-    requires { Lent n codes1.now answers1.now codes2.now answers2.now }
-    ensures { (Wrote (change_lines (changes_in n codes1.now answers1.now
-        codes2.now answers2.now)) 0 text.old text.new result.at) ×
-        (result.events ≡ length
-        (changes_in n codes1.now answers1.now codes2.now answers2.now)) ×
-        (result.at ≤ 122 * n) × (result.events ≤ n) }
+fn list_events(text: &mut [u8], n: usize, first: Answers, second: Answers) -> Listed
+    requires { Lent n first.codes.now first.words.now second.codes.now second.words.now }
+    ensures { let all = changes_in n first.entry.codes.now first.entry.words.now second.entry.codes.now second.entry.words.now in
+        (Wrote (change_lines all) 0 text.old text.new result.at) × (result.events ≡ length all) × (result.at ≤ 122 * n) ×
+        (result.events ≤ n) }
 {
     let mut listed = Listed { at: 0, events: 0 };
-    let mut i: usize = 0;
-    while i < n {
-        let a = answer_at(codes1, answers1, i);
-        let b = answer_at(codes2, answers2, i);
-        i += 1;
-        let next = list_event(text, listed, i as u32, a, b);
-        listed = next;
+    for i in 0..n {
+        let a = answer_at(first, i);
+        let b = answer_at(second, i);
+        listed = list_event(text, listed, i as u32 + 1, a, b);
     }
     listed
 }
@@ -156,81 +130,61 @@ fn end_text(text: &mut [u8], at: usize, events: u32) -> usize
 {
     let mut line = [0u8; LINE];
     let n = count_line(&mut line, events);
-    let all = &line[..];
-    lay(text, at, &all[..n]);
+    lay(text, at, &line[..n]);
     at + n
 }
 
 // ---- the whole
 
 // The text of n events.
-fn text_of(
-    text: &mut [u8],
-    n: usize,
-    codes1: &[i32],
-    answers1: &[u32],
-    codes2: &[i32],
-    answers2: &[u32],
-) -> usize
-    requires { Lent n codes1.now answers1.now codes2.now answers2.now }
-    ensures { (Wrote
-        (text_in n codes1.now answers1.now codes2.now answers2.now) 0
+fn text_of(text: &mut [u8], n: usize, first: Answers, second: Answers) -> usize
+    requires { Lent n first.codes.now first.words.now second.codes.now second.words.now }
+    ensures { (Wrote (text_in n first.entry.codes.now first.entry.words.now second.entry.codes.now second.entry.words.now) 0
         text.old text.new result) × (result ≤ longest_text) }
 {
-    let listed = list_events(text, n, codes1, answers1, codes2, answers2);
+    let listed = list_events(text, n, first, second);
     end_text(text, listed.at, listed.events)
 }
 
 // n, if that many are no more than a run has and their answers are lent; else none.
-fn lent(n: usize, codes: &[i32], answers: &[u32]) -> usize
-    ensures { result ≡ lent_count n (length codes.now) (length answers.now) }
+fn lent(n: usize, run: Answers) -> usize
+    ensures { result ≡ lent_count n (length run.entry.codes.now) (length run.entry.words.now) }
 {
-    if EVENTS < n {
-        return 0;
+    if n <= EVENTS && n <= run.codes.len() && WORDS_OF_ANSWER * n <= run.words.len() {
+        n
+    } else {
+        0
     }
-    if codes.len() < n {
-        return 0;
-    }
-    if answers.len() < WORDS_OF_ANSWER * n {
-        return 0;
-    }
-    n
 }
 
 // What differs between two runs of n events, where there is room for the text; of none, if the answers of n are not all lent.
 pub fn show_changes(
     text: &mut [u8],
     n: usize,
-    codes1: &[i32],
-    answers1: &[u32],
-    codes2: &[i32],
-    answers2: &[u32],
-) -> Told
-    ensures { Shown (text_in
-        (lent_in n codes1.now answers1.now codes2.now answers2.now)
-        codes1.now answers1.now codes2.now answers2.now) result
-        text.old text.new }
+    first: Answers,
+    second: Answers,
+) -> Result<usize, Short>
+    ensures { let c = first.entry.codes.now in let w = first.entry.words.now in
+        let d = second.entry.codes.now in let v = second.entry.words.now in
+        Shown (text_in (lent_in n c w d v) c w d v) result text.old text.new }
 {
-    let m = lent(n, codes1, answers1);
-    let k = lent(m, codes2, answers2);
+    let k = lent(lent(n, first), second);
     let mut nowhere = [0u8; 1];
-    let needed = text_of(&mut nowhere, k, codes1, answers1, codes2, answers2);
+    let needed = text_of(&mut nowhere, k, first, second);
     if text.len() < needed {
-        return Told::Short(needed);
+        return Err(Short { needed });
     }
-    text_of(text, k, codes1, answers1, codes2, answers2);
-    Told::Written(needed)
+    Ok(text_of(text, k, first, second))
 }
 
 // The line of a refusal, where there is room for it.
-pub fn show_refusal(text: &mut [u8], fault: u32, place: usize) -> Told
+pub fn show_refusal(text: &mut [u8], fault: u32, place: usize) -> Result<usize, Short>
     ensures { Shown (refusal fault place) result text.old text.new }
 {
     let mut nowhere = [0u8; 1];
     let n = refusal_line(&mut nowhere, fault, place);
     if text.len() < n {
-        return Told::Short(n);
+        return Err(Short { needed: n });
     }
-    refusal_line(text, fault, place);
-    Told::Written(n)
+    Ok(refusal_line(text, fault, place))
 }

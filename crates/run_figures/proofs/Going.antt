@@ -1,33 +1,30 @@
 -- Items in turn, byte by byte: what has been counted so far, and one byte more. Assumes nothing.
-use mathlib.Core.Bool.{Bool, true, false, cond, ◌&&◌}
 use mathlib.Core.List.{List, [], ◌∷◌, ◌++◌, map}
 use mathlib.Core.Path.{◌≡◌, refl, sym, ap, ◌∙◌, subst}
 use Prim.Native.Nat.{ℕ, zero, suc, ◌+◌, ◌≤◌, ◌<◌, min}
 use native.Mathlib.Omega.{arith}
-use lib.Dec.{leb}
 use lib.IntN.{ℤ}
 use lib.ListN.{length, take, get_or}
-use borrow.Author.Tests.{le-leb, lt-leb}
-use Rattle.rules.specs.Setup.{digit, got, setup, Setup}
+use Rattle.std.proofs.Common.{Result, Ok, Err}
+use Rattle.std.specs.Result.{result_and}
+use Rattle.rules.specs.Setup.{Fault, S1, S2, S3, S4, digit, got, setup, Setup}
 use Rattle.rules.specs.Kernel.{fresh}
 use Rattle.memory_picture.specs.Picture.{tasks_shown, Memory, memory}
-use Rattle.memory_running.specs.Running.{running_of}
 use Rattle.check_damage.specs.declared.Breach.{Breach}
-use Rattle.check_damage.specs.Judged.{Judged}
 use Rattle.kernel_start.specs.Starting.{Starts, Holds}
-use Rattle.kernel_start.specs.declared.Started.{Started}
+use Rattle.setup_sections.specs.declared.Refusal.{Refusal}
+use Rattle.setup_sections.specs.Judging.{coded, digit_of}
 use Rattle.kernel_steps.specs.Steps.{Reply, Link}
 use Rattle.kernel_steps.specs.Serving.{Known, Serves}
-use Rattle.kernel_serving.proofs.Served.{known_on, known_first}
+use Rattle.kernel_serving.proofs.Served.{known_on}
 use Rattle.call_reading.specs.Reading.{number_at}
 use Rattle.run_reading.specs.Recorded.{Item, begins, occurs, refuses, event_in, event_bytes}
 use Rattle.run_reading.specs.Recorder.{Recorder, items, after, eat}
 use Rattle.run_reading.proofs.Division.{append_nil, items_append, after_append}
-use Rattle.run_stream.specs.declared.Completed.{Completed}
-use Rattle.run_stream.specs.declared.Completed.TheVariants.{Nothing, Begins, Occurs, Refuses}
-use Rattle.run_stream.specs.Lent.{recorder_of, Takes, said, Said}
+use Rattle.run_stream.specs.declared.Item.{Item as Completed}
+use Rattle.run_stream.specs.declared.Item.TheVariants.{Nothing, Begins, Occurs}
+use Rattle.run_stream.specs.Lent.{recorder_of, Tells, Takes, said, Said}
 use Rattle.run_tally.specs.Tables.{table_counted, codes_counted}
-use Rattle.run_figures.specs.declared.Turn.{Turn}
 use Rattle.run_figures.specs.Figures.{Seen, Figures, figures, counted, counted_all}
 use Rattle.run_figures.specs.Counting.{Lent, seen_in, seen_link, Went, refusal_from, first_said, Counts, Goes, CountsTold}
 
@@ -77,81 +74,77 @@ refusal_append s (refuses f p ∷ a) b = refusal_append (said (digit f) p) a b
 
 -- ---- one item
 
-module _ (t : Turn) (old : Memory) (f : Figures) where
-  pub told_nothing : (h : List ℕ) → CountsTold Nothing h t old old f f t
+module _ (k : Result ℕ Breach) (old : Memory) (f : Figures) where
+  pub told_nothing : (h : List ℕ) → CountsTold Nothing h k old old f f k
   unfolding counted_all
-  told_nothing h l e K = record { links = []; went = subst (λ (x : List Item). Went x old [] old) (sym e) (refl, refl); counts = refl; known = K; says = ap (refusal_from (said t.number t.place)) (sym e) }
-
-  pub told_refusal : (h : List ℕ) (d place : ℕ) → CountsTold (Refuses d place) h t old old f f (record { found = t.found; me = t.me; number = d; place = place })
-  unfolding counted_all
-  told_refusal h d place l T K = record {
-    links = [];
-    went = subst (λ (x : List Item). Went x old [] old) (sym T.1) (refl, refl);
-    counts = refl;
-    known = K;
-    says = ap (λ (n : ℕ). said n place) T.2 ∙ ap (refusal_from (said t.number t.place)) (sym T.1);
-  }
+  told_nothing h l e K = record { links = []; went = subst (λ (x : List Item). Went x old [] old) (sym e) (refl, refl); counts = refl; known = K }
 
   -- a setup
-  module _ (h : List ℕ) (end : ℕ) (r : Started) {b m : List ℕ} (S : Starts (take end h) r old (memory b m)) {g : Breach} (J : Judged b m g.code g.id) {me : ℕ} (e : me ≡ running_of b) where
+  module _ (h : List ℕ) (end : ℕ) (r : Result (Unit {0}) Refusal) {b m : List ℕ} (S : Starts (take end h) r old (memory b m)) where
     fresh_holds : (u : Setup) → setup (take end h) ≡ got u end → Holds (memory b m) (fresh u)
     unfolding Starts
     fresh_holds u q = let w = rw q at S in record { accepted = w.1; view = w.2 }
 
-    pub told_begins : CountsTold (Begins end) h t old (memory b m) f f (record { found = g; me = me; number = t.number; place = t.place })
+    pub told_begins : {k' : Result ℕ Breach} → Known k' (memory b m) → CountsTold (Begins end) h k old (memory b m) f f k'
     unfolding counted_all
-    told_begins l T K = record {
+    told_begins L l T K = record {
       links = [];
       went = subst (λ (x : List Item). Went x old [] (memory b m)) (sym T.1) (memory b m, fresh_holds T.0.setup T.2, (refl, refl));
       counts = refl;
-      known = known_first b m J e;
-      says = ap (refusal_from (said t.number t.place)) (sym T.1);
+      known = L;
     }
 
   -- an event
-  module _ (h : List ℕ) (i : ℕ) {r : Reply} {new : Memory} (S : Serves (event_in (take event_bytes h)) t.found t.me old r new)
+  module _ (h : List ℕ) (i : ℕ) {r : Reply} {new : Memory} (S : Serves (event_in (take event_bytes h)) k old r new)
       {f' : Figures} (c : f' ≡ counted f (seen_in r.code new.words)) where
-    pub told_occurs : CountsTold (Occurs i) h t old new f f' (record { found = t.found; me = r.runs; number = t.number; place = t.place })
+    pub told_occurs : CountsTold (Occurs i) h k old new f f' (result_and k (Ok r.runs))
     unfolding counted_all
     told_occurs l T K =
-        let k : Link = record { event = event_in (take event_bytes h); reply = r; left = new } in
+        let n : Link = record { event = event_in (take event_bytes h); reply = r; left = new } in
         record {
-          links = k ∷ [];
-          went = subst (λ (x : List Item). Went x old (k ∷ []) new) (sym T) (k, [], refl, refl, S K, (refl, refl));
+          links = n ∷ [];
+          went = subst (λ (x : List Item). Went x old (n ∷ []) new) (sym T) (n, [], refl, refl, S K, (refl, refl));
           counts = c;
-          known = known_on K (S K);
-          says = ap (refusal_from (said t.number t.place)) (sym T);
+          known = known_on k K (S K);
         }
 
--- ---- what is said first
+-- of a refusal nothing is done
+told_refusal : (k : Result ℕ Breach) (old : Memory) (f : Figures) (h : List ℕ) (e : Refusal) (l : List Item) → Tells (Err e) h l → Known k old → Goes l old old f f k
+unfolding counted_all
+told_refusal k old f h e l T K = record { links = []; went = subst (λ (x : List Item). Went x old [] old) (sym T.1) (refl, refl); counts = refl; known = K }
 
-pub first_taken : (c : Bool) (n : ℕ) → c ≡ true → 0 < n → ◌≡◌ {A = ℕ} 5 (cond (c && leb 1 n) 5 0)
-first_taken c n e h = rw (e, le-leb 1 n h)
+-- what is said behind an item, and behind a refusal
+quiet : (s : Said) (c : Completed) (h : List ℕ) (l : List Item) → Tells (Ok c) h l → s ≡ refusal_from s l
+quiet s Nothing h l T = ap (refusal_from s) (sym T)
+quiet s (Begins end) h l T = ap (refusal_from s) (sym T.1)
+quiet s (Occurs i) h l T = ap (refusal_from s) (sym T)
 
-pub first_empty : (c : Bool) (n : ℕ) → c ≡ true → n ≤ 0 → ◌≡◌ {A = ℕ} 0 (cond (c && leb 1 n) 5 0)
-first_empty c n e h = rw (e, lt-leb 1 n (omega (arith, h)))
-
-pub first_open : (c : Bool) (n : ℕ) → c ≡ false → ◌≡◌ {A = ℕ} 0 (cond (c && leb 1 n) 5 0)
-first_open c n e = rw e
+said_refusal : (s : Said) (e : Refusal) (h : List ℕ) (l : List Item) → Tells (Err e) h l → {d : ℕ} → d ≡ digit_of e.fault → said d e.place ≡ refusal_from s l
+said_refusal s e h l T q = ap (λ (n : ℕ). said n e.place) (q ∙ ap digit_of T.2 ∙ digit_coded T.0) ∙ ap (refusal_from s) (sym T.1)
+  where
+    digit_coded : (f : Fault) → digit_of (coded f) ≡ digit f
+    digit_coded S1 = refl
+    digit_coded S2 = refl
+    digit_coded S3 = refl
+    digit_coded S4 = refl
 
 -- ---- byte by byte
 
 -- the bytes so far are counted
-pub record Reached (start : Lent) (s : Said) (done : List ℕ) (r : Recorder) (now : Memory) (f : Figures) (t : Turn) : Type 0 where
+pub record Reached (start : Lent) (s : Said) (done : List ℕ) (r : Recorder) (now : Memory) (f : Figures) (k : Result ℕ Breach) (a : Said) : Type 0 where
   pub recorder : r ≡ after start.recorder done
   pub links : List Link
   pub went : Went (items start.recorder done) start.memory links now
   pub counts : f ≡ counted_all start.figures (map seen_link links)
-  pub known : Known t.found t.me now
-  pub says : said t.number t.place ≡ refusal_from s (items start.recorder done)
+  pub known : Known k now
+  pub says : a ≡ refusal_from s (items start.recorder done)
 
 module _ (start : Lent) (s : Said) where
-  pub reached_none : (t : Turn) → Known t.found t.me start.memory → said t.number t.place ≡ s → Reached start s [] start.recorder start.memory start.figures t
+  pub reached_none : (k : Result ℕ Breach) {a : Said} → Known k start.memory → a ≡ s → Reached start s [] start.recorder start.memory start.figures k a
   unfolding items after counted_all
-  reached_none t K e = record { recorder = refl; links = []; went = (refl, refl); counts = refl; known = K; says = e }
+  reached_none k K e = record { recorder = refl; links = []; went = (refl, refl); counts = refl; known = K; says = e }
 
-  module _ {done : List ℕ} {n h : List ℕ} {m : Memory} {f : Figures} {t : Turn} (R : Reached start s done (recorder_of n h) m f t) (b : ℕ) {c : Completed} {n' h' : List ℕ} (T : Takes b n h c n' h')
-      {m' : Memory} {f' : Figures} {t' : Turn} (G : CountsTold c h' t m m' f f' t') where
+  module _ {done : List ℕ} {n h : List ℕ} {m : Memory} {f : Figures} {k : Result ℕ Breach} {a : Said} (R : Reached start s done (recorder_of n h) m f k a) (b : ℕ) {r : Result Completed Refusal} {n' h' : List ℕ} (T : Takes b n h r n' h') where
     one_items : (r : Recorder) → items r (b ∷ []) ≡ (eat r b).items
     unfolding items
     one_items r = append_nil (eat r b).items
@@ -163,17 +156,27 @@ module _ (start : Lent) (s : Said) where
     unfolding after
     next_after_lem = T.next ∙ ap (λ (r : Recorder). (eat r b).next) R.recorder ∙ sym (after_append start.recorder done (b ∷ []))
 
-    pub reached_next : Reached start s (done ++ (b ∷ [])) (recorder_of n' h') m' f' t'
-    reached_next =
-        let g : Goes (eat (recorder_of n h) b).items m m' f f' t t' = G (eat (recorder_of n h) b).items T.tells R.known in
-        record {
-          recorder = next_after_lem;
-          links = R.links ++ g.links;
-          went = rw next_items (went_append (items start.recorder done) (eat (recorder_of n h) b).items start.memory m m' R.links g.links R.went g.went);
-          counts = g.counts ∙ ap (λ (x : Figures). counted_all x (map seen_link g.links)) R.counts ∙ sym (counted_append start.figures (map seen_link R.links) (map seen_link g.links)) ∙ ap (counted_all start.figures) (sym (map_append R.links g.links));
-          known = g.known;
-          says = g.says ∙ ap (λ (x : Said). refusal_from x (eat (recorder_of n h) b).items) R.says ∙ sym (refusal_append s (items start.recorder done) (eat (recorder_of n h) b).items) ∙ ap (refusal_from s) (sym next_items);
-        }
+    next_reached : {m' : Memory} {f' : Figures} {k' : Result ℕ Breach} {a' : Said} → Goes (eat (recorder_of n h) b).items m m' f f' k' → a' ≡ refusal_from a (eat (recorder_of n h) b).items
+        → Reached start s (done ++ (b ∷ [])) (recorder_of n' h') m' f' k' a'
+    next_reached {m'} {f'} {k'} g e = record {
+      recorder = next_after_lem;
+      links = R.links ++ g.links;
+      went = rw next_items (went_append (items start.recorder done) (eat (recorder_of n h) b).items start.memory m m' R.links g.links R.went g.went);
+      counts = g.counts ∙ ap (λ (x : Figures). counted_all x (map seen_link g.links)) R.counts ∙ sym (counted_append start.figures (map seen_link R.links) (map seen_link g.links)) ∙ ap (counted_all start.figures) (sym (map_append R.links g.links));
+      known = g.known;
+      says = e ∙ ap (λ (x : Said). refusal_from x (eat (recorder_of n h) b).items) R.says ∙ sym (refusal_append s (items start.recorder done) (eat (recorder_of n h) b).items) ∙ ap (refusal_from s) (sym next_items);
+    }
+
+    -- an item, or a refusal
+    pub reached_item : {c : Completed} → r ≡ Ok c → {m' : Memory} {f' : Figures} {k' : Result ℕ Breach} → CountsTold c h' k m m' f f' k' → Reached start s (done ++ (b ∷ [])) (recorder_of n' h') m' f' k' a
+    reached_item {c} q G =
+        let t : Tells (Ok c) h' (eat (recorder_of n h) b).items = rw q at T.tells in
+        next_reached (G _ t R.known) (quiet a c h' _ t)
+
+    pub reached_refusal : {e : Refusal} → r ≡ Err e → {d : ℕ} → d ≡ digit_of e.fault → Reached start s (done ++ (b ∷ [])) (recorder_of n' h') m f k (said d e.place)
+    reached_refusal {e} q p =
+        let t : Tells (Err e) h' (eat (recorder_of n h) b).items = rw q at T.tells in
+        next_reached (told_refusal k m f h' e _ t R.known) (said_refusal a e h' _ t p)
 
 pub take_next : (l : List ℕ) (i : ℕ) → i < length l → take (i + 1) l ≡ take i l ++ (get_or l i 0 ∷ [])
 take_next [] i h = absurd (omega (arith, h))
@@ -187,8 +190,9 @@ take_all (x ∷ l) zero h = absurd (omega (arith, h))
 take_all (x ∷ l) (suc i) h = ap (λ (m : List ℕ). x ∷ m) (take_all l i (omega (arith, h)))
 
 -- all bytes are counted
-pub reached_all : (start : Lent) (bytes : List ℕ) (i : ℕ) → length bytes ≤ i → {r : Recorder} {m : Memory} {f : Figures} (t : Turn) → Reached start (first_said start.recorder (length bytes)) (take i bytes) r m f t
-    → Counts bytes start (record { recorder = r; memory = m; figures = f }) (record { number = t.number; place = t.place })
-reached_all start bytes i h t R =
+pub reached_all : (start : Lent) (bytes : List ℕ) (i : ℕ) → length bytes ≤ i → {r : Recorder} {m : Memory} {f : Figures} (k : Result ℕ Breach) {number place : ℕ}
+    → Reached start (first_said start.recorder (length bytes)) (take i bytes) r m f k (said number place)
+    → Counts bytes start (record { recorder = r; memory = m; figures = f }) (record { number = number; place = place })
+reached_all start bytes i h k R =
     let w = rw (take_all bytes i h) at R in
     record { recorder = w.recorder; links = w.links; went = w.went; counts = w.counts; says = w.says }

@@ -1,18 +1,18 @@
 -- What counting promises of any lent memory.
-use Rattle.std.specs.Prelude.{cond, ◌&&◌, List, [], ◌∷◌, map, ◌≡◌, ℕ, suc, leb, ℤ, length}
+use Rattle.std.specs.Prelude.{cond, ◌&&◌, List, [], ◌∷◌, map, ◌≡◌, ℕ, suc, leb, ℤ, length, Result, Ok}
 use Rattle.rules.specs.Setup.{digit}
 use Rattle.rules.specs.Kernel.{fresh}
 use Rattle.memory_picture.specs.Picture.{tasks_shown, Memory}
 use Rattle.call_reading.specs.Reading.{number_at}
+use Rattle.check_damage.specs.declared.Breach.{Breach}
 use Rattle.kernel_start.specs.Starting.{Holds}
 use Rattle.kernel_steps.specs.Steps.{Step, Link}
 use Rattle.kernel_steps.specs.Serving.{Known}
 use Rattle.run_reading.specs.Recorded.{Item, begins, occurs, refuses}
 use Rattle.run_reading.specs.Recorder.{Recorder, closed, items, after}
-use Rattle.run_stream.specs.declared.Completed.{Completed}
+use Rattle.run_stream.specs.declared.Item.{Item as Completed}
 use Rattle.run_stream.specs.Lent.{recorder_of, Tells, Said, said}
 use Rattle.run_figures.specs.declared.Counted.{Counted}
-use Rattle.run_figures.specs.declared.Turn.{Turn}
 use Rattle.run_figures.specs.Figures.{Seen, Figures, counted_all}
 
 -- ---- what is lent
@@ -71,13 +71,12 @@ Taken (s ∷ l) old new = (mid : Lent) × (a : Counted) × Counts s old mid a ×
 
 -- ---- what the private functions promise
 
--- the items that were told went on, and it is known of the memory what was known before
-pub record Goes (l : List Item) (old new : Memory) (f f' : Figures) (t t' : Turn) : Type 0 where
+-- the items that were told went on, and this is known of the memory then
+pub record Goes (l : List Item) (old new : Memory) (f f' : Figures) (k : Result ℕ Breach) : Type 0 where
   pub links : List Link
   pub went : Went l old links new
   pub counts : f' ≡ counted_all f (map seen_link links)
-  pub known : Known t'.found t'.me new
-  pub says : said t'.number t'.place ≡ refusal_from (said t.number t.place) l
+  pub known : Known k new
 
-abbrev pub CountsTold : Completed → List ℕ → Turn → Memory → Memory → Figures → Figures → Turn → Type 0
-CountsTold c h t old new f f' t' = (l : List Item) → Tells c h l → Known t.found t.me old → Goes l old new f f' t t'
+abbrev pub CountsTold : Completed → List ℕ → Result ℕ Breach → Memory → Memory → Figures → Figures → Result ℕ Breach → Type 0
+CountsTold c h k old new f f' k' = (l : List Item) → Tells (Ok c) h l → Known k old → Goes l old new f f' k'

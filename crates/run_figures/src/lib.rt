@@ -3,26 +3,27 @@
 // that memory is a value. The kernel's memory is checked once in a part.
 #![tactic(auto)]
 
-ghost use Rattle.std.specs.Prelude.{cond, ◌&&◌, List, ◌≡◌, ℕ, suc, ◌≤◌, ◌<◌, min, leb, length, get_or};
+ghost use Rattle.std.specs.Prelude.{cond, ◌&&◌, List, ◌≡◌, ℕ, suc, ◌≤◌, ◌<◌, min, leb, length, get_or, Result, Ok};
 ghost use Rattle.memory_picture.specs.Picture.{tasks_shown, memory};
 ghost use Rattle.call_reading.specs.Reading.{number_at};
+ghost use Rattle.check_damage.specs.declared.Breach.{Breach};
 ghost use Rattle.run_reading.specs.Recorder.{closed};
-ghost use Rattle.run_stream.specs.declared.Completed.TheVariants.{Begins, Occurs};
+ghost use Rattle.run_stream.specs.declared.Item.TheVariants.{Begins, Occurs};
 ghost use Rattle.run_stream.specs.Lent.{recorder_of, Sized};
 ghost use Rattle.run_figures.specs.Figures.{Figures, figures, counted};
 ghost use Rattle.run_figures.specs.Counting.{seen_in, lent, CountsTold, Counts};
 
 use call_reading::state_number;
-use check_damage::{Breach, judged};
-use memory_columns::{MAX_TASKS, MESSAGE_WORDS, STATE_WORDS, system};
-use memory_running::running_task;
+use check_damage::Breach;
+use kernel_steps::look;
+use memory_columns::{Column, MESSAGE_WORDS, STATE_WORDS};
 use run_reading::HEAD;
 use run_serving::serve_held;
-use run_stream::{Completed, NUMBERS, is_closed, take_byte};
+use run_stream::{Item, NUMBERS, is_closed, take_byte};
 use run_tally::{CODES, STATES, TASKS, codes_counted, table_counted};
 
 // What a part says. Its number: 0, or 1 to 4 for the run's refusal S1 to S4, with its place; 5 (S5) for a nonempty part
-// behind the end or a refusal.
+// behind the end or a refusal. The C interface hands it out as it is, so it has numbers.
 #[repr(C)]
 #[derive(Clone, Copy)]
 pub struct Counted {
@@ -32,23 +33,13 @@ pub struct Counted {
 
 const S5: u32 = 5;
 
-// What came of a byte: what is known of the memory now, who runs, and the run's refusal, if it was that.
-#[derive(Clone, Copy)]
-struct Turn {
-    found: Breach,
-    me: u32,
-    number: u32,
-    place: usize,
-}
-
 // ---- what an event adds
 
 // How many tasks there are, at most the table's rows.
 fn tasks(words: &[u32; STATE_WORDS]) -> usize
     ensures { (result ≡ min (tasks_shown words.now) 32) × (result ≤ 32) }
 {
-    let n = system(words, memory_columns::TASKS);
-    if n < MAX_TASKS { n as usize } else { TASKS }
+    (Column::System.get(words, memory_columns::TASKS) as usize).min(TASKS)
 }
 
 // The state of each of the first n tasks.
@@ -57,10 +48,8 @@ fn states(words: &[u32; STATE_WORDS], n: usize) -> [u32; TASKS]
     ensures { (i : ℕ) → i < n → get_or result i 0 ≡ number_at words.now (suc i) }
 {
     let mut s = [0u32; TASKS];
-    let mut i: usize = 0;
-    while i < n {
+    for i in 0..n {
         s[i] = state_number(words, i as u32 + 1);
-        i += 1;
     }
     s
 }
@@ -91,21 +80,15 @@ fn begins(
     end: usize,
     words: &mut [u32; STATE_WORDS],
     messages: &mut [u32; MESSAGE_WORDS],
-    t: Turn,
-) -> Turn
+) -> Result<u32, Breach>
     requires { end ≤ length held.now }
-    ensures { (f : Figures) → CountsTold (Begins end) held.now t
-        (memory words.old messages.old) (memory words.new messages.new) f
-        f result }
+    ensures { (k : Result ℕ Breach) (f : Figures) → CountsTold (Begins end) held.now k
+        (memory words.old messages.old) (memory words.new messages.new) f f result }
 {
     let all = &held[..];
-    kernel_start::start(&all[..end], words, messages);
-    Turn {
-        found: judged(words, messages),
-        me: running_task(words),
-        number: t.number,
-        place: t.place,
-    }
+    // Its setup was judged: it is not refused.
+    let _ = kernel_start::start(&all[..end], words, messages);
+    look(words, messages)
 }
 
 // An event is whole: it runs and is counted.
@@ -113,51 +96,38 @@ fn occurs(
     held: &[u8; HEAD],
     words: &mut [u32; STATE_WORDS],
     messages: &mut [u32; MESSAGE_WORDS],
-    t: Turn,
+    known: Result<u32, Breach>,
     table: &mut [[u32; STATES]; TASKS],
     codes: &mut [u32; CODES],
-) -> Turn
-    ensures { (i : ℕ) → CountsTold (Occurs i) held.now t
+) -> Result<u32, Breach>
+    ensures { (i : ℕ) → CountsTold (Occurs i) held.now known
         (memory words.old messages.old) (memory words.new messages.new)
         (figures table.old codes.old) (figures table.new codes.new) result }
 {
-    let found = t.found;
-    let r = serve_held(held, words, messages, found, t.me);
+    let r = serve_held(held, words, messages, known);
     count_event(words, r.code, table, codes);
-    Turn {
-        found,
-        me: r.running,
-        number: t.number,
-        place: t.place,
-    }
+    known.and(Ok(r.running))
 }
 
-// What a byte completed is done.
+// What a byte completed is done; what is known of the memory then.
 fn count_item(
-    item: Completed,
+    item: Item,
     held: &[u8; HEAD],
     words: &mut [u32; STATE_WORDS],
     messages: &mut [u32; MESSAGE_WORDS],
-    t: Turn,
+    known: Result<u32, Breach>,
     table: &mut [[u32; STATES]; TASKS],
     codes: &mut [u32; CODES],
-) -> Turn
-    requires { Sized item held.now }
-    ensures { CountsTold item held.now t (memory words.old messages.old)
+) -> Result<u32, Breach>
+    requires { Sized (Ok item) held.now }
+    ensures { CountsTold item held.now known (memory words.old messages.old)
         (memory words.new messages.new) (figures table.old codes.old)
         (figures table.new codes.new) result }
 {
-    let found = t.found;
     match item {
-        Completed::Nothing => t,
-        Completed::Begins(end) => begins(held, end, words, messages, t),
-        Completed::Occurs(_) => occurs(held, words, messages, t, table, codes),
-        Completed::Refuses(fault, place) => Turn {
-            found,
-            me: t.me,
-            number: fault,
-            place,
-        },
+        Item::Nothing => known,
+        Item::Begins(end) => begins(held, end, words, messages),
+        Item::Occurs(_) => occurs(held, words, messages, known, table, codes),
     }
 }
 
@@ -167,12 +137,11 @@ fn count_item(
 fn first_number(numbers: &[u32; NUMBERS], size: usize) -> u32
     ensures { (h : List ℕ) → result ≡ cond (closed (recorder_of numbers.now h) && leb 1 size) 5 0 }
 {
-    if is_closed(numbers) {
-        if 0 < size {
-            return S5;
-        }
+    if is_closed(numbers) && 0 < size {
+        S5
+    } else {
+        0
     }
-    0
 }
 
 // The next part of a run. All of it is taken.
@@ -190,21 +159,23 @@ pub fn count(
         (lent numbers.new held.new (memory words.new messages.new)
         (figures table.new codes.new)) result }
 {
-    let mut t = Turn {
-        found: judged(words, messages),
-        me: running_task(words),
+    let mut known = look(words, messages);
+    let mut said = Counted {
         number: first_number(numbers, bytes.len()),
         place: 0,
     };
-    let mut i: usize = 0;
-    while i < bytes.len() {
-        let item = take_byte(numbers, held, bytes[i]);
-        let next = count_item(item, held, words, messages, t, table, codes);
-        t = next;
-        i += 1;
+    for b in bytes {
+        match take_byte(numbers, held, *b) {
+            Ok(item) => {
+                known = count_item(item, held, words, messages, known, table, codes);
+            }
+            Err(refusal) => {
+                said = Counted {
+                    number: u32::from(refusal.fault),
+                    place: refusal.place,
+                };
+            }
+        }
     }
-    Counted {
-        number: t.number,
-        place: t.place,
-    }
+    said
 }

@@ -1,31 +1,19 @@
 -- Which sums fit a word, and the copy of a list entry by entry. Assumes nothing.
 use mathlib.Core.Bool.{Bool, true, false, ◌&&◌}
 use mathlib.Core.List.{List, [], ◌∷◌}
-use mathlib.Core.Path.{◌≡◌, refl, ap, ◌∙◌}
-use Prim.Native.Nat.{ℕ, zero, suc, ◌+◌, ◌≤◌, ◌<◌}
+use mathlib.Core.Path.{◌≡◌, refl, ap}
+use Prim.Native.Nat.{ℕ, zero, suc, ◌≤◌, ◌<◌}
 use native.Mathlib.Omega.{arith}
 use lib.Dec.{ltb}
-use lib.ListN.{length, get_or, set, drop, drop_of_length-le}
-use borrow.Author.Tests.{lt-ltb, le-ltb, ltb-true}
+use lib.ListN.{length, get_or, set}
+use borrow.Author.Tests.{ltb-true}
+use Rattle.std.specs.List.{list_all}
 use Rattle.run_month.specs.Monthly.{fits}
 
-drop_entry : (i : ℕ) (l : List ℕ) → i < length l → drop i l ≡ get_or l i 0 ∷ drop (i + 1) l
-drop_entry i [] h = absurd (omega (arith, h))
-drop_entry zero (x ∷ l) h = refl
-drop_entry (suc i) (x ∷ l) h = let e : suc (i + 1) ≡ suc i + 1 = omega arith in drop_entry i l (omega (arith, h)) ∙ ap (λ (n : ℕ). get_or l i 0 ∷ drop n (x ∷ l)) e
-
-module _ (l : List ℕ) (i : ℕ) (h : i < length l) where
-  pub fit_next : get_or l i 0 < 4294967296 → fits (drop i l) ≡ fits (drop (i + 1) l)
-  unfolding fits
-  fit_next k = rw (drop_entry i l h, lt-ltb (get_or l i 0) 4294967296 k)
-
-  pub fit_not : 4294967296 ≤ get_or l i 0 → fits (drop i l) ≡ false
-  unfolding fits
-  fit_not k = rw (drop_entry i l h, le-ltb (get_or l i 0) 4294967296 k)
-
-pub fit_end : (l : List ℕ) (i : ℕ) → length l ≤ i → fits (drop i l) ≡ true
+pub fits_listed : (l : List ℕ) → list_all (λ a. ltb a 4294967296) l ≡ fits l
 unfolding fits
-fit_end l i h = rw (drop_of_length-le l h)
+fits_listed [] = refl
+fits_listed (a ∷ l) = ap (λ (t : Bool). ltb a 4294967296 && t) (fits_listed l)
 
 both : (a b : Bool) → a && b ≡ true → (a ≡ true) × (b ≡ true)
 both true true e = (refl, refl)

@@ -1,8 +1,8 @@
 -- The figures of a month: the records of its runs, summed number by number, none left out or doubled.
-use Rattle.std.specs.Prelude.{Bool, true, cond, ◌&&◌, List, [], ◌∷◌, ◌≡◌, ℕ, zero, suc, ◌+◌, ◌^◌, ltb, eqb, length, get_or}
+use Rattle.std.specs.Prelude.{Bool, true, cond, ◌&&◌, List, [], ◌∷◌, ◌≡◌, ℕ, zero, suc, ◌+◌, ◌^◌, ltb, eqb, length, get_or, Result, Ok, Err}
 use Rattle.run_month.specs.declared.Record.{Record}
-use Rattle.run_month.specs.declared.Reporting.{Reporting}
-use Rattle.run_month.specs.declared.Reporting.TheVariants.{Done, Many, Size, Beyond}
+use Rattle.run_month.specs.declared.Unreported.{Unreported}
+use Rattle.run_month.specs.declared.Unreported.TheVariants.{Many, Size, Beyond}
 
 -- ---- the totals
 
@@ -38,11 +38,11 @@ unfoldable pub refusal : ℕ → ℕ → List ℕ → ℕ
 refusal records size sums = cond (ltb most_records records) 1 (cond (eqb size counts) (cond (fits sums) 0 3) 2)
 
 -- the digit of an answer
-abbrev pub digit : Reporting → ℕ
-digit Done = 0
-digit Many = 1
-digit Size = 2
-digit Beyond = 3
+abbrev pub digit : Result (Unit {0}) Unreported → ℕ
+digit (Ok u) = 0
+digit (Err Many) = 1
+digit (Err Size) = 2
+digit (Err Beyond) = 3
 
 -- what the output holds then: a refusal leaves it as it was
 abbrev pub report_of : ℕ → List ℕ → List ℕ → List ℕ

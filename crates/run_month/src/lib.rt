@@ -29,13 +29,14 @@ pub struct Sum {
     pub sums: [u64; COUNTS],
 }
 
-// Done, or why there is no report: T1 more than 64 records, T2 an output of another length than 253, T3 a total beyond
-// 2^32 - 1. The first that applies is said.
-#[derive(Clone, Copy)]
-pub enum Reporting {
-    Done,
+// Why there is no report. The first that applies is said.
+#[derive(Clone, Copy, PartialEq, Eq)]
+pub enum Unreported {
+    // T1: more than 64 records
     Many,
+    // T2: an output of another length than 253
     Size,
+    // T3: a total beyond 2^32 - 1
     Beyond,
 }
 
@@ -45,17 +46,11 @@ pub enum Reporting {
 fn capped(sum: u64, count: u32) -> u64
     ensures { result ≡ capped sum count }
 {
-    if BEYOND <= sum {
-        return BEYOND;
-    }
-    let more = sum + count as u64;
-    if BEYOND <= more {
-        return BEYOND;
-    }
-    more
+    sum.saturating_add(u64::from(count)).min(BEYOND)
 }
 
 // Of no record.
+#[tactic(auto, unfolding(crate::specs::Capped::none))]
 pub fn none() -> Sum
     ensures { result ≡ none }
 {
@@ -68,29 +63,18 @@ pub fn none() -> Sum
 pub fn plus(t: Sum, r: Record) -> Sum
     ensures { result ≡ plus_of t r }
 {
-    let mut s = t.sums;
-    let c = r.counts;
-    let mut i: usize = 0;
-    while i < COUNTS {
-        s[i] = capped(s[i], c[i]);
-        i += 1;
+    let mut sums = t.sums;
+    for (i, count) in r.counts.iter().enumerate() {
+        sums[i] = capped(sums[i], *count);
     }
-    Sum { sums: s }
+    Sum { sums }
 }
 
 // Does each sum fit a word?
 fn all_fit(t: Sum) -> bool
     ensures { result ≡ fits t.sums }
 {
-    let sums = t.sums;
-    let mut i: usize = 0;
-    while i < COUNTS {
-        if BEYOND <= sums[i] {
-            return false;
-        }
-        i += 1;
-    }
-    true
+    t.sums.iter().all(|sum| *sum < BEYOND)
 }
 
 // The sums as words, where each fits one.
@@ -98,30 +82,28 @@ fn write(t: Sum, out: &mut [u32])
     requires { (length out.old ≡ 253) × (fits t.sums ≡ true) }
     ensures { out.new ≡ t.sums }
 {
-    let sums = t.sums;
-    let mut i: usize = 0;
-    while i < COUNTS {
-        out[i] = sums[i] as u32;
-        i += 1;
+    for (i, sum) in t.sums.iter().enumerate() {
+        out[i] = *sum as u32;
     }
 }
 
 // The report of so many records, whose sums are given.
-pub fn report(t: Sum, records: usize, out: &mut [u32]) -> Reporting
+#[tactic(auto, unfolding(crate::specs::Monthly::refusal))]
+pub fn report(t: Sum, records: usize, out: &mut [u32]) -> Result<(), Unreported>
     ensures { (digit result ≡ refusal records (length out.old) t.sums) ×
         (out.new ≡ report_of (digit result) t.sums out.old) }
 {
     if RECORDS < records {
-        return Reporting::Many;
+        return Err(Unreported::Many);
     }
     if out.len() != COUNTS {
-        return Reporting::Size;
+        return Err(Unreported::Size);
     }
     if !all_fit(t) {
-        return Reporting::Beyond;
+        return Err(Unreported::Beyond);
     }
     write(t, out);
-    Reporting::Done
+    Ok(())
 }
 
 // ---- over the slice of records
@@ -131,16 +113,14 @@ fn total(records: &[Record]) -> Sum
     ensures { result ≡ total_of records.now }
 {
     let mut t = none();
-    let mut k: usize = 0;
-    while k < records.len() {
-        t = plus(t, records[k]);
-        k += 1;
+    for r in records {
+        t = plus(t, *r);
     }
     t
 }
 
 // The totals of a month in the output: of each task, by id, the states 0 to 6, then the codes. A refusal leaves the output as it was.
-pub fn month(records: &[Record], out: &mut [u32]) -> Reporting
+pub fn month(records: &[Record], out: &mut [u32]) -> Result<(), Unreported>
     ensures { Reported records.now (digit result) out.old out.new }
 {
     let t = total(records);

@@ -7,11 +7,15 @@ use native.Mathlib.Omega.{arith}
 use lib.Dec.{leb}
 use lib.ListN.{length, take}
 use borrow.Author.Tests.{le-leb, lt-leb, leb-true, leb-false}
+use Rattle.std.proofs.Common.{Ok, Err}
 use Rattle.rules.specs.Setup.{Fault, S1, S2, S3, S4, digit, Read, got, refused}
 use Rattle.memory_picture.specs.Picture.{Memory}
 use Rattle.run_reading.specs.Recorded.{Head, read_head, event_bytes, event_in, Item, begins, occurs, refuses}
 use Rattle.run_reading.specs.Recorder.{Recorder, heading, running, stopped, ended, is_ended, on_end, at_input_end}
-use Rattle.run_stream.specs.declared.Completed.TheVariants.{Nothing, Begins, Occurs, Refuses}
+use Rattle.setup_sections.specs.declared.Refusal.{Refusal}
+use Rattle.setup_sections.specs.Judging.{digit_of}
+use Rattle.run_stream.specs.declared.Item.{Item as Completed}
+use Rattle.run_stream.specs.declared.Item.TheVariants.{Nothing, Begins, Occurs}
 use Rattle.run_stream.specs.Lent.{recorder_of, Is, Tells}
 use Rattle.run_text.specs.Lines.{refusal, longest_line}
 use Rattle.run_text.specs.Output.{Wrote}
@@ -19,7 +23,7 @@ use Rattle.run_text.proofs.Laid.{laid_over}
 use Rattle.run_recorder.specs.declared.Parted.{Parted}
 use Rattle.run_recorder.specs.Running.{Ran}
 use Rattle.run_recorder.specs.Recording.{Ends, EndsRefused, EndsQuiet}
-use Rattle.run_recorder.proofs.Items.{ran_one}
+use Rattle.run_recorder.proofs.Items.{digit_coded, ran_one}
 
 -- ---- a refusal's line
 
@@ -93,7 +97,7 @@ module _ (n h text : List ℕ) where
       none ended e m = (refl, refl)
 
   module _ (going : is_ended (recorder_of n h) ≡ false) where
-    pub end_none : Tells Nothing h (at_input_end (recorder_of n h)) → {n' : List ℕ} {a : Parted} → EndsQuiet n' a → Ends n h n' text text a
+    end_none : Tells (Ok Nothing) h (at_input_end (recorder_of n h)) → {n' : List ℕ} {a : Parted} → EndsQuiet n' a → Ends n h n' text text a
     end_none e Q =
         let z = le-leb 0 (length text) (omega arith) in
         rw Q.1
@@ -110,13 +114,12 @@ module _ (n h text : List ℕ) where
     never : (l : List Item) → at_input_end (recorder_of n h) ≡ l → Ending l
     never l q = rw q at (ending (recorder_of n h))
 
-    pub end_no_begin : (i : ℕ) → Tells (Begins i) h (at_input_end (recorder_of n h)) → {n' : List ℕ} {a : Parted} → EndsQuiet n' a → Ends n h n' text text a
-    end_no_begin i T Q = absurd (never (begins T.0 ∷ []) T.1)
+    pub end_ok : (c : Completed) → Tells (Ok c) h (at_input_end (recorder_of n h)) → {n' : List ℕ} {a : Parted} → EndsQuiet n' a → Ends n h n' text text a
+    end_ok Nothing T Q = end_none T Q
+    end_ok (Begins i) T Q = absurd (never (begins T.0 ∷ []) T.1)
+    end_ok (Occurs i) T Q = absurd (never (occurs i (event_in (take event_bytes h)) ∷ []) T)
 
-    pub end_no_event : (i : ℕ) → Tells (Occurs i) h (at_input_end (recorder_of n h)) → {n' : List ℕ} {a : Parted} → EndsQuiet n' a → Ends n h n' text text a
-    end_no_event i T Q = absurd (never (occurs i (event_in (take event_bytes h)) ∷ []) T)
-
-    pub end_says : (d place : ℕ) → Tells (Refuses d place) h (at_input_end (recorder_of n h)) → {n' text' : List ℕ} {a : Parted} → EndsRefused d place n n' text text' a → Ends n h n' text text' a
+    end_says : (d place : ℕ) → (f : Fault) × (at_input_end (recorder_of n h) ≡ refuses f place ∷ []) × (d ≡ digit f) → {n' text' : List ℕ} {a : Parted} → EndsRefused d place n n' text text' a → Ends n h n' text text' a
     end_says d place T {n'} {text'} {a} R = go (leb (length (refusal d place)) (length text)) refl
       where
         e : at_input_end (recorder_of n h) ≡ refuses T.0 place ∷ []
@@ -155,3 +158,6 @@ module _ (n h text : List ℕ) where
               done = λ l. absurd (omega (arith, l, w.0));
               kept = λ l. R.kept k;
             }
+
+    pub end_refuses : (e : Refusal) {d : ℕ} → d ≡ digit_of e.fault → Tells (Err e) h (at_input_end (recorder_of n h)) → {n' text' : List ℕ} {a : Parted} → EndsRefused d e.place n n' text text' a → Ends n h n' text text' a
+    end_refuses e {d} q T R = end_says d e.place (T.0, T.1, q ∙ ap digit_of T.2 ∙ digit_coded T.0) R

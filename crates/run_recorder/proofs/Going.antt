@@ -11,12 +11,14 @@ use lib.ListN.{length, take, drop, get_or, length-append, length-drop, drop_of_l
 use borrow.Rule.Slice.PartMut.{mid_of, put_mid}
 use borrow.Author.Tests.{le-leb, lt-leb}
 use Rattle.rules.specs.Setup.{S1, S2, S3, S4, Read, got, refused, digit}
+use Rattle.std.proofs.Common.{Result, Option, None, Some}
+use Rattle.setup_sections.specs.declared.Fault.{Fault as Code}
+use Rattle.setup_sections.specs.declared.Fault.TheVariants as code
+use Rattle.setup_sections.specs.declared.Refusal.{Refusal}
+use Rattle.setup_sections.specs.Judging.{digit_of}
 use Rattle.memory_picture.specs.Picture.{Memory}
-use Rattle.memory_running.specs.Running.{running_of}
 use Rattle.check_damage.specs.declared.Breach.{Breach}
-use Rattle.check_damage.specs.Judged.{Judged}
 use Rattle.kernel_steps.specs.Serving.{Known}
-use Rattle.kernel_serving.proofs.Served.{known_first}
 use Rattle.run_reading.specs.Recorded.{Head, read_head, event_bytes, event_in, Item, begins, occurs, refuses}
 use Rattle.run_reading.specs.Recorder.{Recorder, heading, running, stopped, ended, closed, fed, on_head, eat, items, after}
 use Rattle.run_reading.proofs.Division.{items_append, after_append}
@@ -26,7 +28,7 @@ use Rattle.run_text.proofs.Laid.{laid_over}
 use Rattle.run_recorder.specs.declared.Turn.{Turn}
 use Rattle.run_recorder.specs.Running.{Ran}
 use Rattle.run_stream.specs.Lent.{Said, said}
-use Rattle.run_recorder.specs.Recording.{Lent, recorder_in, taken, S5, full, refusal_in, Admits, Parts, Plays, Eats}
+use Rattle.run_recorder.specs.Recording.{Lent, recorder_in, taken, S5, full, refusal_in, said_of, Admits, Parts, Plays, Eats}
 
 -- ---- lists
 
@@ -130,6 +132,12 @@ quiet_behind (refuses f p ∷ a) b q d =
     let y : digit f ≡ 6 = ap (λ (s : Said). s.number) (q full) in
     absurd (omega (arith, x, y))
 
+digit_some : (f : Code) → digit_of f ≢ 0
+digit_some code.S1 e = omega (arith, e)
+digit_some code.S2 e = omega (arith, e)
+digit_some code.S3 e = omega (arith, e)
+digit_some code.S4 e = omega (arith, e)
+
 -- a byte that is not refused does not close the recorder
 stays_open : (r : Recorder) (b : ℕ) → closed r ≡ false → (refusal_in (eat r b).items taken).number ≡ 0 → closed (eat r b).next ≡ false
 unfolding eat
@@ -183,20 +191,20 @@ module _ (bytes : List ℕ) (old : Lent) (text : List ℕ) where
   taken_length T = ap length T.holds ∙ length-append T.lines (drop (length T.lines) text) ∙ omega (arith, length-drop (length T.lines) text, T.count, T.fits)
 
   -- and there was no refusal; it is known whether the state is sound and who runs
-  pub record Going (f : Breach) (me i at : ℕ) (new : Lent) (text' : List ℕ) : Type 0 where
+  pub record Going (k : Result ℕ Breach) (i at : ℕ) (new : Lent) (text' : List ℕ) : Type 0 where
     pub done : Taken i at new text'
     pub quiet : Quiet (so_far i)
     pub is_open : closed (recorder_in old) ≡ false → closed (recorder_in new) ≡ false
-    pub known : Known f me new.memory
+    pub known : Known k new.memory
     pub kept : i ≡ 0 → (new ≡ old) × (text' ≡ text)
 
-  pub going_first : {f : Breach} {me : ℕ} → Judged old.memory.words old.memory.marks f.code f.id → me ≡ running_of old.memory.words → Going f me 0 0 old text
+  pub going_first : {k : Result ℕ Breach} → Known k old.memory → Going k 0 0 old text
   unfolding items after
-  going_first Q e = record {
+  going_first K = record {
     done = record { few = omega arith; recorder = refl; lines = []; ran = (refl, refl); count = refl; fits = omega arith; holds = refl; each = λ o k h. absurd (omega (arith, h)) };
     quiet = λ d. refl;
     is_open = λ o. o;
-    known = known_first old.memory.words old.memory.marks Q e;
+    known = K;
     kept = λ z. (refl, refl);
   }
 
@@ -210,12 +218,12 @@ module _ (bytes : List ℕ) (old : Lent) (text : List ℕ) where
         ap (after (recorder_in old)) (take_next bytes i h) ∙ after_append (recorder_in old) (take i bytes) (b ∷ []) ∙ ap (λ (x : Recorder). (eat x b).next) (sym e),
       )
 
-  module _ {f : Breach} {me i at : ℕ} {new : Lent} {text' : List ℕ} (G : Going f me i at new text') where
+  module _ {k : Result ℕ Breach} {i at : ℕ} {new : Lent} {text' : List ℕ} (G : Going k i at new text') where
     same_text : length text' ≡ length text
     same_text = taken_length G.done
 
     module _ (more : i < length bytes) (room : longest_line ≤ length text' - at) {later : Lent} {tail : List ℕ} {t : Turn}
-        (E : Eats (get_or bytes i 0) f me new later (mid_of at (length text' - at) text') tail t) where
+        (E : Eats (get_or bytes i 0) k new later (mid_of at (length text' - at) text') tail t) where
       within : at ≤ length text'
       within = omega (arith, G.done.fits, same_text)
 
@@ -260,7 +268,7 @@ module _ (bytes : List ℕ) (old : Lent) (text : List ℕ) where
           let n = items_next i more (recorder_in new) G.done.recorder in
           ap (λ (l : List Item). refusal_in l d) n.0 ∙ quiet_behind (so_far i) (eat (recorder_in new) (get_or bytes i 0)).items G.quiet d
 
-      pub goes_on : t.number ≡ 0 → Going t.found t.me (i + 1) (at + t.written) later (put_mid at (length text' - at) text' tail)
+      pub goes_on : t.refusal ≡ None → Going t.known (i + 1) (at + t.written) later (put_mid at (length text' - at) text' tail)
       goes_on z = record {
         done = one_more;
         quiet = λ d. said_next d ∙ none_quiet (eat (recorder_in new) (get_or bytes i 0)).items unrefused d;
@@ -270,15 +278,15 @@ module _ (bytes : List ℕ) (old : Lent) (text : List ℕ) where
       }
         where
           unrefused : (refusal_in (eat (recorder_in new) (get_or bytes i 0)).items taken).number ≡ 0
-          unrefused = sym (ap (λ (s : Said). s.number) played.says) ∙ z
+          unrefused = sym (ap (λ (s : Said). s.number) played.says) ∙ ap (λ (r : Option Refusal). (said_of r).number) z
 
-      pub part_refused : t.number ≢ 0 → closed (recorder_in old) ≡ false → Parts bytes old later text (put_mid at (length text' - at) text' tail) (record { number = t.number; place = t.place; taken = i + 1; written = at + t.written })
-      part_refused z o =
+      pub part_refused : {e : Refusal} → t.refusal ≡ Some e → {d : ℕ} → d ≡ digit_of e.fault → closed (recorder_in old) ≡ false → Parts bytes old later text (put_mid at (length text' - at) text' tail) (record { number = d; place = e.place; taken = i + 1; written = at + t.written })
+      part_refused {e} z {d} w o =
           let D = one_more in
           let l : List Item = (eat (recorder_in new) (get_or bytes i 0)).items in
-          let q = played.says in
-          let some : (refusal_in l taken).number ≢ 0 = λ (e : (refusal_in l taken).number ≡ 0). z (ap (λ (s : Said). s.number) q ∙ e) in
-          let s : refusal_in (so_far (i + 1)) (cond (leb (length bytes) (i + 1)) taken full) ≡ said t.number t.place = said_next _ ∙ some_said l some _ ∙ sym q in
+          let q : said d e.place ≡ refusal_in l taken = ap (λ (n : ℕ). said n e.place) w ∙ sym (ap said_of z) ∙ played.says in
+          let some : (refusal_in l taken).number ≢ 0 = λ (x : (refusal_in l taken).number ≡ 0). let y : digit_of e.fault ≡ 0 = sym w ∙ ap (λ (s : Said). s.number) q ∙ x in digit_some e.fault y in
+          let s : refusal_in (so_far (i + 1)) (cond (leb (length bytes) (i + 1)) taken full) ≡ said d e.place = said_next _ ∙ some_said l some _ ∙ sym q in
           record {
             few = D.few;
             recorder = D.recorder;

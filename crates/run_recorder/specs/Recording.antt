@@ -1,12 +1,14 @@
 -- What `part` and `end` promise of any lent memory.
-use Rattle.std.specs.Prelude.{false, cond, ◌&&◌, List, [], ◌∷◌, ◌++◌, ◌≡◌, ℕ, ◌+◌, ◌≤◌, ◌<◌, leb, length, take}
+use Rattle.std.specs.Prelude.{false, cond, ◌&&◌, List, [], ◌∷◌, ◌++◌, ◌≡◌, ℕ, ◌+◌, ◌≤◌, ◌<◌, leb, length, take, Option, None, Some, Result, Ok}
 use Rattle.rules.specs.Setup.{digit}
 use Rattle.memory_picture.specs.Picture.{Memory}
 use Rattle.check_damage.specs.declared.Breach.{Breach}
 use Rattle.kernel_steps.specs.Serving.{Known}
 use Rattle.run_reading.specs.Recorded.{Item, begins, occurs, refuses}
 use Rattle.run_reading.specs.Recorder.{Recorder, closed, is_ended, ended, eat, items, after, at_input_end}
-use Rattle.run_stream.specs.declared.Completed.{Completed}
+use Rattle.setup_sections.specs.declared.Refusal.{Refusal}
+use Rattle.setup_sections.specs.Judging.{digit_of}
+use Rattle.run_stream.specs.declared.Item.{Item as Completed}
 use Rattle.run_stream.specs.Lent.{recorder_of, Is, Tells, Said, said}
 use Rattle.run_text.specs.Lines.{refusal, longest_line}
 use Rattle.run_text.specs.Output.{over, Wrote}
@@ -98,22 +100,26 @@ pub record Ends (n h n' text text' : List ℕ) (a : Parted) : Type 0 where
 
 -- ---- what the private functions promise
 
--- the items that were told ran, and it is known of the memory what was known before
+abbrev pub said_of : Option Refusal → Said
+said_of None = taken
+said_of (Some e) = said (digit_of e.fault) e.place
+
+-- the items that were told ran, and this is known of the memory then
 pub record Plays (l : List Item) (old new : Memory) (text text' : List ℕ) (t : Turn) : Type 0 where
   pub line : List ℕ
   pub ran : Ran l old line new
   pub wrote : Wrote line 0 text text' t.written
   pub short : t.written ≤ longest_line
-  pub known : Known t.found t.me new
-  pub says : said t.number t.place ≡ refusal_in l taken
+  pub known : Known t.known new
+  pub says : said_of t.refusal ≡ refusal_in l taken
 
-abbrev pub PlaysTold : Completed → List ℕ → Breach → ℕ → Memory → Memory → List ℕ → List ℕ → Turn → Type 0
-PlaysTold c h f me old new text text' t = (l : List Item) → Tells c h l → Known f me old → Plays l old new text text' t
+abbrev pub PlaysTold : Completed → List ℕ → Result ℕ Breach → Memory → Memory → List ℕ → List ℕ → Turn → Type 0
+PlaysTold c h k old new text text' t = (l : List Item) → Tells (Ok c) h l → Known k old → Plays l old new text text' t
 
 -- a byte
-pub record Eats (b : ℕ) (f : Breach) (me : ℕ) (old new : Lent) (text text' : List ℕ) (t : Turn) : Type 0 where
+pub record Eats (b : ℕ) (k : Result ℕ Breach) (old new : Lent) (text text' : List ℕ) (t : Turn) : Type 0 where
   pub next : recorder_in new ≡ (eat (recorder_in old) b).next
-  pub plays : Known f me old.memory → Plays (eat (recorder_in old) b).items old.memory new.memory text text' t
+  pub plays : Known k old.memory → Plays (eat (recorder_in old) b).items old.memory new.memory text text' t
 
 -- a part of a recorder that is not closed
 abbrev pub PartsOpen : List ℕ → Lent → Lent → List ℕ → List ℕ → Parted → Type 0

@@ -3,23 +3,26 @@
 // kernel's memory is checked once in a part.
 #![tactic(auto)]
 
-ghost use Rattle.std.specs.Prelude.{◌≤◌, length};
+ghost use Rattle.std.specs.Prelude.{◌≤◌, length, ℕ, Ok, Result};
 ghost use Rattle.memory_picture.specs.Picture.{memory};
-ghost use Rattle.run_stream.specs.declared.Completed.TheVariants.{Begins, Occurs};
+ghost use Rattle.run_stream.specs.declared.Item.TheVariants.{Begins, Occurs};
+ghost use Rattle.check_damage.specs.declared.Breach.{Breach};
 ghost use Rattle.run_stream.specs.Lent.{Sized};
 ghost use Rattle.run_recorder.specs.Recording.{lent, Parts, Ends, PlaysTold, Eats, PartsOpen, EndsRefused, EndsQuiet};
 
-use check_damage::{Breach, judged};
+use check_damage::Breach;
+use kernel_steps::look;
 use memory_columns::{MESSAGE_WORDS, STATE_WORDS};
 use memory_running::running_task;
 use run_reading::HEAD;
 use run_serving::serve_held;
-use run_stream::{Completed, NUMBERS, at_end, close, is_closed, is_ended, take_byte};
+use run_stream::{Item, NUMBERS, at_end, close, is_closed, is_ended, take_byte};
 use run_text::{LINE, event_line, refusal_line, start_line};
+use setup_sections::Refusal;
 
 // What a part or an end says. Its number: 0 all is taken, or it is the end; 1 to 4 the run's refusal S1 to S4, with its
 // place; 5 (S5) a part or an end that is not taken any more; 6 there is no room for the next line. Then how many bytes
-// of the part were taken, and how many of text were written.
+// of the part were taken, and how many of text were written. The C interface hands it out as it is, so it has numbers.
 #[repr(C)]
 #[derive(Clone, Copy)]
 pub struct Parted {
@@ -38,14 +41,12 @@ const FULL: u32 = 6;
 // of a part that S5 refuses
 const NONE_TAKEN: usize = 0;
 
-// What came of a byte: what is known of the memory now, who runs, how much was written, and the run's refusal, if it was that.
+// What came of a byte: what is known of the memory now, how much was written, and the run's refusal, if it was that.
 #[derive(Clone, Copy)]
 struct Turn {
-    found: Breach,
-    me: u32,
+    known: Result<u32, Breach>,
     written: usize,
-    number: u32,
-    place: usize,
+    refusal: Option<Refusal>,
 }
 
 // ---- items
@@ -56,26 +57,22 @@ fn begins(
     end: usize,
     words: &mut [u32; STATE_WORDS],
     messages: &mut [u32; MESSAGE_WORDS],
-    found: Breach,
-    me: u32,
     text: &mut [u8],
 ) -> Turn
     requires { end ≤ length held.now }
-    ensures { PlaysTold (Begins end) held.now found me
+    ensures { (k : Result ℕ Breach) → PlaysTold (Begins end) held.now k
         (memory words.old messages.old) (memory words.new messages.new)
         text.old text.new result }
 {
     let all = &held[..];
-    kernel_start::start(&all[..end], words, messages);
-    let fresh = judged(words, messages);
-    let runs = running_task(words);
-    let written = start_line(text, runs);
+    // Its setup was judged: it is not refused.
+    let _ = kernel_start::start(&all[..end], words, messages);
+    let fresh = look(words, messages);
+    let written = start_line(text, running_task(words));
     Turn {
-        found: fresh,
-        me: runs,
+        known: fresh,
         written,
-        number: 0,
-        place: 0,
+        refusal: None,
     }
 }
 
@@ -85,82 +82,74 @@ fn occurs(
     i: u32,
     words: &mut [u32; STATE_WORDS],
     messages: &mut [u32; MESSAGE_WORDS],
-    found: Breach,
-    me: u32,
+    known: Result<u32, Breach>,
     text: &mut [u8],
 ) -> Turn
-    ensures { PlaysTold (Occurs i) held.now found me
+    ensures { PlaysTold (Occurs i) held.now known
         (memory words.old messages.old) (memory words.new messages.new)
         text.old text.new result }
 {
-    let r = serve_held(held, words, messages, found, me);
+    let r = serve_held(held, words, messages, known);
     let written = event_line(text, i, r.code, r.w1, r.w2, r.running, r.released);
     Turn {
-        found,
-        me: r.running,
+        known: known.and(Ok(r.running)),
         written,
-        number: 0,
-        place: 0,
+        refusal: None,
     }
 }
 
 // What a byte completed is done.
 fn play_item(
-    item: Completed,
+    item: Item,
     held: &[u8; HEAD],
     words: &mut [u32; STATE_WORDS],
     messages: &mut [u32; MESSAGE_WORDS],
-    found: Breach,
-    me: u32,
+    known: Result<u32, Breach>,
     text: &mut [u8],
 ) -> Turn
-    requires { Sized item held.now }
-    ensures { PlaysTold item held.now found me (memory words.old messages.old)
+    requires { Sized (Ok item) held.now }
+    ensures { PlaysTold item held.now known (memory words.old messages.old)
         (memory words.new messages.new) text.old text.new result }
 {
     match item {
-        Completed::Nothing => Turn {
-            found,
-            me,
+        Item::Nothing => Turn {
+            known,
             written: 0,
-            number: 0,
-            place: 0,
+            refusal: None,
         },
-        Completed::Begins(end) => begins(held, end, words, messages, found, me, text),
-        Completed::Occurs(i) => occurs(held, i, words, messages, found, me, text),
-        Completed::Refuses(fault, place) => {
-            let written = refusal_line(text, fault, place);
-            Turn {
-                found,
-                me,
-                written,
-                number: fault,
-                place,
-            }
-        }
+        Item::Begins(end) => begins(held, end, words, messages, text),
+        Item::Occurs(i) => occurs(held, i, words, messages, known, text),
     }
 }
 
 // ---- a part
 
-// One byte: what it completes is done. It is known whether the state is sound and who runs.
+// One byte: what it completes is done. It is known of the memory who runs, or what is broken.
 fn step(
     numbers: &mut [u32; NUMBERS],
     held: &mut [u8; HEAD],
     words: &mut [u32; STATE_WORDS],
     messages: &mut [u32; MESSAGE_WORDS],
-    found: Breach,
-    me: u32,
+    known: Result<u32, Breach>,
     b: u8,
     text: &mut [u8],
 ) -> Turn
-    ensures { Eats b found me
+    ensures { Eats b known
         (lent numbers.old held.old (memory words.old messages.old))
         (lent numbers.new held.new (memory words.new messages.new)) text.old
         text.new result }
 {
-    let item = take_byte(numbers, held, b);
-    play_item(item, held, words, messages, found, me, text)
+    match take_byte(numbers, held, b) {
+        Ok(item) => play_item(item, held, words, messages, known, text),
+        Err(refusal) => {
+            let written = refusal_line(text, u32::from(refusal.fault), refusal.place);
+            Turn {
+                known,
+                written,
+                refusal: Some(refusal),
+            }
+        }
+    }
 }
 
 // The bytes of a part one after the other, as long as there is room for a line, up to a refusal.
@@ -177,11 +166,9 @@ fn take_part(
         (lent numbers.new held.new (memory words.new messages.new)) text.old
         text.new result }
 {
-    let mut found = judged(words, messages);
-    let mut me = running_task(words);
-    let mut i: usize = 0;
+    let mut known = look(words, messages);
     let mut at: usize = 0;
-    while i < bytes.len() {
+    for (i, b) in bytes.iter().enumerate() {
         if text.len() - at < LINE {
             return Parted {
                 number: FULL,
@@ -190,34 +177,22 @@ fn take_part(
                 written: at,
             };
         }
-        let t = step(
-            numbers,
-            held,
-            words,
-            messages,
-            found,
-            me,
-            bytes[i],
-            &mut text[at..],
-        );
-        i += 1;
+        let t = step(numbers, held, words, messages, known, *b, &mut text[at..]);
         at += t.written;
-        if t.number != 0 {
+        if let Some(refusal) = t.refusal {
             return Parted {
-                number: t.number,
-                place: t.place,
-                taken: i,
+                number: u32::from(refusal.fault),
+                place: refusal.place,
+                taken: i + 1,
                 written: at,
             };
         }
-        let known = t.found;
-        found = known;
-        me = t.me;
+        known = t.known;
     }
     Parted {
         number: TAKEN,
         place: 0,
-        taken: i,
+        taken: bytes.len(),
         written: at,
     }
 }
@@ -308,9 +283,7 @@ pub fn end(numbers: &mut [u32; NUMBERS], held: &[u8; HEAD], text: &mut [u8]) -> 
         };
     }
     match at_end(numbers, held) {
-        Completed::Refuses(fault, place) => end_refused(numbers, text, fault, place),
-        Completed::Nothing => end_quiet(numbers),
-        Completed::Begins(_) => end_quiet(numbers),
-        Completed::Occurs(_) => end_quiet(numbers),
+        Err(refusal) => end_refused(numbers, text, u32::from(refusal.fault), refusal.place),
+        Ok(_) => end_quiet(numbers),
     }
 }

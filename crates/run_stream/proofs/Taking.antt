@@ -9,17 +9,18 @@ use native.Mathlib.Numerals.{add-one}
 use lib.Dec.{leb}
 use lib.ListN.{length, take, set, length-take}
 use borrow.Author.Tests.{le-leb, lt-leb}
-use Rattle.rules.specs.Setup.{Fault, S1, S2, S3, S4, digit, Read, got, refused, word_at}
+use Rattle.rules.specs.Setup.{Fault, S1, S2, S3, S4, Read, got, refused, word_at}
 use Rattle.rules.proofs.Accepted.{from_read}
-use Rattle.setup_sections.specs.Judging.{judged_of}
-use Rattle.setup_sections.specs.declared.Judged.{Judged}
-use Rattle.setup_sections.specs.declared.Judged.TheVariants.{Bad, Good}
+use Rattle.std.specs.Prelude.{Result, Ok, Err}
+use Rattle.setup_sections.specs.Judging.{coded, refusal, judged_of}
+use Rattle.setup_sections.specs.declared.Fault.TheVariants as code
+use Rattle.setup_sections.specs.declared.Refusal.{Refusal}
 use Rattle.setup_sections.proofs.Judging.{good_read, bad_read}
 use Rattle.run_reading.specs.Recorded.{head_bytes, event_bytes, event_in, Head, read_head, begins, occurs, refuses}
 use Rattle.run_reading.specs.Recorder.{heading, running, stopped, ended, begun, closed, is_ended, Fed, fed, on_fault, on_head, eat, on_end, at_input_end}
 use Rattle.run_reading.proofs.Reach.{setup_prefix, needs_more, Parts, head_parts}
-use Rattle.run_stream.specs.declared.Completed.{Completed}
-use Rattle.run_stream.specs.declared.Completed.TheVariants.{Nothing, Begins, Occurs, Refuses}
+use Rattle.run_stream.specs.declared.Item.{Item as Completed}
+use Rattle.run_stream.specs.declared.Item.TheVariants.{Nothing, Begins, Occurs}
 use Rattle.run_stream.specs.Lent.{phase, size, total, done, base, place_of, numbers_of, held_of, by_phase, recorder_of, Is, Tells, Takes}
 
 -- ---- lists
@@ -80,21 +81,21 @@ ended_is n e h = rw e
 
 -- ---- setup and count
 
--- S1 alone has digit 1
-fault_one : (f : Fault) → digit f ≡ 1 → f ≡ S1
+-- S1 alone is told as S1
+fault_one : (f : Fault) → coded f ≡ code.S1 → f ≡ S1
 fault_one S1 e = refl
-fault_one S2 e = absurd (omega (arith, e))
-fault_one S3 e = absurd (omega (arith, e))
-fault_one S4 e = absurd (omega (arith, e))
+fault_one S2 e = absurd (let z : ◌≡◌ {A = ℕ} 0 1 = cc in omega arith)
+fault_one S3 e = absurd (let z : ◌≡◌ {A = ℕ} 0 1 = cc in omega arith)
+fault_one S4 e = absurd (let z : ◌≡◌ {A = ℕ} 0 1 = cc in omega arith)
 
-fault_final : (l : List ℕ) (f : Fault) (p : ℕ) → digit f ≢ 1 → on_fault l f p ≡ fed stopped (refuses f p ∷ [])
+fault_final : (l : List ℕ) (f : Fault) (p : ℕ) → coded f ≢ code.S1 → on_fault l f p ≡ fed stopped (refuses f p ∷ [])
 fault_final l S1 p h = absurd (h refl)
 fault_final l S2 p h = refl
 fault_final l S3 p h = refl
 fault_final l S4 p h = refl
 
 -- the count stands behind the setup, within the bytes
-pub good_sizes : (s : List ℕ) {j : Judged} → j ≡ judged_of (read_head s) → (i : ℕ) → j ≡ Good i → (4 ≤ i) × (i ≤ length s)
+pub good_sizes : (s : List ℕ) {j : Result ℕ Refusal} → j ≡ judged_of (read_head s) → (i : ℕ) → j ≡ Ok i → (4 ≤ i) × (i ≤ length s)
 good_sizes s q i z =
     let r = good_read (read_head s) i (sym q ∙ z) in
     let P : Parts s r.0 i = from_read (Parts s) (read_head s) r.0 i r.1 (head_parts s) in
@@ -112,32 +113,32 @@ module _ (n h h' : List ℕ) (b : ℕ) (e : phase n ≡ 0) (k : ℕ) (few : k �
   unfolding eat
   eaten = rw (is_heading n h e, ← few, ← held)
 
-  pub head_more : {j : Judged} → j ≡ judged_of (read_head (take (k + 1) h')) → (d i : ℕ) → j ≡ Bad d i → d ≡ 1 → Takes b n h Nothing (numbers_of 0 (k + 1) 0 0 0) h'
+  pub head_more : {j : Result ℕ Refusal} → j ≡ judged_of (read_head (take (k + 1) h')) → (d : Refusal) → j ≡ Err d → d.fault ≡ code.S1 → Takes b n h (Ok Nothing) (numbers_of 0 (k + 1) 0 0 0) h'
   unfolding recorder_of front
-  head_more q d i z w =
-      let r = bad_read (read_head front) d i (sym q ∙ z) in
-      let s : read_head front ≡ refused S1 i = r.1 ∙ ap (λ (f : Fault). refused f i) (fault_one r.0 (sym r.2 ∙ w)) in
-      let l : length front < head_bytes = needs_more front i s in
+  head_more q d z w =
+      let r = bad_read (read_head front) d (sym q ∙ z) in
+      let s : read_head front ≡ refused S1 d.place = r.1 ∙ ap (λ (f : Fault). refused f d.place) (fault_one r.0 (sym r.2 ∙ w)) in
+      let l : length front < head_bytes = needs_more front d.place s in
       let m : min (k + 1) (head_bytes - 1) ≡ k + 1 = omega (arith, l, front_length) in
       let g : eat (recorder_of n h) b ≡ fed (heading front) [] = eaten ∙ rw s in
       record { next = rw m (sym (ap (λ (x : Fed). x.next) g)); tells = ap (λ (x : Fed). x.items) g; sized = tt }
 
-  pub head_refused : {j : Judged} → j ≡ judged_of (read_head (take (k + 1) h')) → (d i : ℕ) → j ≡ Bad d i → d ≢ 1 → Takes b n h (Refuses d i) (numbers_of 2 0 0 0 0) h'
+  pub head_refused : {j : Result ℕ Refusal} → j ≡ judged_of (read_head (take (k + 1) h')) → (d : Refusal) → j ≡ Err d → d.fault ≢ code.S1 → Takes b n h (Err d) (numbers_of 2 0 0 0 0) h'
   unfolding recorder_of front
-  head_refused q d i z w =
-      let r = bad_read (read_head front) d i (sym q ∙ z) in
-      let g : eat (recorder_of n h) b ≡ fed stopped (refuses r.0 i ∷ []) =
-      eaten ∙ ap (λ (y : Read Head). on_head front y) r.1 ∙ fault_final front r.0 i (λ (x : digit r.0 ≡ 1). w (r.2 ∙ x)) in
+  head_refused q d z w =
+      let r = bad_read (read_head front) d (sym q ∙ z) in
+      let g : eat (recorder_of n h) b ≡ fed stopped (refuses r.0 d.place ∷ []) =
+      eaten ∙ ap (λ (y : Read Head). on_head front y) r.1 ∙ fault_final front r.0 d.place (λ (x : coded r.0 ≡ code.S1). w (r.2 ∙ x)) in
       record { next = sym (ap (λ (x : Fed). x.next) g); tells = (r.0, ap (λ (x : Fed). x.items) g, r.2); sized = tt }
 
-  module _ {j : Judged} (q : j ≡ judged_of (read_head (take (k + 1) h'))) (i : ℕ) (z : j ≡ Good i) where
+  module _ {j : Result ℕ Refusal} (q : j ≡ judged_of (read_head (take (k + 1) h'))) (i : ℕ) (z : j ≡ Ok i) where
     abbrev read : (x : Head) × (read_head (take (k + 1) h') ≡ got x i)
     read = good_read (read_head (take (k + 1) h')) i (sym q ∙ z)
 
     parts : Parts (take (k + 1) h') read.0 i
     parts = from_read (Parts (take (k + 1) h')) (read_head (take (k + 1) h')) read.0 i read.1 (head_parts (take (k + 1) h'))
 
-    pub head_begins : (events : ℕ) → events ≡ word_at (take (k + 1) h') (i - 4) → Takes b n h (Begins (i - 4)) (numbers_of 1 0 events 0 i) h'
+    pub head_begins : (events : ℕ) → events ≡ word_at (take (k + 1) h') (i - 4) → Takes b n h (Ok (Begins (i - 4))) (numbers_of 1 0 events 0 i) h'
     unfolding recorder_of front
     head_begins events c =
         let P = parts in
@@ -156,7 +157,7 @@ module _ (n h h' : List ℕ) (b : ℕ) (e : phase n ≡ 0) (k : ℕ) (few : k �
 -- ---- events
 
 module _ (n h : List ℕ) (b : ℕ) (e : phase n ≡ 1) where
-  pub event_left_over : total n ≤ done n → {p : ℕ} → p ≡ place_of n → Takes b n h (Refuses 4 p) (numbers_of 2 0 0 0 0) h
+  pub event_left_over : total n ≤ done n → {p : ℕ} → p ≡ place_of n → Takes b n h (Err (refusal S4 p)) (numbers_of 2 0 0 0 0) h
   unfolding recorder_of eat
   event_left_over l {p} q =
       let z : total n - done n ≡ 0 = omega (arith, l) in
@@ -181,14 +182,14 @@ module _ (n h : List ℕ) (b : ℕ) (e : phase n ≡ 1) where
     unfolding eat
     grown = rw (is_running n h e, some, ← few, ← held, long)
 
-    pub event_more : k + 1 < event_bytes → Takes b n h Nothing (numbers_of 1 (k + 1) (total n) (done n) (base n)) h'
+    pub event_more : k + 1 < event_bytes → Takes b n h (Ok Nothing) (numbers_of 1 (k + 1) (total n) (done n) (base n)) h'
     unfolding recorder_of
     event_more c =
         let g : eat (recorder_of n h) b ≡ fed (running (suc next) (suc (done n)) (place_of n) (take (k + 1) h')) [] = grown ∙ rw (lt-leb event_bytes (k + 1) c) in
         let m : min (k + 1) (event_bytes - 1) ≡ k + 1 = omega (arith, c) in
         record { next = rw (m, some) (sym (ap (λ (x : Fed). x.next) g)); tells = ap (λ (x : Fed). x.items) g; sized = tt }
 
-    pub event_whole : event_bytes ≤ k + 1 → {i : ℕ} → i ≡ done n + 1 → Takes b n h (Occurs i) (numbers_of 1 0 (total n) i (base n)) h'
+    pub event_whole : event_bytes ≤ k + 1 → {i : ℕ} → i ≡ done n + 1 → Takes b n h (Ok (Occurs i)) (numbers_of 1 0 (total n) i (base n)) h'
     unfolding recorder_of next
     event_whole c {i} a =
         let j : k + 1 ≡ event_bytes = omega (arith, c, few) in
@@ -201,17 +202,17 @@ module _ (n h : List ℕ) (b : ℕ) (e : phase n ≡ 1) where
 
 -- ---- a recorder that is closed, and the end
 
-pub closed_byte : (n h : List ℕ) (b : ℕ) → phase n ≢ 0 → phase n ≢ 1 → Takes b n h Nothing n h
+pub closed_byte : (n h : List ℕ) (b : ℕ) → phase n ≢ 0 → phase n ≢ 1 → Takes b n h (Ok Nothing) n h
 unfolding recorder_of eat
 closed_byte n h b x y = go (phase n) refl
   where
-    go : (p : ℕ) → phase n ≡ p → Takes b n h Nothing n h
+    go : (p : ℕ) → phase n ≡ p → Takes b n h (Ok Nothing) n h
     go zero e = absurd (x e)
     go (suc zero) e = absurd (y e)
     go (suc (suc zero)) e = record { next = rw e; tells = rw e; sized = tt }
     go (suc (suc (suc k))) e = record { next = rw e; tells = rw e; sized = tt }
 
-pub closed_end : (n h : List ℕ) → phase n ≢ 0 → phase n ≢ 1 → Tells Nothing h (at_input_end (recorder_of n h))
+pub closed_end : (n h : List ℕ) → phase n ≢ 0 → phase n ≢ 1 → Tells (Ok Nothing) h (at_input_end (recorder_of n h))
 unfolding recorder_of at_input_end
 closed_end n h x y = go (phase n) refl
   where
@@ -221,32 +222,33 @@ closed_end n h x y = go (phase n) refl
     go (suc (suc zero)) e = rw e
     go (suc (suc (suc k))) e = rw e
 
-module _ (n h : List ℕ) (e : phase n ≡ 0) {k : ℕ} (few : k ≡ min (size n) (head_bytes - 1)) {j : Judged} (q : j ≡ judged_of (read_head (take k h))) where
+module _ (n h : List ℕ) (e : phase n ≡ 0) {k : ℕ} (few : k ≡ min (size n) (head_bytes - 1)) {j : Result ℕ Refusal} (q : j ≡ judged_of (read_head (take k h))) where
   ends : at_input_end (recorder_of n h) ≡ on_end (read_head (take k h))
   unfolding at_input_end
   ends = rw (is_heading n h e, ← few)
 
-  pub head_end_refused : (d i : ℕ) → j ≡ Bad d i → Tells (Refuses d i) h (at_input_end (recorder_of n h))
-  head_end_refused d i z =
-      let r = bad_read (read_head (take k h)) d i (sym q ∙ z) in
+  pub head_end_refused : (d : Refusal) → j ≡ Err d → Tells (Err d) h (at_input_end (recorder_of n h))
+  head_end_refused d z =
+      let r = bad_read (read_head (take k h)) d (sym q ∙ z) in
       (r.0, ends ∙ ap (λ (y : Read Head). on_end y) r.1, r.2)
 
-  pub head_end_whole : (i : ℕ) → j ≡ Good i → Tells Nothing h (at_input_end (recorder_of n h))
+  pub head_end_whole : (i : ℕ) → j ≡ Ok i → Tells (Ok Nothing) h (at_input_end (recorder_of n h))
   head_end_whole i z =
       let r = good_read (read_head (take k h)) i (sym q ∙ z) in
       ends ∙ ap (λ (y : Read Head). on_end y) r.1
 
 module _ (n h : List ℕ) (e : phase n ≡ 1) where
-  pub event_end_none : total n ≤ done n → Tells Nothing h (at_input_end (recorder_of n h))
+  pub event_end_none : total n ≤ done n → Tells (Ok Nothing) h (at_input_end (recorder_of n h))
   unfolding at_input_end
   event_end_none l = let z : total n - done n ≡ 0 = omega (arith, l) in rw (is_running n h e, z)
 
-  pub event_end_short : done n < total n → {k p : ℕ} → k ≡ min (size n) (event_bytes - 1) → p ≡ place_of n → Tells (Refuses 1 (p + 4 * (length (take k h) / 4))) h (at_input_end (recorder_of n h))
+  pub event_end_short : done n < total n → {k p : ℕ} → k ≡ min (size n) (event_bytes - 1) → k ≤ length h → p ≡ place_of n → Tells (Err (refusal S1 (p + 4 * (k / 4)))) h (at_input_end (recorder_of n h))
   unfolding at_input_end
-  event_end_short l {k} {p} few q =
+  event_end_short l {k} {p} few room q =
       let z : total n - done n ≡ suc (total n - (done n + 1)) = omega (arith, l) in
-      (S1, rw (is_running n h e, z, ← few, q), refl)
+      let m : length (take k h) ≡ k = length-take k h ∙ omega (arith, room) in
+      (S1, rw (is_running n h e, z, ← few, q, m), refl)
 
 -- the numbers that were written
-pub takes_with : {b : ℕ} {n h : List ℕ} {t : Completed} {n' m h' : List ℕ} → m ≡ n' → Takes b n h t n' h' → Takes b n h t m h'
+pub takes_with : {b : ℕ} {n h : List ℕ} {t : Result Completed Refusal} {n' m h' : List ℕ} → m ≡ n' → Takes b n h t n' h' → Takes b n h t m h'
 takes_with e T = rw e T

@@ -1,10 +1,12 @@
 -- A recorder as five numbers and the bytes held: any of them are a value. What the functions of src/lib.rt tell of an item.
-use Rattle.std.specs.Prelude.{Bool, List, [], ◌∷◌, ◌≡◌, ℕ, zero, suc, ◌+◌, ◌-◌, ◌*◌, ◌≤◌, min, length, take, get_or}
-use Rattle.rules.specs.Setup.{Fault, digit, got, setup}
+use Rattle.std.specs.Prelude.{Bool, List, [], ◌∷◌, ◌≡◌, ℕ, zero, suc, ◌+◌, ◌-◌, ◌*◌, ◌≤◌, min, length, take, get_or, Result, Ok, Err}
+use Rattle.rules.specs.Setup.{Fault, got, setup}
 use Rattle.run_reading.specs.Recorded.{head_bytes, event_bytes, event_in, Head, Item, begins, occurs, refuses}
 use Rattle.run_reading.specs.Recorder.{Recorder, heading, running, stopped, ended, eat}
-use Rattle.run_stream.specs.declared.Completed.{Completed}
-use Rattle.run_stream.specs.declared.Completed.TheVariants.{Nothing, Begins, Occurs, Refuses}
+use Rattle.setup_sections.specs.Judging.{coded}
+use Rattle.setup_sections.specs.declared.Refusal.{Refusal}
+use Rattle.run_stream.specs.declared.Item.{Item as Completed}
+use Rattle.run_stream.specs.declared.Item.TheVariants.{Nothing, Begins, Occurs}
 
 -- ---- the numbers
 
@@ -57,22 +59,22 @@ Tests f n t = (h : List ℕ) → t ≡ f (recorder_of n h)
 
 -- ---- items
 
--- Nothing is completed; the setup's bytes are the first of those held, so many; the bytes of the event are the first of those held; a fault by its digit
-abbrev pub Tells : Completed → List ℕ → List Item → Type 0
-Tells Nothing h l = l ≡ []
-Tells (Begins end) h l = (x : Head) × (l ≡ begins x ∷ []) × (setup (take end h) ≡ got x.setup end)
-Tells (Occurs i) h l = l ≡ occurs i (event_in (take event_bytes h)) ∷ []
-Tells (Refuses d place) h l = (f : Fault) × (l ≡ refuses f place ∷ []) × (d ≡ digit f)
+-- Nothing is completed; the setup's bytes are the first of those held, so many; the bytes of the event are the first of those held; a fault
+abbrev pub Tells : Result Completed Refusal → List ℕ → List Item → Type 0
+Tells (Ok Nothing) h l = l ≡ []
+Tells (Ok (Begins end)) h l = (x : Head) × (l ≡ begins x ∷ []) × (setup (take end h) ≡ got x.setup end)
+Tells (Ok (Occurs i)) h l = l ≡ occurs i (event_in (take event_bytes h)) ∷ []
+Tells (Err e) h l = (f : Fault) × (l ≡ refuses f e.place ∷ []) × (e.fault ≡ coded f)
 
 -- the setup's bytes are among those held
-abbrev pub Sized : Completed → List ℕ → Type 0
-Sized Nothing h = Unit {0}
-Sized (Begins end) h = end ≤ length h
-Sized (Occurs i) h = Unit {0}
-Sized (Refuses d place) h = Unit {0}
+abbrev pub Sized : Result Completed Refusal → List ℕ → Type 0
+Sized (Ok Nothing) h = Unit {0}
+Sized (Ok (Begins end)) h = end ≤ length h
+Sized (Ok (Occurs i)) h = Unit {0}
+Sized (Err e) h = Unit {0}
 
 -- a byte was taken: the recorder is the next one, and its items are told
-pub record Takes (b : ℕ) (n h : List ℕ) (t : Completed) (n' h' : List ℕ) : Type 0 where
+pub record Takes (b : ℕ) (n h : List ℕ) (t : Result Completed Refusal) (n' h' : List ℕ) : Type 0 where
   pub next : recorder_of n' h' ≡ (eat (recorder_of n h) b).next
   pub tells : Tells t h' (eat (recorder_of n h) b).items
   pub sized : Sized t h'

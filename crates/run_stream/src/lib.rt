@@ -8,7 +8,7 @@ ghost use Rattle.run_reading.specs.Recorder.{ended, begun, closed, is_ended, at_
 ghost use Rattle.run_stream.specs.Lent.{phase, size, place_of, numbers_of, recorder_of, Is, Tests, Tells, Takes};
 
 use run_reading::{EVENT, HEAD, judge_head};
-use setup_sections::{Judged, word};
+use setup_sections::{Fault, Refusal, word};
 
 // The numbers: phase, bytes held, events in all, events done, place of the first event.
 pub const NUMBERS: usize = 5;
@@ -23,7 +23,7 @@ const DONE: usize = 3;
 
 const BASE: usize = 4;
 
-// The phases; any greater number is ended, too.
+// The phases; any greater number is ended, too. Numbers and no enum: the caller lends them, and they may hold anything.
 const HEADING: u32 = 0;
 
 const RUNNING: u32 = 1;
@@ -32,21 +32,15 @@ const STOPPED: u32 = 2;
 
 const ENDED: u32 = 3;
 
-// The fault of bytes that end too early, and of bytes left over, by the papers' names.
-const S1: u32 = 1;
-
-const S4: u32 = 4;
-
 // The bytes of a word, and so of the count of events.
 const WORD: usize = 4;
 
-// What a byte, or the end, completes: the setup and the count, with the setup's length; an event by its number; a refusal, fault and place.
+// What a byte, or the end, completes, where it is not refused: the setup and the count, with the setup's length; an event by its number.
 #[derive(Clone, Copy)]
-pub enum Completed {
+pub enum Item {
     Nothing,
     Begins(usize),
     Occurs(u32),
-    Refuses(u32, usize),
 }
 
 // ---- the numbers
@@ -57,37 +51,23 @@ fn write(numbers: &mut [u32; NUMBERS], phase: u32, size: u32, total: u32, done: 
     *numbers = [phase, size, total, done, base];
 }
 
-fn wide(x: u32) -> usize
-    ensures { (result ≡ x) × (result ≤ 4294967295) }
-{
-    x as usize
-}
-
-// The number behind one that is below a word.
-fn succ(x: u32, below: u32) -> u32
-    requires { x < below }
-    ensures { result ≡ x + 1 }
-{
-    x + 1
-}
-
 // How many bytes are held, fewer than `most`.
 fn held_count(numbers: &[u32; NUMBERS], most: usize) -> usize
     requires { 1 ≤ most }
     ensures { (result ≡ min (size numbers.now) (most - 1)) × (result < most) }
 {
-    let n = wide(numbers[SIZE]);
-    if n < most { n } else { most - 1 }
+    (numbers[SIZE] as usize).min(most - 1)
 }
 
 // The place of the next event.
-fn place(numbers: &[u32; NUMBERS]) -> usize
+fn place_of_next(numbers: &[u32; NUMBERS]) -> usize
     ensures { (result ≡ place_of numbers.now) × (result ≤ 100000000000) }
 {
-    wide(numbers[BASE]) + EVENT * wide(numbers[DONE])
+    numbers[BASE] as usize + EVENT * numbers[DONE] as usize
 }
 
 // Is nothing more taken?
+#[tactic(auto, using(crate::proofs::Taking::closed_tests))]
 pub fn is_closed(numbers: &[u32; NUMBERS]) -> bool
     ensures { Tests closed numbers.now result }
 {
@@ -95,6 +75,7 @@ pub fn is_closed(numbers: &[u32; NUMBERS]) -> bool
 }
 
 // Has the end come?
+#[tactic(auto, using(crate::proofs::Taking::ended_tests))]
 pub fn is_ended(numbers: &[u32; NUMBERS]) -> bool
     ensures { Tests is_ended numbers.now result }
 {
@@ -102,6 +83,7 @@ pub fn is_ended(numbers: &[u32; NUMBERS]) -> bool
 }
 
 // A recorder that has taken nothing, whatever bytes are held.
+#[tactic(auto, using(crate::proofs::Taking::begun_is))]
 pub fn begin(numbers: &mut [u32; NUMBERS])
     ensures { Is numbers.new begun }
 {
@@ -109,6 +91,7 @@ pub fn begin(numbers: &mut [u32; NUMBERS])
 }
 
 // The end has come.
+#[tactic(auto, using(crate::proofs::Taking::ended_is))]
 pub fn close(numbers: &mut [u32; NUMBERS])
     ensures { Is numbers.new ended }
 {
@@ -118,6 +101,7 @@ pub fn close(numbers: &mut [u32; NUMBERS])
 // ---- a byte
 
 // One byte more is held.
+#[tactic(auto, using(crate::proofs::Taking::take_set))]
 fn hold(held: &mut [u8], n: usize, b: u8)
     requires { n < length held.old }
     ensures { take (n + 1) held.new ≡ take n held.old ++ (b ∷ []) }
@@ -126,33 +110,32 @@ fn hold(held: &mut [u8], n: usize, b: u8)
 }
 
 // A byte of the setup or of the count.
-fn head_byte(numbers: &mut [u32; NUMBERS], held: &mut [u8; HEAD], b: u8) -> Completed
+fn head_byte(numbers: &mut [u32; NUMBERS], held: &mut [u8; HEAD], b: u8) -> Result<Item, Refusal>
     requires { phase numbers.old ≡ 0 }
     ensures { Takes b numbers.old held.old result numbers.new held.new }
 {
     let n = held_count(numbers, HEAD);
     hold(held, n, b);
-    let all = &held[..];
-    let front = &all[..n + 1];
+    let front = &held[..n + 1];
     match judge_head(front) {
-        Judged::Bad(d, i) => {
-            if d == S1 {
-                write(numbers, HEADING, n as u32 + 1, 0, 0, 0);
-                return Completed::Nothing;
-            }
-            write(numbers, STOPPED, 0, 0, 0, 0);
-            Completed::Refuses(d, i)
-        }
-        Judged::Good(i) => {
+        Ok(i) => {
             let events = word(front, i - WORD);
             write(numbers, RUNNING, 0, events, 0, i as u32);
-            Completed::Begins(i - WORD)
+            Ok(Item::Begins(i - WORD))
+        }
+        Err(r) if r.fault == Fault::S1 => {
+            write(numbers, HEADING, n as u32 + 1, 0, 0, 0);
+            Ok(Item::Nothing)
+        }
+        Err(r) => {
+            write(numbers, STOPPED, 0, 0, 0, 0);
+            Err(r)
         }
     }
 }
 
 // A byte of an event, or behind the last one.
-fn event_byte(numbers: &mut [u32; NUMBERS], held: &mut [u8; HEAD], b: u8) -> Completed
+fn event_byte(numbers: &mut [u32; NUMBERS], held: &mut [u8; HEAD], b: u8) -> Result<Item, Refusal>
     requires { phase numbers.old ≡ 1 }
     ensures { Takes b numbers.old held.old result numbers.new held.new }
 {
@@ -160,70 +143,75 @@ fn event_byte(numbers: &mut [u32; NUMBERS], held: &mut [u8; HEAD], b: u8) -> Com
     let done = numbers[DONE];
     let base = numbers[BASE];
     if total <= done {
-        let p = place(numbers);
+        let place = place_of_next(numbers);
         write(numbers, STOPPED, 0, 0, 0, 0);
-        return Completed::Refuses(S4, p);
+        return Err(Refusal {
+            fault: Fault::S4,
+            place,
+        });
     }
     let n = held_count(numbers, EVENT);
     hold(held, n, b);
     if n + 1 < EVENT {
         write(numbers, RUNNING, n as u32 + 1, total, done, base);
-        return Completed::Nothing;
+        return Ok(Item::Nothing);
     }
-    let number = succ(done, total);
+    let number = done + 1;
     write(numbers, RUNNING, 0, total, number, base);
-    Completed::Occurs(number)
+    Ok(Item::Occurs(number))
 }
 
 // The next byte.
-pub fn take_byte(numbers: &mut [u32; NUMBERS], held: &mut [u8; HEAD], b: u8) -> Completed
+pub fn take_byte(
+    numbers: &mut [u32; NUMBERS],
+    held: &mut [u8; HEAD],
+    b: u8,
+) -> Result<Item, Refusal>
     ensures { Takes b numbers.old held.old result numbers.new held.new }
 {
     let phase = numbers[PHASE];
     match phase {
         HEADING => head_byte(numbers, held, b),
         RUNNING => event_byte(numbers, held, b),
-        _ => Completed::Nothing,
+        _ => Ok(Item::Nothing),
     }
 }
 
 // ---- the end
 
 // In the setup or the count.
-fn head_end(numbers: &[u32; NUMBERS], held: &[u8; HEAD]) -> Completed
+fn head_end(numbers: &[u32; NUMBERS], held: &[u8; HEAD]) -> Result<Item, Refusal>
     requires { phase numbers.now ≡ 0 }
     ensures { Tells result held.now (at_input_end (recorder_of numbers.now held.now)) }
 {
     let n = held_count(numbers, HEAD);
-    let all = &held[..];
-    match judge_head(&all[..n]) {
-        Judged::Bad(d, i) => Completed::Refuses(d, i),
-        Judged::Good(_) => Completed::Nothing,
-    }
+    judge_head(&held[..n])?;
+    Ok(Item::Nothing)
 }
 
 // In an event, or behind the last one.
-fn event_end(numbers: &[u32; NUMBERS], held: &[u8; HEAD]) -> Completed
+fn event_end(numbers: &[u32; NUMBERS], held: &[u8; HEAD]) -> Result<Item, Refusal>
     requires { phase numbers.now ≡ 1 }
     ensures { Tells result held.now (at_input_end (recorder_of numbers.now held.now)) }
 {
     if numbers[TOTAL] <= numbers[DONE] {
-        return Completed::Nothing;
+        return Ok(Item::Nothing);
     }
     let n = held_count(numbers, EVENT);
-    let all = &held[..];
-    let front = &all[..n];
-    Completed::Refuses(S1, place(numbers) + WORD * (front.len() / WORD))
+    Err(Refusal {
+        fault: Fault::S1,
+        place: place_of_next(numbers) + WORD * (n / WORD),
+    })
 }
 
 // What the end of the input completes: S1, where more was to come.
-pub fn at_end(numbers: &[u32; NUMBERS], held: &[u8; HEAD]) -> Completed
+pub fn at_end(numbers: &[u32; NUMBERS], held: &[u8; HEAD]) -> Result<Item, Refusal>
     ensures { Tells result held.now (at_input_end (recorder_of numbers.now held.now)) }
 {
     let phase = numbers[PHASE];
     match phase {
         HEADING => head_end(numbers, held),
         RUNNING => event_end(numbers, held),
-        _ => Completed::Nothing,
+        _ => Ok(Item::Nothing),
     }
 }

@@ -1,13 +1,15 @@
 -- Tables row by row, from a place on; the place of a code. Assumes nothing.
-use mathlib.Core.Bool.{Bool, cond}
 use mathlib.Core.List.{List, [], ◌∷◌}
 use mathlib.Core.Path.{◌≡◌, refl, sym, ap, ◌∙◌}
-use Prim.Native.Nat.{ℕ, zero, suc, ◌+◌, ◌≤◌, ◌<◌}
+use Prim.Native.Nat.{ℕ, zero, suc, ◌+◌, ◌-◌, ◌≤◌, ◌<◌}
 use native.Mathlib.Omega.{arith}
-use lib.IntN.{ℤ, pos}
-use lib.ListN.{length, get_or, set, drop}
+use lib.IntN.{ℤ}
+use lib.ListN.{length, get_or, set, take}
 use borrow.Author.Tests.{lt-ltb, le-ltb}
 use native.Mathlib.Numerals.{add-one}
+use borrow.Rule.Slice.PartMut.{put_mid}
+use Rattle.std.proofs.lemmas.List.{get_or-take, length-take-le, get_or-append_right}
+use Rattle.std.proofs.Math.ListN.{get_or-append}
 use Rattle.run_tally.specs.Tables.{more, raised, states, table_counted, place_in}
 use Rattle.rules.proofs.Numbers.{same_true, same_false}
 
@@ -65,27 +67,29 @@ module _ (i n : ℕ) (f : ℕ → ℕ) (t : List (List ℕ)) (h : i < n) {s : �
 
 -- ---- codes
 
-drop_entry : (i : ℕ) (l : List ℤ) → i < length l → drop i l ≡ get_or l i (pos 0) ∷ drop (i + 1) l
-drop_entry i [] h = absurd (omega (arith, h))
-drop_entry zero (x ∷ l) h = refl
-drop_entry (suc i) (x ∷ l) h = let e : suc (i + 1) ≡ suc i + 1 = omega arith in drop_entry i l (omega (arith, h)) ∙ ap (λ (n : ℕ). get_or l i (pos 0) ∷ drop n (x ∷ l)) e
-
-module _ (l : List ℤ) (c : ℤ) (i : ℕ) (h : i < length l) (before : i + place_in (drop i l) c ≡ place_in l c) where
-  pub place_here : get_or l i (pos 0) ≡ c → i ≡ place_in l c
+module _ (c : ℤ) where
+  pub place_none : place_in [] c ≡ 0
   unfolding place_in
-  place_here e =
-      let z : place_in (drop i l) c ≡ 0 = ap (λ (x : List ℤ). place_in x c) (drop_entry i l h) ∙ ap (λ (t : Bool). cond t 0 (suc (place_in (drop (i + 1) l) c))) (same_true _ c e) in
-      omega (arith, before, z)
+  place_none = refl
 
-  pub place_next : (get_or l i (pos 0) ≡ c → ⊥) → i + 1 + place_in (drop (i + 1) l) c ≡ place_in l c
+  pub place_here : (x : ℤ) (l : List ℤ) → x ≡ c → place_in (x ∷ l) c ≡ 0
   unfolding place_in
-  place_next e =
-      let z : place_in (drop i l) c ≡ suc (place_in (drop (i + 1) l) c) = ap (λ (x : List ℤ). place_in x c) (drop_entry i l h) ∙ ap (λ (t : Bool). cond t 0 (suc (place_in (drop (i + 1) l) c))) (same_false _ c e) in
-      omega (arith, before, z)
+  place_here x l e = rw (same_true x c e)
 
-pub place_start : (l : List ℤ) (c : ℤ) → 0 + place_in (drop 0 l) c ≡ place_in l c
-place_start l c = omega arith
+  pub place_next : (x : ℤ) (l : List ℤ) → (x ≡ c → ⊥) → place_in (x ∷ l) c ≡ place_in l c + 1
+  unfolding place_in
+  place_next x l e = rw (same_false x c e) (sym (add-one _))
 
-pub place_end : (l : List ℤ) (c : ℤ) (i : ℕ) → i + place_in (drop i l) c ≡ place_in l c → drop i l ≡ [] → i ≡ place_in l c
-unfolding place_in
-place_end l c i b e = let z : place_in (drop i l) c ≡ 0 = ap (λ (x : List ℤ). place_in x c) e in omega (arith, b, z)
+-- ---- what is written behind the first a
+
+module _ (a k : ℕ) (xs ys : List ℕ) (h : a ≤ length xs) where
+  pub put_before : (j : ℕ) → j < a → get_or (put_mid a k xs ys) j 0 ≡ get_or xs j 0
+  put_before j l =
+      let n : length (take a xs) ≡ a = length-take-le a xs h in
+      get_or-append (take a xs) _ 0 j (omega (arith, n, l)) ∙ get_or-take a xs j 0 l
+
+  pub put_behind : (j : ℕ) → j < length ys → get_or (put_mid a k xs ys) (a + j) 0 ≡ get_or ys j 0
+  put_behind j l =
+      let n : length (take a xs) ≡ a = length-take-le a xs h in
+      let e : a + j - a ≡ j = omega arith in
+      get_or-append_right (take a xs) _ a (a + j) 0 n (omega arith) ∙ rw e (get_or-append ys _ 0 j l)

@@ -20,26 +20,11 @@ pub const CODE: [i32; CODES] = [
     -2097, -2100, -2101, -2104, -2110, -2629, -2889, -3413, -3414,
 ];
 
-const FULL: u32 = 4294967295;
-
 // One more.
 fn more(n: u32) -> u32
     ensures { result ≡ more n }
 {
-    if n < FULL { n + 1 } else { FULL }
-}
-
-// At most the table's rows.
-fn rows(n: usize) -> usize
-    ensures { (result ≡ min n 32) × (result ≤ 32) }
-{
-    if n < TASKS { n } else { TASKS }
-}
-
-fn wide(x: u32) -> usize
-    ensures { result ≡ x }
-{
-    x as usize
+    n.saturating_add(1)
 }
 
 // After an event: of each of the first n tasks the cell of its state is raised.
@@ -50,15 +35,13 @@ pub fn table_counted(
 ) -> [[u32; STATES]; TASKS]
     ensures { result ≡ table_counted (min n 32) (λ i. get_or states.now i 0) table }
 {
-    let m = rows(n);
+    let m = n.min(TASKS);
     let mut t = table;
-    let mut i: usize = 0;
-    while i < m {
-        let s = wide(states[i]);
+    for i in 0..m {
+        let s = states[i] as usize;
         if s < STATES {
             t[i][s] = more(t[i][s]);
         }
-        i += 1;
     }
     t
 }
@@ -67,17 +50,11 @@ pub fn table_counted(
 fn code_place(code: i32) -> usize
     ensures { result ≡ place_of code }
 {
-    let mut i: usize = 0;
-    while i < CODES {
-        if CODE[i] == code {
-            return i;
-        }
-        i += 1;
-    }
-    CODES
+    CODE.iter().position(|c| *c == code).unwrap_or(CODES)
 }
 
 // After an event: its code's count is raised.
+#[tactic(auto, unfolding(crate::specs::Tables::raised))]
 pub fn codes_counted(codes: [u32; CODES], code: i32) -> [u32; CODES]
     ensures { result ≡ codes_counted codes code }
 {
@@ -94,10 +71,8 @@ fn states_flat(table: [[u32; STATES]; TASKS]) -> [u32; COUNTS]
     ensures { FlatStates table result }
 {
     let mut out = [0u32; COUNTS];
-    let mut i: usize = 0;
-    while i < STATES * TASKS {
+    for i in 0..STATES * TASKS {
         out[i] = table[i / STATES][i % STATES];
-        i += 1;
     }
     out
 }
@@ -107,10 +82,6 @@ pub fn flat(table: [[u32; STATES]; TASKS], codes: [u32; CODES]) -> Record
     ensures { Flat table codes result.counts }
 {
     let mut out = states_flat(table);
-    let mut k: usize = 0;
-    while k < CODES {
-        out[STATES * TASKS + k] = codes[k];
-        k += 1;
-    }
+    out[STATES * TASKS..].copy_from_slice(&codes);
     Record { counts: out }
 }

@@ -1,16 +1,16 @@
 -- Entries laid into an output from a place on: one text behind the other, and from the front where there is place. Assumes nothing.
+use borrow.Rule.Slice.PartMut.{put_mid}
+use mathlib.Core.Bool.{true, false, false≢true}
 use mathlib.Core.List.{List, [], ◌∷◌, ◌++◌}
-use mathlib.Core.Path.{◌≡◌, refl, sym, ap, ◌∙◌, subst}
+use mathlib.Core.Path.{◌≡◌, refl, sym, ap, ◌∙◌}
 use Prim.Native.Nat.{ℕ, zero, suc, ◌+◌, ◌-◌, ◌/◌, ◌%◌, ◌^◌, ◌≤◌, ◌<◌, min}
 use native.Mathlib.Decide.{dec_le}
 use native.Mathlib.Omega.{arith}
-use lib.IntN.{ℤ, pos, negsuc}
-use lib.Signed.{mag}
-use lib.ListN.{length, drop, get_or, set, length-set, length-append, drop_of_length-le}
-use mir.Syntax.{w32}
-use mir.Val.{to_z, of_z}
-use mir.Facts.{to_z-of_z}
-use Rattle.rules.specs.Events.{bits}
+use lib.IntN.{ℤ, pos, negsuc, nat_abs}
+use lib.Signed.{le_z}
+use lib.ListN.{length, take, drop, set, length-set, length-append, length-take}
+use Rattle.std.proofs.Math.Dec.{leb-zero}
+use Rattle.std.proofs.lemmas.List.{take_all}
 use Rattle.run_text.specs.Lines.{decimal, signed}
 use Rattle.run_text.specs.Output.{laid, Wrote}
 use Rattle.run_text.proofs.Decimal.{decimal_one, decimal_more, decimal_length}
@@ -37,20 +37,6 @@ module _ {A : Type 0} where
   laid_over (x ∷ a) [] h = absurd (omega (arith, h))
   laid_over (x ∷ a) (y ∷ t) h = laid_behind a 0 x t ∙ ap (λ (l : List A). x ∷ l) (laid_over a t (omega (arith, h)))
 
-  -- what stands behind i entries begins with entry i
-  pub drop_entry : (d : A) (i : ℕ) (l : List A) → i < length l → drop i l ≡ get_or l i d ∷ drop (i + 1) l
-  drop_entry d i [] h = absurd (omega (arith, h))
-  drop_entry d zero (x ∷ l) h = refl
-  drop_entry d (suc i) (x ∷ l) h = let e : suc (i + 1) ≡ suc i + 1 = omega arith in drop_entry d i l (omega (arith, h)) ∙ ap (λ (n : ℕ). get_or l i d ∷ drop n (x ∷ l)) e
-
-  pub laid_first : (l : List A) (j : ℕ) (t : List A) → laid l (j + 0) t ≡ laid l j t
-  laid_first l j t = ap (λ (k : ℕ). laid l k t) (omega arith)
-
-  -- entry i is laid, then those behind it
-  pub laid_next : (d : A) (l : List A) (i j : ℕ) (t : List A) → i < length l → laid (drop (i + 1) l) (j + (i + 1)) (set t (j + i) (get_or l i d)) ≡ laid (drop i l) (j + i) t
-  unfolding laid
-  laid_next d l i j t h = let e : j + (i + 1) ≡ suc (j + i) = omega arith in rw (drop_entry d i l h, e)
-
   pub set_behind : (l : List A) (i : ℕ) (x : A) → length l ≤ i → set l i x ≡ l
   set_behind [] i x h = refl
   set_behind (y ∷ l) zero x h = absurd (omega (arith, h))
@@ -62,13 +48,26 @@ module _ {A : Type 0} where
   laid_past [] i t h = refl
   laid_past (x ∷ l) i t h = rw (set_behind t i x h) (laid_past l (suc i) t (omega (arith, h)))
 
-  pub laid_none : (l : List A) (i j : ℕ) (t : List A) → length l ≤ i → laid (drop i l) j t ≡ t
-  unfolding laid
-  laid_none l i j t h = rw (drop_of_length-le l h)
-
   -- so many entries as there are, or as there is room for
-  pub laid_all : (l : List A) (i j : ℕ) (t : List A) → min (length l) (length t - j) ≤ i → laid (drop i l) (j + i) t ≡ t
-  laid_all l i j t h = elim (dec_le (length l) i) [ yes a ↦ laid_none l i (j + i) t a | no a ↦ laid_past (drop i l) (j + i) t (omega (arith, h, a)) ]
+  laid_cut : (n : ℕ) (l : List A) (i : ℕ) (t : List A) → length t ≤ i + n → laid l i t ≡ laid (take n l) i t
+  unfolding laid
+  laid_cut n [] i t h = ap (λ (k : List A). laid k i t) (sym (take_all n [] (omega arith)))
+  laid_cut zero (x ∷ l) i t h = laid_past (x ∷ l) i t (omega (arith, h))
+  laid_cut (suc n) (x ∷ l) i t h = laid_cut n l (suc i) (set t i x) (omega (arith, h, length-set t i x))
+
+  -- entries that have room stand in their places
+  laid_within : (l : List A) (i : ℕ) (t : List A) → i + length l ≤ length t → laid l i t ≡ put_mid i (length l) t l
+  laid_within l zero t h = laid_over l t (omega (arith, h))
+  laid_within l (suc i) [] h = absurd (omega (arith, h))
+  laid_within l (suc i) (y ∷ t) h = laid_behind l i y t ∙ ap (λ (k : List A). y ∷ k) (laid_within l i t (omega (arith, h)))
+
+  pub laid_placed : (l : List A) (i : ℕ) (t : List A) {n k : ℕ} {m : List A} → i < length t → n ≡ min (length l) (length t - i) → m ≡ take n l → k ≡ n → put_mid i k t m ≡ laid l i t
+  laid_placed l i t {n} {k} {m} h e q r =
+      let f : n ≡ length (take n l) = omega (arith, e, length-take n l) in
+      rw (q, r) (ap (λ (j : ℕ). put_mid i j t (take n l)) f ∙ sym (laid_within (take n l) i t (omega (arith, e, f, h))) ∙ sym cut)
+    where
+      cut : laid l i t ≡ laid (take n l) i t
+      cut = elim (dec_le (length l) n) [ yes a ↦ ap (λ (k : List A). laid k i t) (sym (take_all n l a)) | no a ↦ laid_cut n l i t (omega (arith, e, a)) ]
 
 -- ---- what was written
 
@@ -99,29 +98,24 @@ module _ {n i j : ℕ} {t t' : List ℕ} (d : ℕ) (h : n < 10 ^ suc d) where
   pub field_short : Wrote (32 ∷ decimal n) i t t' j → j ≤ i + suc (suc d)
   field_short w = omega (arith, w.next, decimal_length d n h)
 
--- a code, by the bits of the word that was read
-module _ (z : ℤ) (h : mag z < 2 ^ 31) {n : ℕ} (e : n ≡ bits (to_z w32 (of_z w32 z))) where
-  same_bits : n ≡ bits z
-  same_bits = let f : to_z w32 (of_z w32 z) ≡ z = to_z-of_z {w = w32} {z = z} (record { sfits = h }) in e ∙ ap (λ (x : ℤ). bits x) f
-
-  pub plain_code : n < 2147483648 → {i j : ℕ} {t t' : List ℕ} → Wrote (32 ∷ decimal n) i t t' j → Wrote (32 ∷ signed z) i t t' j × (j ≤ i + 12)
+-- a code, by its sign and its size
+module _ (z : ℤ) {n : ℕ} (e : n ≡ nat_abs z) (h : n ≤ 2 ^ 31) where
+  pub plain_code : le_z (pos 0) z ≡ true → {i j : ℕ} {t t' : List ℕ} → Wrote (32 ∷ decimal n) i t t' j → Wrote (32 ∷ signed z) i t t' j × (j ≤ i + 12)
   unfolding signed
-  plain_code l {i} {j} {t} {t'} w =
-      (subst (λ (x : List ℕ). Wrote (32 ∷ x) i t t' j) (ap decimal same_bits ∙ go z h (omega (arith, l, same_bits))) w, omega (arith, field_short 9 (omega (arith, l)) w))
+  plain_code s {i} {j} {t} {t'} w = (go z e s, omega (arith, field_short 9 (omega (arith, h)) w))
     where
-      go : (x : ℤ) → mag x < 2 ^ 31 → bits x < 2147483648 → decimal (bits x) ≡ signed x
-      go (pos k) q l = refl
-      go (negsuc k) q l = absurd (omega (arith, q, l))
+      go : (x : ℤ) → n ≡ nat_abs x → le_z (pos 0) x ≡ true → Wrote (32 ∷ signed x) i t t' j
+      go (pos k) e s = rw e at w
+      go (negsuc k) e s = absurd (false≢true s)
 
-  pub minus_code : 2147483648 ≤ n → {i j : ℕ} {t t₁ t₂ t₃ : List ℕ} → t₁ ≡ set t i 32 → t₂ ≡ set t₁ (i + 1) 45 → Wrote (decimal (4294967295 - n + 1)) (i + 2) t₂ t₃ j
+  pub minus_code : le_z (pos 0) z ≡ false → {i j : ℕ} {t t₁ t₂ t₃ : List ℕ} → t₁ ≡ set t i 32 → t₂ ≡ set t₁ (i + 1) 45 → Wrote (decimal n) (i + 2) t₂ t₃ j
       → Wrote (32 ∷ signed z) i t t₃ j × (j ≤ i + 12)
   unfolding signed
-  minus_code l {i} {j} {t} {t₁} {t₂} {t₃} p q w =
-      let f : 45 ∷ decimal (4294967295 - n + 1) ≡ signed z = ap (λ (k : ℕ). 45 ∷ decimal (4294967295 - k + 1)) same_bits ∙ go z h (omega (arith, l, same_bits)) in
+  minus_code s {i} {j} {t} {t₁} {t₂} {t₃} p q w =
       let m : i + 1 + 1 ≡ i + 2 = omega arith in
-      let v = wrote_then (wrote_byte 32 i t p) (wrote_then (wrote_byte 45 (i + 1) t₁ q) (subst (λ (k : ℕ). Wrote (decimal (4294967295 - n + 1)) k t₂ t₃ j) (sym m) w)) in
-      (subst (λ (x : List ℕ). Wrote (32 ∷ x) i t t₃ j) f v, omega (arith, number_short 9 (omega (arith, l)) w))
+      let v = wrote_then (wrote_byte 32 i t p) (wrote_then (wrote_byte 45 (i + 1) t₁ q) (rw m w)) in
+      (go z e s v, omega (arith, number_short 9 (omega (arith, h)) w))
     where
-      go : (x : ℤ) → mag x < 2 ^ 31 → 2147483648 ≤ bits x → 45 ∷ decimal (4294967295 - bits x + 1) ≡ signed x
-      go (pos k) q l = absurd (omega (arith, q, l))
-      go (negsuc k) q l = let e : 4294967295 - (2 ^ 32 - suc k) + 1 ≡ suc k = omega (arith, q) in ap (λ (k : ℕ). 45 ∷ decimal k) e
+      go : (x : ℤ) → n ≡ nat_abs x → le_z (pos 0) x ≡ false → Wrote (32 ∷ 45 ∷ decimal n) i t t₃ j → Wrote (32 ∷ signed x) i t t₃ j
+      go (pos k) e s v = absurd (false≢true (sym s ∙ leb-zero k))
+      go (negsuc k) e s v = rw e at v

@@ -7,15 +7,8 @@ ghost use Rattle.std.specs.Prelude.{◌≡◌, [], ◌∷◌, ◌+◌, ◌≤◌
 ghost use Rattle.run_text.specs.Lines.{decimal, signed, start_line, event_line, refusal, count_line, longest_line};
 ghost use Rattle.run_text.specs.Output.{laid, Wrote};
 
-use call_words::bits_of;
-
 // No line is longer.
 pub const LINE: usize = 67;
-
-const MOST_WORD: u32 = 4294967295;
-
-// The first word that is negative as a signed one.
-const NEGATIVE: u32 = 2147483648;
 
 fn put(text: &mut [u8], at: usize, byte: u8)
     ensures { text.new ≡ set text.old at byte }
@@ -25,12 +18,6 @@ fn put(text: &mut [u8], at: usize, byte: u8)
     }
 }
 
-fn least(a: usize, b: usize) -> usize
-    ensures { result ≡ min a b }
-{
-    if a < b { a } else { b }
-}
-
 // Bytes from a place on.
 pub fn lay(text: &mut [u8], at: usize, bytes: &[u8])
     ensures { text.new ≡ laid bytes.now at text.old }
@@ -38,12 +25,8 @@ pub fn lay(text: &mut [u8], at: usize, bytes: &[u8])
     if text.len() <= at {
         return;
     }
-    let n = least(bytes.len(), text.len() - at);
-    let mut i: usize = 0;
-    while i < n {
-        text[at + i] = bytes[i];
-        i += 1;
-    }
+    let n = bytes.len().min(text.len() - at);
+    text[at..at + n].copy_from_slice(&bytes[..n]);
 }
 
 fn letters(text: &mut [u8], word: &[u8]) -> usize
@@ -81,13 +64,13 @@ fn code_field(text: &mut [u8], at: usize, code: i32) -> usize
     requires { at ≤ 900 }
     ensures { (Wrote (32 ∷ signed code) at text.old text.new result) × (result ≤ at + 12) }
 {
-    let bits = bits_of(code);
-    if bits < NEGATIVE {
-        return field(text, at, bits as usize);
+    let size = code.unsigned_abs() as usize;
+    if 0 <= code {
+        return field(text, at, size);
     }
     put(text, at, b' ');
     put(text, at + 1, b'-');
-    number(text, at + 2, (MOST_WORD - bits) as usize + 1)
+    number(text, at + 2, size)
 }
 
 fn end_line(text: &mut [u8], at: usize) -> usize

@@ -9,26 +9,26 @@ use lib.Dec.{eqb, leb}
 use lib.ListN.{length}
 use Rattle.rules.specs.Setup.{S2, S3, S4, Read, got, refused, and_then, word_at, to, read_word, Section, priorities, sections, alarm_ranges, counters, read_entry, read_entries, read_section, read_sections, entries_of, setup_of, read_with, perhaps, at_end, setup}
 use Rattle.rules.proofs.Accepted.{Reads, reads_then, from_read, Within, SectionFits, word_reads, section_reads}
-use Rattle.setup_sections.specs.Judging.{onward, judged_of, on_good}
-use Rattle.setup_sections.specs.declared.Judged.{Judged}
-use Rattle.setup_sections.specs.declared.Judged.TheVariants.{Bad, Good}
+use Rattle.std.specs.Prelude.{Result, Ok, Err}
+use Rattle.setup_sections.specs.Judging.{refusal, onward, judged_of, on_good}
+use Rattle.setup_sections.specs.declared.Refusal.{Refusal}
 use Rattle.setup_sections.proofs.Reading.{RowsAt, word_lies, section_lies}
 use Rattle.setup_sections.proofs.Judging.{then_judged, map_judged, on_good_lem, on_same, on_twice, words_judged, pair_judged, entries_judged, no_entries_judged}
 use Rattle.setup.specs.Whole.{left_out, ended_at}
 
 module _ (s : List ℕ) where
   -- one section after the other, as the code goes
-  abbrev pub after_all : List Section → Judged → Judged
+  abbrev pub after_all : List Section → Result ℕ Refusal → Result ℕ Refusal
   after_all [] x = x
   after_all (t ∷ l) x = after_all l (on_good x (λ i. judged_of (read_section s t i)))
 
-  sections_judged : (l : List Section) (x : Judged) → on_good x (λ i. judged_of (read_sections s l i)) ≡ after_all l x
+  sections_judged : (l : List Section) (x : Result ℕ Refusal) → on_good x (λ i. judged_of (read_sections s l i)) ≡ after_all l x
   unfolding read_sections
-  sections_judged [] (Good i) = refl
-  sections_judged [] (Bad d i) = refl
-  sections_judged (t ∷ l) (Good i) =
+  sections_judged [] (Ok i) = refl
+  sections_judged [] (Err e) = refl
+  sections_judged (t ∷ l) (Ok i) =
       then_judged (read_section s t i) _ _ (λ x j q. map_judged (read_sections s l j) _) ∙ sections_judged l (judged_of (read_section s t i))
-  sections_judged (t ∷ l) (Bad d i) = sections_judged l (Bad d i)
+  sections_judged (t ∷ l) (Err e) = sections_judged l (Err e)
 
   pub seven_judged : (i : ℕ) → judged_of (read_with left_out s i) ≡ after_all (sections (word_at s i)) (judged_of (read_section s priorities i))
   unfolding read_with and_then
@@ -46,16 +46,16 @@ module _ (s : List ℕ) where
   alarms_judged n (suc k) i =
       words_judged s (to 1 n) (to 0 1 ∷ alarm_ranges n k) i
       ∙ on_same first _ _ (λ j. words_judged s (to 0 1) (alarm_ranges n k) j ∙ on_same (second j) _ _ (alarms_judged n k))
-      ∙ sym (on_twice first second rest) ∙ ap (λ (x : Judged). on_good x rest) (sym (pair_judged s (to 1 n) (to 0 1) i))
+      ∙ sym (on_twice first second rest) ∙ ap (λ (x : Result ℕ Refusal). on_good x rest) (sym (pair_judged s (to 1 n) (to 0 1) i))
       ∙ sym (then_judged (read_entry s (to 1 n ∷ to 0 1 ∷ []) i) _ rest (λ x j q. map_judged (read_entries s (to 1 n ∷ to 0 1 ∷ []) k j) _))
     where
-      first : Judged
+      first : Result ℕ Refusal
       first = judged_of (read_word s (to 1 n) S3 i)
 
-      second : ℕ → Judged
+      second : ℕ → Result ℕ Refusal
       second j = judged_of (read_word s (to 0 1) S3 j)
 
-      rest : ℕ → Judged
+      rest : ℕ → Result ℕ Refusal
       rest j = judged_of (read_entries s (to 1 n ∷ to 0 1 ∷ []) k j)
 
   pub counter_judged : (n i : ℕ) → judged_of (read_entry s (counters n).entry i) ≡ on_good (judged_of (read_word s (to 1 65535) S3 i)) (λ j. judged_of (read_entries s (to 1 n ∷ to 0 1 ∷ []) 8 j))
@@ -63,13 +63,13 @@ module _ (s : List ℕ) where
 
   -- one counter at most
   pub counters_judged : (n i : ℕ)
-      → judged_of (read_section s (counters n) i) ≡ on_good (judged_of (read_word s (to 0 1) S2 i)) (λ j. cond (eqb (word_at s i) 0) (Good j) (judged_of (read_entry s (counters n).entry j)))
+      → judged_of (read_section s (counters n) i) ≡ on_good (judged_of (read_word s (to 0 1) S2 i)) (λ j. cond (eqb (word_at s i) 0) (Ok j) (judged_of (read_entry s (counters n).entry j)))
   unfolding read_section
   counters_judged n i =
       then_judged (read_word s (to 0 1) S2 i) _ _
-      (λ w j q. one w j (from_read _ _ w j q (word_reads s (to 0 1) S2 i)).0.1 ∙ ap (λ (m : ℕ). cond (eqb m 0) (Good j) (judged_of (read_entry s (counters n).entry j))) (from_read _ _ w j q (word_lies s (to 0 1) S2 i)).0)
+      (λ w j q. one w j (from_read _ _ w j q (word_reads s (to 0 1) S2 i)).0.1 ∙ ap (λ (m : ℕ). cond (eqb m 0) (Ok j) (judged_of (read_entry s (counters n).entry j))) (from_read _ _ w j q (word_lies s (to 0 1) S2 i)).0)
     where
-      one : (w j : ℕ) → w ≤ 1 → judged_of (read_entries s (counters n).entry w j) ≡ cond (eqb w 0) (Good j) (judged_of (read_entry s (counters n).entry j))
+      one : (w j : ℕ) → w ≤ 1 → judged_of (read_entries s (counters n).entry w j) ≡ cond (eqb w 0) (Ok j) (judged_of (read_entry s (counters n).entry j))
       one zero j h = no_entries_judged s (counters n).entry 0 j refl
       one (suc zero) j h =
           entries_judged s (counters n).entry 1 j (omega arith)
@@ -93,7 +93,7 @@ module _ (s : List ℕ) where
   unfolding read_with and_then
   eight_judged eighth i = first (read_section s priorities i) (section_lies s priorities i) (section_reads s priorities i)
     where
-      last : ℕ → Judged
+      last : ℕ → Result ℕ Refusal
       last k = judged_of (eighth s (counters (word_at s (onward s i 4))) k)
 
       rest : (p : List (List ℕ)) (j : ℕ) → j ≡ onward s i 4 → (r : Read (List (List (List ℕ)))) → Reads (λ l k. length (entries_of l 0) ≡ word_at s j) r
@@ -116,7 +116,7 @@ module _ (s : List ℕ) where
   unfolding at_end
   end_judged {A} (got a i) = pick (leb (length s) i)
     where
-      pick : (t : Bool) → judged_of (cond {A = Read A} t (got a i) (refused S4 i)) ≡ cond t (Good i) (Bad 4 i)
+      pick : (t : Bool) → judged_of (cond {A = Read A} t (got a i) (refused S4 i)) ≡ cond t (Ok i) (Err (refusal S4 i))
       pick true = refl
       pick false = refl
   end_judged (refused d i) = refl

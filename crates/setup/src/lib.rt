@@ -8,7 +8,9 @@ ghost use Rattle.rules.specs.Setup.{read_with, read_setup, perhaps, setup};
 ghost use Rattle.setup_sections.specs.Judging.{onward, judged_of, on_good, ranges_of};
 ghost use Rattle.setup.specs.Whole.{left_out, ended_at};
 
-use setup_sections::{Judged, Shape, Span, judge_entries, judge_section, judge_word, onward, word};
+use setup_sections::{
+    Fault, Refusal, Shape, Span, judge_entries, judge_section, judge_word, onward, word,
+};
 
 // The largest counts.
 pub const PRIORITIES: u32 = 16;
@@ -36,19 +38,21 @@ const MOST_SIZE: u32 = 65535;
 const ALARMS: u32 = 8;
 
 // The section behind what was judged before: an earlier fault stays.
-fn after(bytes: &[u8], least: u32, most: u32, e: Shape, earlier: Judged) -> Judged
-    ensures { result ≡ on_good earlier (λ i. judged_of (read_section bytes.now (section (to least most) (ranges_of e)) i)) }
+fn after(
+    bytes: &[u8],
+    count: Span,
+    e: Shape,
+    earlier: Result<usize, Refusal>,
+) -> Result<usize, Refusal>
+    ensures { result ≡ on_good earlier (λ i. judged_of (read_section bytes.now (section (to count.least count.most) (ranges_of e)) i)) }
 {
-    match earlier {
-        Judged::Bad(d, i) => Judged::Bad(d, i),
-        Judged::Good(at) => judge_section(bytes, least, most, e, at),
-    }
+    earlier.and_then(|at| judge_section(bytes, count, e, at))
 }
 
 fn no_words() -> Shape
     ensures { ranges_of result ≡ [] }
 {
-    let none = Span { least: 0, most: 0 };
+    let none = Span::new(0, 0);
     Shape {
         words: 0,
         first: none,
@@ -59,7 +63,7 @@ fn no_words() -> Shape
 fn one_word(least: u32, most: u32) -> Shape
     ensures { ranges_of result ≡ to least most ∷ [] }
 {
-    let first = Span { least, most };
+    let first = Span::new(least, most);
     Shape {
         words: 1,
         first,
@@ -71,8 +75,8 @@ fn one_word(least: u32, most: u32) -> Shape
 fn two_words(most: u32) -> Shape
     ensures { ranges_of result ≡ to 1 most ∷ to 0 1 ∷ [] }
 {
-    let first = Span { least: 1, most };
-    let others = Span { least: 0, most: 1 };
+    let first = Span::new(1, most);
+    let others = Span::new(0, 1);
     Shape {
         words: 2,
         first,
@@ -81,49 +85,47 @@ fn two_words(most: u32) -> Shape
 }
 
 // The first seven sections. Where the first count is refused, what is read as the number of priorities does not matter.
-fn judge_seven(bytes: &[u8], at: usize) -> Judged
+fn judge_seven(bytes: &[u8], at: usize) -> Result<usize, Refusal>
     ensures { result ≡ judged_of (read_with left_out bytes.now at) }
 {
-    let priorities = judge_section(bytes, 1, PRIORITIES, no_words(), at);
-    let tasks = after(bytes, 1, TASKS, two_words(word(bytes, at)), priorities);
-    let semaphores = after(bytes, 0, SEMAPHORES, one_word(0, 65535), tasks);
-    let flags = after(bytes, 0, FLAGS, one_word(0, 4294967295), semaphores);
-    let mailboxes = after(bytes, 0, MAILBOXES, no_words(), flags);
-    let messages = after(bytes, 0, MESSAGES, no_words(), mailboxes);
-    after(bytes, 0, POOLS, one_word(1, 32), messages)
+    let priorities = judge_section(bytes, Span::new(1, PRIORITIES), no_words(), at);
+    let tasks = after(
+        bytes,
+        Span::new(1, TASKS),
+        two_words(word(bytes, at)),
+        priorities,
+    );
+    let semaphores = after(bytes, Span::new(0, SEMAPHORES), one_word(0, 65535), tasks);
+    let flags = after(
+        bytes,
+        Span::new(0, FLAGS),
+        one_word(0, u32::MAX),
+        semaphores,
+    );
+    let mailboxes = after(bytes, Span::new(0, MAILBOXES), no_words(), flags);
+    let messages = after(bytes, Span::new(0, MESSAGES), no_words(), mailboxes);
+    after(bytes, Span::new(0, POOLS), one_word(1, 32), messages)
 }
 
 // A counter's entry, of a setup with so many tasks: m, and its alarms.
-fn judge_counter(bytes: &[u8], tasks: u32, at: usize) -> Judged
+fn judge_counter(bytes: &[u8], tasks: u32, at: usize) -> Result<usize, Refusal>
     ensures { result ≡ judged_of (read_entry bytes.now (counters tasks).entry at) }
 {
-    let m = Span {
-        least: LEAST_SIZE,
-        most: MOST_SIZE,
-    };
-    match judge_word(bytes, m, 3, at) {
-        Judged::Bad(d, i) => Judged::Bad(d, i),
-        Judged::Good(next) => judge_entries(bytes, two_words(tasks), ALARMS, next),
-    }
+    let m = Span::new(LEAST_SIZE, MOST_SIZE);
+    let next = judge_word(bytes, m, Fault::S3, at)?;
+    judge_entries(bytes, two_words(tasks), ALARMS, next)
 }
 
 // The eighth section.
-fn judge_counters(bytes: &[u8], tasks: u32, at: usize) -> Judged
+fn judge_counters(bytes: &[u8], tasks: u32, at: usize) -> Result<usize, Refusal>
     ensures { result ≡ judged_of (read_section bytes.now (counters tasks) at) }
 {
-    let count = Span {
-        least: 0,
-        most: COUNTERS,
-    };
-    match judge_word(bytes, count, 2, at) {
-        Judged::Bad(d, i) => Judged::Bad(d, i),
-        Judged::Good(next) => {
-            if word(bytes, at) == 0 {
-                return Judged::Good(next);
-            }
-            judge_counter(bytes, tasks, next)
-        }
+    let count = Span::new(0, COUNTERS);
+    let next = judge_word(bytes, count, Fault::S2, at)?;
+    if word(bytes, at) == 0 {
+        return Ok(next);
     }
+    judge_counter(bytes, tasks, next)
 }
 
 // The number of tasks of a setup that begins at an offset.
@@ -134,48 +136,40 @@ fn task_count(bytes: &[u8], at: usize) -> u32
 }
 
 // A recorded setup that begins at an offset: all eight sections.
-pub fn judge(bytes: &[u8], at: usize) -> Judged
+pub fn judge(bytes: &[u8], at: usize) -> Result<usize, Refusal>
     ensures { result ≡ judged_of (read_setup bytes.now at) }
 {
-    match judge_seven(bytes, at) {
-        Judged::Bad(d, i) => Judged::Bad(d, i),
-        Judged::Good(next) => judge_counters(bytes, task_count(bytes, at), next),
-    }
+    let next = judge_seven(bytes, at)?;
+    judge_counters(bytes, task_count(bytes, at), next)
 }
 
 // The eighth section may be left out where the bytes end.
-fn judge_alone(bytes: &[u8]) -> Judged
+fn judge_alone(bytes: &[u8]) -> Result<usize, Refusal>
     ensures { result ≡ judged_of (read_with perhaps bytes.now 0) }
 {
-    match judge_seven(bytes, 0) {
-        Judged::Bad(d, i) => Judged::Bad(d, i),
-        Judged::Good(next) => {
-            if bytes.len() <= next {
-                return Judged::Good(next);
-            }
-            judge_counters(bytes, task_count(bytes, 0), next)
-        }
+    let next = judge_seven(bytes, 0)?;
+    if bytes.len() <= next {
+        return Ok(next);
     }
+    judge_counters(bytes, task_count(bytes, 0), next)
 }
 
 // Nothing may follow what was judged, of so many bytes.
-pub fn at_end(length: usize, judged: Judged) -> Judged
+pub fn at_end(length: usize, judged: Result<usize, Refusal>) -> Result<usize, Refusal>
     ensures { result ≡ on_good judged (ended_at length) }
 {
-    match judged {
-        Judged::Bad(d, i) => Judged::Bad(d, i),
-        Judged::Good(end) => {
-            if end < length {
-                Judged::Bad(4, end)
-            } else {
-                Judged::Good(end)
-            }
-        }
+    let end = judged?;
+    if end < length {
+        return Err(Refusal {
+            fault: Fault::S4,
+            place: end,
+        });
     }
+    Ok(end)
 }
 
 // A setup alone: nothing may follow.
-pub fn judge_whole(bytes: &[u8]) -> Judged
+pub fn judge_whole(bytes: &[u8]) -> Result<usize, Refusal>
     ensures { result ≡ judged_of (setup bytes.now) }
 {
     at_end(bytes.len(), judge_alone(bytes))

@@ -43,11 +43,11 @@ pub struct Plan {
 fn count_at(bytes: &[u8], most: u32, at: usize) -> u32
     ensures { result ≡ count_at bytes.now most at }
 {
-    let n = word(bytes, at);
-    if most < n { most } else { n }
+    word(bytes, at).min(most)
 }
 
 // A section whose count stands at an offset, with entries of `size` bytes.
+#[tactic(auto, unfolding(crate::specs::Layout::part_at))]
 fn part_at(bytes: &[u8], most: u32, size: usize, at: usize) -> Part
     requires { size ≤ 68 }
     ensures { result ≡ part_at bytes.now most size at }
@@ -59,6 +59,7 @@ fn part_at(bytes: &[u8], most: u32, size: usize, at: usize) -> Part
 }
 
 // The layout of a setup that begins at an offset. Of a setup that is not accepted it says nothing of use, and is total all the same.
+#[tactic(auto, unfolding(crate::specs::Layout::plan_of))]
 pub fn plan_of(bytes: &[u8], at: usize) -> Plan
     ensures { result ≡ plan_of bytes.now at }
 {

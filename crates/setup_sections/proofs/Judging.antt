@@ -1,21 +1,23 @@
 -- What the reader gives without what it read: a fault is passed on, and the rest goes by the offset alone. Assumes nothing.
 use mathlib.Core.Bool.{Bool, true, false, cond}
 use mathlib.Core.List.{List, [], ◌∷◌}
-use mathlib.Core.Path.{◌≡◌, refl, ap, ◌∙◌}
+use mathlib.Core.Path.{◌≡◌, refl, sym, ap, ◌∙◌}
 use Prim.Native.Nat.{ℕ, zero, suc, ◌+◌, ◌-◌, ◌<◌}
 use native.Mathlib.Omega.{arith}
 use lib.Dec.{leb}
 use lib.ListN.{length, replicate}
-use Rattle.rules.specs.Setup.{Fault, S1, S2, S3, digit, Read, got, refused, and_then, word_at, Range, within, read_word, Section, read_entry, read_entries, read_section}
+use Rattle.rules.specs.Setup.{Fault, S1, S2, S3, Read, got, refused, and_then, word_at, Range, within, read_word, Section, read_entry, read_entries, read_section}
 use Rattle.rules.proofs.Accepted.{from_read}
-use Rattle.setup_sections.specs.Judging.{judged_of, told_as, on_good, ranges}
-use Rattle.setup_sections.specs.declared.Judged.{Judged}
-use Rattle.setup_sections.specs.declared.Judged.TheVariants.{Bad, Good}
+use Rattle.std.specs.Prelude.{Result, Ok, Err}
+use Rattle.std.specs.Result.{IsErrAnd}
+use Rattle.std.proofs.lemmas.Result.{err_from_is_err_and}
+use Rattle.setup_sections.specs.Judging.{refusal, coded, judged_of, told_as, on_good, ranges}
+use Rattle.setup_sections.specs.declared.Refusal.{Refusal}
 use Rattle.setup_sections.proofs.Reading.{word_lies}
 
 module _ {A B : Type 0} where
   -- where what follows goes by the offset alone
-  pub then_judged : (r : Read A) (f : A → ℕ → Read B) (g : ℕ → Judged) → ((a : A) (i : ℕ) → r ≡ got a i → judged_of (f a i) ≡ g i) → judged_of (and_then r f) ≡ on_good (judged_of r) g
+  pub then_judged : (r : Read A) (f : A → ℕ → Read B) (g : ℕ → Result ℕ Refusal) → ((a : A) (i : ℕ) → r ≡ got a i → judged_of (f a i) ≡ g i) → judged_of (and_then r f) ≡ on_good (judged_of r) g
   unfolding and_then
   then_judged (got a i) f g h = h a i refl
   then_judged (refused d i) f g h = refl
@@ -28,28 +30,32 @@ module _ {A B : Type 0} where
 
 module _ {A : Type 0} where
   -- what was judged tells what the reader gave
-  pub good_read : (r : Read A) (k : ℕ) → judged_of r ≡ Good k → (a : A) × (r ≡ got a k)
+  pub good_read : (r : Read A) (k : ℕ) → judged_of r ≡ Ok k → (a : A) × (r ≡ got a k)
   good_read (got a i) k e = (a, let z : i ≡ k = cc in ap (got a) z)
   good_read (refused f i) k e = absurd (let z : ◌≡◌ {A = ℕ} 0 1 = cc in omega arith)
 
-  pub bad_read : (r : Read A) (d i : ℕ) → judged_of r ≡ Bad d i → (f : Fault) × (r ≡ refused f i) × (d ≡ digit f)
-  bad_read (got a k) d i e = absurd (let z : ◌≡◌ {A = ℕ} 0 1 = cc in omega arith)
-  bad_read (refused f k) d i e = (f, let z : k ≡ i = cc in ap (refused f) z, cc)
+  pub bad_read : (r : Read A) (e : Refusal) → judged_of r ≡ Err e → (f : Fault) × (r ≡ refused f e.place) × (e.fault ≡ coded f)
+  bad_read (got a k) e h = absurd (let z : ◌≡◌ {A = ℕ} 0 1 = cc in omega arith)
+  bad_read (refused f k) e h = let z : refusal f k ≡ e = cc in (f, ap (λ (x : Refusal). let q : Read A = refused f x.place in q) z, sym (ap (λ (x : Refusal). x.fault) z))
 
-pub on_good_lem : (x : Judged) → on_good x Good ≡ x
-on_good_lem (Good i) = refl
-on_good_lem (Bad d i) = refl
+-- what a `?` hands on
+pub passed : {T E : Type 0} (r : Result T E) (e : E) → IsErrAnd r (λ y. y ≡ e) → r ≡ Err e
+passed r e h = let p = err_from_is_err_and r h in p.1 ∙ ap Err p.2
 
-pub on_same : (x : Judged) (f g : ℕ → Judged) → ((i : ℕ) → f i ≡ g i) → on_good x f ≡ on_good x g
-on_same (Good i) f g h = h i
-on_same (Bad d i) f g h = refl
+pub on_good_lem : (x : Result ℕ Refusal) → on_good x Ok ≡ x
+on_good_lem (Ok i) = refl
+on_good_lem (Err e) = refl
 
-pub on_twice : (x : Judged) (f g : ℕ → Judged) → on_good (on_good x f) g ≡ on_good x (λ i. on_good (f i) g)
-on_twice (Good i) f g = refl
-on_twice (Bad d i) f g = refl
+pub on_same : (x : Result ℕ Refusal) (f g : ℕ → Result ℕ Refusal) → ((i : ℕ) → f i ≡ g i) → on_good x f ≡ on_good x g
+on_same (Ok i) f g h = h i
+on_same (Err e) f g h = refl
+
+pub on_twice : (x : Result ℕ Refusal) (f g : ℕ → Result ℕ Refusal) → on_good (on_good x f) g ≡ on_good x (λ i. on_good (f i) g)
+on_twice (Ok i) f g = refl
+on_twice (Err e) f g = refl
 
 module _ (s : List ℕ) where
-  pub nothing_judged : (i : ℕ) → judged_of (read_entry s [] i) ≡ Good i
+  pub nothing_judged : (i : ℕ) → judged_of (read_entry s [] i) ≡ Ok i
   unfolding read_entry
   nothing_judged i = refl
 
@@ -70,7 +76,7 @@ module _ (s : List ℕ) where
   next_word r zero i h = absurd (omega (arith, h))
   next_word r (suc n) i h = let e : suc n - 1 ≡ n = omega arith in rw e (words_judged r (replicate n r) i)
 
-  pub no_words_lem : (r : Range) (n i : ℕ) → n ≡ 0 → judged_of (read_entry s (replicate n r) i) ≡ Good i
+  pub no_words_lem : (r : Range) (n i : ℕ) → n ≡ 0 → judged_of (read_entry s (replicate n r) i) ≡ Ok i
   no_words_lem r n i e = rw e (nothing_judged i)
 
   -- an entry goes by what was judged of its first word
@@ -86,7 +92,7 @@ module _ (s : List ℕ) where
       let m : suc n - 1 ≡ n = omega arith in
       rw m (then_judged (read_entry s e i) _ _ (λ x j q. map_judged (read_entries s e n j) _))
 
-  pub no_entries_judged : (e : List Range) (n i : ℕ) → n ≡ 0 → judged_of (read_entries s e n i) ≡ Good i
+  pub no_entries_judged : (e : List Range) (n i : ℕ) → n ≡ 0 → judged_of (read_entries s e n i) ≡ Ok i
   unfolding read_entries
   no_entries_judged e n i z = rw z
 
@@ -99,11 +105,11 @@ module _ (s : List ℕ) where
 -- ---- a word
 
 -- told by the digit of a fault, it is the word read with that fault
-pub word_told : (s : List ℕ) (r : Range) (f : Fault) (i : ℕ) {j : Judged} → j ≡ told_as (digit f) (read_word s r S3 i) → j ≡ judged_of (read_word s r f i)
+pub word_told : (s : List ℕ) (r : Range) (f : Fault) (i : ℕ) {j : Result ℕ Refusal} → j ≡ told_as (coded f) (read_word s r S3 i) → j ≡ judged_of (read_word s r f i)
 unfolding read_word
 word_told s r f i e = e ∙ go (leb (i + 4) (length s)) (within r (word_at s i))
   where
-    go : (t u : Bool) → told_as (digit f) (cond t (cond u (got (word_at s i) (i + 4)) (refused S3 i)) (refused S1 i)) ≡ judged_of (cond t (cond u (got (word_at s i) (i + 4)) (refused f i)) (refused S1 i))
+    go : (t u : Bool) → told_as (coded f) (cond t (cond u (got (word_at s i) (i + 4)) (refused S3 i)) (refused S1 i)) ≡ judged_of (cond t (cond u (got (word_at s i) (i + 4)) (refused f i)) (refused S1 i))
     go true true = refl
     go true false = refl
     go false u = refl

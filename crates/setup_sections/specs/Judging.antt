@@ -1,31 +1,49 @@
 -- What judging gives: what the rules' reader gives, without what was read.
-use Rattle.std.specs.Prelude.{List, [], ◌∷◌, ℕ, zero, suc, ◌+◌, min, length, replicate}
-use Rattle.rules.specs.Setup.{S1, S2, S3, S4, digit, Read, got, refused, Range, to}
-use Rattle.setup_sections.specs.declared.Judged.{Judged}
-use Rattle.setup_sections.specs.declared.Judged.TheVariants.{Bad, Good}
+use Rattle.std.specs.Prelude.{List, [], ◌∷◌, ℕ, zero, suc, ◌+◌, min, length, replicate, Result, Ok, Err}
+use Rattle.rules.specs.Setup.{Fault, S1, S2, S3, S4, digit, Read, got, refused, Range, to}
+use Rattle.setup_sections.specs.declared.Fault.{Fault as Code}
+use Rattle.setup_sections.specs.declared.Fault.TheVariants as code
+use Rattle.setup_sections.specs.declared.Refusal.{Refusal}
 use Rattle.setup_sections.specs.declared.Shape.{Shape}
 
 -- n bytes behind i, at most the end
 abbrev pub onward : List ℕ → ℕ → ℕ → ℕ
 onward s i n = min (i + n) (length s)
 
--- the fault's digit and its place, or the offset behind what was read
-abbrev pub judged_of : {A : Type 0} → Read A → Judged
-judged_of (got a next) = Good next
-judged_of (refused f place) = Bad (digit f) place
+-- the fault of the code that has the rules' name
+abbrev pub coded : Fault → Code
+coded S1 = code.S1
+coded S2 = code.S2
+coded S3 = code.S3
+coded S4 = code.S4
 
--- the same of a word, whose fault S3 is told by another digit
-abbrev pub told_as : {A : Type 0} → ℕ → Read A → Judged
-told_as d (got a next) = Good next
-told_as d (refused S1 place) = Bad (digit S1) place
-told_as d (refused S2 place) = Bad (digit S2) place
-told_as d (refused S3 place) = Bad d place
-told_as d (refused S4 place) = Bad (digit S4) place
+-- the rules' digit
+abbrev pub digit_of : Code → ℕ
+digit_of code.S1 = digit S1
+digit_of code.S2 = digit S2
+digit_of code.S3 = digit S3
+digit_of code.S4 = digit S4
+
+abbrev pub refusal : Fault → ℕ → Refusal
+refusal f i = record { fault = coded f; place = i }
+
+-- the fault and its place, or the offset behind what was read
+abbrev pub judged_of : {A : Type 0} → Read A → Result ℕ Refusal
+judged_of (got a next) = Ok next
+judged_of (refused f place) = Err (refusal f place)
+
+-- the same of a word, whose fault S3 is told as another
+abbrev pub told_as : {A : Type 0} → Code → Read A → Result ℕ Refusal
+told_as d (got a next) = Ok next
+told_as d (refused S1 place) = Err (refusal S1 place)
+told_as d (refused S2 place) = Err (refusal S2 place)
+told_as d (refused S3 place) = Err (record { fault = d; place = place })
+told_as d (refused S4 place) = Err (refusal S4 place)
 
 -- an earlier fault stays
-abbrev pub on_good : Judged → (ℕ → Judged) → Judged
-on_good (Good i) f = f i
-on_good (Bad d i) f = Bad d i
+abbrev pub on_good : Result ℕ Refusal → (ℕ → Result ℕ Refusal) → Result ℕ Refusal
+on_good (Ok i) f = f i
+on_good (Err e) f = Err e
 
 -- n ranges: the first, and the other for each further word
 abbrev pub ranges : ℕ → Range → Range → List Range

@@ -4,22 +4,15 @@
 
 ghost use Rattle.std.specs.Prelude.{◌≡◌, ◌+◌, ◌<◌, leb, length, get_or, replicate};
 ghost use Rattle.rules.specs.Setup.{S3, word_at, to, section, read_word, read_entry, read_entries, read_section};
-ghost use Rattle.setup_sections.specs.Judging.{onward, judged_of, told_as, ranges_of};
+ghost use Rattle.setup_sections.specs.Judging.{onward, digit_of, judged_of, told_as, ranges_of};
 
 // ---- words
 
-// The byte `k` behind an offset, 0 past the end. The two are not added before it is known that their sum is within the bytes.
+// The byte `k` behind an offset, 0 past the end, also where their sum is no offset.
 fn byte(bytes: &[u8], at: usize, k: usize) -> u32
     ensures { (result ≡ get_or bytes.now (at + k) 0) × (result < 256) }
 {
-    let end = bytes.len();
-    if end <= at {
-        return 0;
-    }
-    if end - at <= k {
-        return 0;
-    }
-    bytes[at + k] as u32
+    bytes.get(at.saturating_add(k)).map_or(0, |b| u32::from(*b))
 }
 
 // The word at any offset, with zeros past the end.
@@ -38,36 +31,46 @@ fn has_word(bytes: &[u8], at: usize) -> bool
     ensures { result ≡ leb (at + 4) (length bytes.now) }
 {
     let end = bytes.len();
-    if end < 4 {
-        return false;
-    }
-    if end - 4 < at {
-        return false;
-    }
-    true
+    4 <= end && at <= end - 4
 }
 
 // `n` bytes further, at most to the end: an offset cannot overflow.
 pub fn onward(bytes: &[u8], at: usize, n: usize) -> usize
     ensures { result ≡ onward bytes.now at n }
 {
-    let end = bytes.len();
-    if end < n {
-        return end;
-    }
-    if end - n < at {
-        return end;
-    }
-    at + n
+    at.saturating_add(n).min(bytes.len())
 }
 
 // ---- sections
 
-// The digit of the first fault and its place, or the offset behind what was read.
+// S1 the bytes end before a needed word is whole; S2 a count outside its range; S3 an entry outside its range; S4 bytes left over.
+#[derive(Clone, Copy, PartialEq, Eq)]
+pub enum Fault {
+    S1,
+    S2,
+    S3,
+    S4,
+}
+
+// The digit of its name.
+impl From<Fault> for u32 {
+    ghost from_gives = { λ f d. d ≡ digit_of f };
+
+    fn from(f: Fault) -> u32 {
+        match f {
+            Fault::S1 => 1,
+            Fault::S2 => 2,
+            Fault::S3 => 3,
+            Fault::S4 => 4,
+        }
+    }
+}
+
+// The first fault and its place. What is judged without one is told by the offset behind what was read.
 #[derive(Clone, Copy)]
-pub enum Judged {
-    Bad(u32, usize),
-    Good(usize),
+pub struct Refusal {
+    pub fault: Fault,
+    pub place: usize,
 }
 
 // From the least to the most.
@@ -75,6 +78,15 @@ pub enum Judged {
 pub struct Span {
     pub least: u32,
     pub most: u32,
+}
+
+impl Span {
+    pub fn new(least: u32, most: u32) -> Span
+        ensures least { result.least ≡ least }
+        ensures most { result.most ≡ most }
+    {
+        Span { least, most }
+    }
 }
 
 // The words of an entry: how many, the range of the first, and that of each further one.
@@ -85,83 +97,60 @@ pub struct Shape {
     pub others: Span,
 }
 
-// The word at an offset is whole, or has the fault S1; and it lies within its range, or has the fault whose digit is given.
-pub fn judge_word(bytes: &[u8], r: Span, fault: u32, at: usize) -> Judged
+// The word at an offset is whole, or has the fault S1; and it lies within its range, or has the fault that is given.
+pub fn judge_word(bytes: &[u8], r: Span, fault: Fault, at: usize) -> Result<usize, Refusal>
     ensures { result ≡ told_as fault (read_word bytes.now (to r.least r.most) S3 at) }
 {
     if !has_word(bytes, at) {
-        return Judged::Bad(1, at);
+        return Err(Refusal {
+            fault: Fault::S1,
+            place: at,
+        });
     }
     let w = word(bytes, at);
-    if w < r.least {
-        return Judged::Bad(fault, at);
+    if w < r.least || r.most < w {
+        return Err(Refusal { fault, place: at });
     }
-    if r.most < w {
-        return Judged::Bad(fault, at);
-    }
-    let next = at + 4;
-    Judged::Good(next)
+    Ok(at + 4)
 }
 
 // `n` words in a range.
-fn judge_words(bytes: &[u8], r: Span, n: u32, from: usize) -> Judged
+fn judge_words(bytes: &[u8], r: Span, n: u32, from: usize) -> Result<usize, Refusal>
     ensures { result ≡ judged_of (read_entry bytes.now (replicate n (to r.least r.most)) from) }
 {
     let mut at = from;
-    let mut left = n;
-    while 0 < left {
-        match judge_word(bytes, r, 3, at) {
-            Judged::Bad(d, i) => {
-                return Judged::Bad(d, i);
-            }
-            Judged::Good(next) => {
-                at = next;
-            }
-        }
-        left -= 1;
+    for _ in 0..n {
+        at = judge_word(bytes, r, Fault::S3, at)?;
     }
-    Judged::Good(at)
+    Ok(at)
 }
 
 // One entry.
-fn judge_entry(bytes: &[u8], e: Shape, at: usize) -> Judged
+fn judge_entry(bytes: &[u8], e: Shape, at: usize) -> Result<usize, Refusal>
     ensures { result ≡ judged_of (read_entry bytes.now (ranges_of e) at) }
 {
     if e.words == 0 {
-        return Judged::Good(at);
+        return Ok(at);
     }
-    match judge_word(bytes, e.first, 3, at) {
-        Judged::Bad(d, i) => Judged::Bad(d, i),
-        Judged::Good(next) => judge_words(bytes, e.others, e.words - 1, next),
-    }
+    let next = judge_word(bytes, e.first, Fault::S3, at)?;
+    judge_words(bytes, e.others, e.words - 1, next)
 }
 
 // `n` entries.
-pub fn judge_entries(bytes: &[u8], e: Shape, n: u32, from: usize) -> Judged
+pub fn judge_entries(bytes: &[u8], e: Shape, n: u32, from: usize) -> Result<usize, Refusal>
     ensures { result ≡ judged_of (read_entries bytes.now (ranges_of e) n from) }
 {
     let mut at = from;
-    let mut left = n;
-    while 0 < left {
-        match judge_entry(bytes, e, at) {
-            Judged::Bad(d, i) => {
-                return Judged::Bad(d, i);
-            }
-            Judged::Good(next) => {
-                at = next;
-            }
-        }
-        left -= 1;
+    for _ in 0..n {
+        at = judge_entry(bytes, e, at)?;
     }
-    Judged::Good(at)
+    Ok(at)
 }
 
-// A count from `least` to `most`, and an entry for each that it counts.
-pub fn judge_section(bytes: &[u8], least: u32, most: u32, e: Shape, at: usize) -> Judged
-    ensures { result ≡ judged_of (read_section bytes.now (section (to least most) (ranges_of e)) at) }
+// A count in a range, and an entry for each that it counts.
+pub fn judge_section(bytes: &[u8], count: Span, e: Shape, at: usize) -> Result<usize, Refusal>
+    ensures { result ≡ judged_of (read_section bytes.now (section (to count.least count.most) (ranges_of e)) at) }
 {
-    match judge_word(bytes, Span { least, most }, 2, at) {
-        Judged::Bad(d, i) => Judged::Bad(d, i),
-        Judged::Good(next) => judge_entries(bytes, e, word(bytes, at), next),
-    }
+    let next = judge_word(bytes, count, Fault::S2, at)?;
+    judge_entries(bytes, e, word(bytes, at), next)
 }

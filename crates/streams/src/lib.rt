@@ -4,6 +4,7 @@
 
 ghost use Rattle.std.specs.Prelude.{◌≤◌, length};
 
+use std::fmt::Display;
 use std::io::{Error, Print, Read, Write};
 
 // Room for what std says of a failure: the system's words, which have at most 256 bytes, and their number.
@@ -16,8 +17,8 @@ pub fn write_all(out: &impl Print, bytes: &[u8]) {
     let _ = out.write_all(bytes);
 }
 
-// Writes a number in decimal.
-pub fn print_decimal(out: &impl Print, n: u64) {
+// Writes a number in decimal, of whatever size, signed or not.
+pub fn print_decimal<N: Display + Drop>(out: &impl Print, n: N) {
     let _ = out.print(n);
 }
 
@@ -27,10 +28,7 @@ pub fn print_decimal(out: &impl Print, n: u64) {
 pub fn read_some(input: &mut impl Read, buf: &mut [u8]) -> usize
     ensures { result ≤ length buf.new }
 {
-    match input.read(buf) {
-        Ok(n) => n,
-        Err(_) => 0,
-    }
+    input.read(buf).unwrap_or(0)
 }
 
 // Reads until the buffer is full or the input ends, and gives how many bytes came.
@@ -58,10 +56,7 @@ fn reason(failure: Error, text: &mut [u8; REASON]) -> usize
     let _ = write!(rest, "{failure}");
     let end = REASON.saturating_sub(rest.len());
     let number = text[..end].iter().rposition(|b| *b == b'(');
-    match number {
-        Some(i) => i.saturating_sub(1),
-        None => end,
-    }
+    number.map_or(end, |i| i.saturating_sub(1))
 }
 
 // Writes a line: what failed, as the caller names it, a colon and the system's words for the failure.

@@ -17,4 +17,4 @@ overflow_add-result c = rw c.rounded_down.ensures (omega (arith, sum_fits c.requ
 
 pub returns : goal.returns
 unfolding between
-returns c = ap (λ (n : ℕ). c.args.y + n) c.rounded_down.ensures
+returns c = ap (λ (n : ℕ). c.args.p.level + n) c.rounded_down.ensures

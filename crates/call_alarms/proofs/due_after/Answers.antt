@@ -10,11 +10,11 @@ unfolding due_after
 returns-then-size-eq0 c = rw (eq-eqb _ 0 c.if-size-eq0.true)
 
 pub overflow_cast-result : goal.overflow_cast-result
-overflow_cast-result c = (fits_due _ _ c.ranges.size.fits c.if-size-eq0.false).0
+overflow_cast-result c = rw c.from-3.ensures (fits_due _ _ c.ranges.size.fits c.if-size-eq0.false).0
 
 pub overflow_add-result : goal.overflow_add-result
-overflow_add-result c = (fits_due _ _ c.ranges.size.fits c.if-size-eq0.false).1
+overflow_add-result c = rw c.from-3.ensures (fits_due _ _ c.ranges.size.fits c.if-size-eq0.false).1
 
 pub returns : goal.returns
 unfolding due_after
-returns c = rw (ne_eqb _ 0 c.if-size-eq0.false) (omega arith)
+returns c = rw (c.from.ensures, c.from-2.ensures, c.from-3.ensures, ne_eqb _ 0 c.if-size-eq0.false) (omega arith)

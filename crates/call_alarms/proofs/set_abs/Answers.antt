@@ -4,4 +4,4 @@ use Rattle.call_alarms.proofs.set_abs.Goals as goal
 
 pub returns : goal.returns
 returns c =
-    abs_done _ _ _ c.counter-size.ensures c.set_alm.ensures c.due_after-due.ensures
+    abs_done _ _ _ c.get-size.ensures c.set_alm.ensures c.due_after-due.ensures

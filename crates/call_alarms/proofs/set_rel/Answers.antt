@@ -4,4 +4,4 @@ use Rattle.call_alarms.proofs.set_rel.Goals as goal
 
 pub returns : goal.returns
 returns c =
-    rel_done _ _ _ c.counter-size.ensures c.set_alm.ensures c.counter-present.ensures c.due_after-due.ensures
+    rel_done _ _ _ c.get-size.ensures c.set_alm.ensures c.get-present.ensures c.due_after-due.ensures

@@ -4,4 +4,4 @@ use Rattle.call_flag_walk.proofs.set_flg.Goals as goal
 
 pub returns : goal.returns
 returns c =
-    set_done _ _ c.ranges.p.fits c.flag.ensures c.serve-w.ensures c.left_by.ensures c.set_flag.ensures c.reports.ensures
+    set_done _ _ c.ranges.p.fits c.get.ensures c.serve-w.ensures c.left_by.ensures c.set.ensures c.reports.ensures

@@ -4,4 +4,4 @@ use Rattle.call_flags.proofs.clr_flg.Goals as goal
 
 pub returns : goal.returns
 returns c =
-    clr_done _ c.flag-n.ensures _ c.set_flag.ensures c.done.ensures
+    clr_done _ c.get-n.ensures _ c.set.ensures c.done.ensures

@@ -1,15 +1,13 @@
 -- `call_flags::pol_flg` meets its contract. It is its rule, with its last resort. Assumes nothing.
+use mathlib.Core.Path.{refl}
 use Rattle.rules.specs.Codes.{number}
 use Rattle.call_objects.proofs.Taking.{poll_refused}
 use Rattle.call_flags.proofs.FlagCalls.{unmet, pattern_taken}
-use Rattle.std.proofs.lemmas.Bool.{not_from_false, not_from_true}
 use Rattle.call_flags.proofs.pol_flg.Goals as goal
 
-pub returns-then-not-meets : goal.returns-then-not-meets
-unfolding number
-returns-then-not-meets c =
-    unmet _ c.flag-n.ensures _ _ c.meets.ensures _ (not_from_false _ c.if-not-meets.true) (poll_refused c.refuse.ensures)
+pub returns-in-Some : goal.returns-in-Some
+returns-in-Some c = let h = c.in-Some.ensures in pattern_taken _ h.0 _ _ refl _ h.1 refl h.2 c.gives.ensures
 
-pub returns : goal.returns
-returns c =
-    pattern_taken _ c.flag-n.ensures _ _ c.meets.ensures _ (not_from_true _ c.if-not-meets.false) c.left_of.ensures c.set_flag.ensures c.gives.ensures
+pub returns-in-None : goal.returns-in-None
+unfolding number
+returns-in-None c = let h = c.in-None.ensures in rw h.1 (unmet _ refl _ _ refl _ h.0 (poll_refused c.refuse.ensures))

@@ -2,8 +2,8 @@
 use Rattle.call_judging.proofs.Tests.{no_alarms, all_alarms}
 use Rattle.call_judging.proofs.alarms.Goals as goal
 
-pub returns-then-counter-eq0 : goal.returns-then-counter-eq0
-returns-then-counter-eq0 c = no_alarms c.counter.ensures c.if-counter-eq0.true
+pub returns-then-get-eq0 : goal.returns-then-get-eq0
+returns-then-get-eq0 c = no_alarms c.get.ensures c.if-get-eq0.true
 
-pub returns-else-counter-eq0 : goal.returns-else-counter-eq0
-returns-else-counter-eq0 c = all_alarms _ c.counter.ensures c.if-counter-eq0.false
+pub returns-else-get-eq0 : goal.returns-else-get-eq0
+returns-else-get-eq0 c = all_alarms _ c.get.ensures c.if-get-eq0.false

@@ -2,28 +2,23 @@
 use mathlib.Core.Path.{refl, sym}
 use mir.Facts.{to_z-of_z}
 use borrow.Author.Tests.{eq-eqb, ne_eqb}
-use Rattle.rules.specs.Codes.{number}
 use Rattle.rules.specs.State.{flag}
-use Rattle.call_words.proofs.Signed.{saying}
 use Rattle.call_judging.proofs.Refused.{word_stops, word_passes}
 use Rattle.call_judging.proofs.Judged.{object_is}
 use Rattle.call_judging.proofs.on_flag.Goals as goal
 
 pub returns-then-is_outside : goal.returns-then-is_outside
-unfolding number
 returns-then-is_outside c =
-    λ m A. word_stops _ _ (object_is flag c.args.i _ m refl c.system.ensures c.is_outside.ensures) c.if-is_outside.true
+    λ m A. word_stops _ _ (object_is flag c.args.i _ m refl c.get.ensures c.is_outside.ensures) c.if-is_outside.true
 
 pub returns-then-p-eq0 : goal.returns-then-p-eq0
-unfolding number
 returns-then-p-eq0 c =
-    λ m A. word_passes _ _ (object_is flag c.args.i _ m refl c.system.ensures c.is_outside.ensures) c.if-is_outside.false (word_stops _ _ (sym (eq-eqb _ 0 c.if-p-eq0.true)) refl)
+    λ m A. word_passes _ _ (object_is flag c.args.i _ m refl c.get.ensures c.is_outside.ensures) c.if-is_outside.false (word_stops _ _ (sym (eq-eqb _ 0 c.if-p-eq0.true)) refl)
 
 pub returns-then-is_above : goal.returns-then-is_above
-unfolding number
 returns-then-is_above c =
-    λ m A. word_passes _ _ (object_is flag c.args.i _ m refl c.system.ensures c.is_outside.ensures) c.if-is_outside.false (word_passes _ _ (sym (ne_eqb _ 0 c.if-p-eq0.false)) refl (word_stops _ _ (rw (to_z-of_z c.ranges.c) at c.is_above.ensures) c.if-is_above.true))
+    λ m A. word_passes _ _ (object_is flag c.args.i _ m refl c.get.ensures c.is_outside.ensures) c.if-is_outside.false (word_passes _ _ (sym (ne_eqb _ 0 c.if-p-eq0.false)) refl (word_stops _ _ (rw (to_z-of_z c.ranges.c) at c.is_above.ensures) c.if-is_above.true))
 
 pub returns : goal.returns
 returns c =
-    λ m A. word_passes _ _ (object_is flag c.args.i _ m refl c.system.ensures c.is_outside.ensures) c.if-is_outside.false (word_passes _ _ (sym (ne_eqb _ 0 c.if-p-eq0.false)) refl (word_passes _ _ (rw (to_z-of_z c.ranges.c) at c.is_above.ensures) c.if-is_above.false (saying _ c.common.type_inv c.common.ensures)))
+    λ m A. word_passes _ _ (object_is flag c.args.i _ m refl c.get.ensures c.is_outside.ensures) c.if-is_outside.false (word_passes _ _ (sym (ne_eqb _ 0 c.if-p-eq0.false)) refl (word_passes _ _ (rw (to_z-of_z c.ranges.c) at c.is_above.ensures) c.if-is_above.false c.common.ensures))

@@ -1,15 +1,12 @@
 -- `call_judging::on_object` meets its contract. The id, then what is common. Assumes nothing.
-use Rattle.rules.specs.Codes.{number}
-use Rattle.call_words.proofs.Signed.{saying}
 use Rattle.call_judging.proofs.Refused.{word_stops, word_passes}
 use Rattle.call_judging.proofs.Judged.{object_is}
 use Rattle.call_judging.proofs.on_object.Goals as goal
 
 pub returns-then-is_outside : goal.returns-then-is_outside
-unfolding number
 returns-then-is_outside c =
-    λ k e m A. word_stops _ _ (object_is k c.args.i _ m e c.system.ensures c.is_outside.ensures) c.if-is_outside.true
+    λ k e m A. word_stops _ _ (object_is k c.args.i _ m e c.get.ensures c.is_outside.ensures) c.if-is_outside.true
 
 pub returns : goal.returns
 returns c =
-    λ k e m A. word_passes _ _ (object_is k c.args.i _ m e c.system.ensures c.is_outside.ensures) c.if-is_outside.false (saying _ c.common.type_inv c.common.ensures)
+    λ k e m A. word_passes _ _ (object_is k c.args.i _ m e c.get.ensures c.is_outside.ensures) c.if-is_outside.false c.common.ensures

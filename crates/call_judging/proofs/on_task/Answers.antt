@@ -1,16 +1,13 @@
 -- `call_judging::on_task` meets its contract. The id, then what is common. Assumes nothing.
-use Rattle.rules.specs.Codes.{number}
-use Rattle.call_words.proofs.Signed.{saying}
 use Rattle.call_judging.proofs.Refused.{word_stops}
 use Rattle.call_judging.specs.Judging.{context_of}
 use Rattle.call_judging.proofs.Judged.{task_is, task_passed}
 use Rattle.call_judging.proofs.on_task.Goals as goal
 
 pub returns-then-is_outside : goal.returns-then-is_outside
-unfolding number
 returns-then-is_outside c =
-    λ m A. word_stops _ _ (task_is c.args.i _ m c.system.ensures c.is_outside.ensures) c.if-is_outside.true
+    λ m A. word_stops _ _ (task_is c.args.i _ m c.get.ensures c.is_outside.ensures) c.if-is_outside.true
 
 pub returns : goal.returns
 returns c =
-    λ m A. task_passed (context_of c.args.strict) c.args.handler c.args.me c.args.target c.args.i _ m c.system.ensures c.is_outside.ensures c.if-is_outside.false (saying _ c.common.type_inv c.common.ensures)
+    λ m A. task_passed (context_of c.args.context) c.args.caller.handler c.args.caller.me c.args.target c.args.i _ m c.get.ensures c.is_outside.ensures c.if-is_outside.false c.common.ensures

@@ -1,14 +1,13 @@
 -- `call_mailboxes::prcv_msg` meets its contract. It is its rule, with its last resort. Assumes nothing.
+use mathlib.Core.Path.{refl}
 use Rattle.rules.specs.Codes.{number}
 use Rattle.call_objects.proofs.Taking.{poll_refused}
 use Rattle.call_mailboxes.proofs.MailboxCalls.{none_taken, message_taken}
 use Rattle.call_mailboxes.proofs.prcv_msg.Goals as goal
 
-pub returns-then-j-eq0 : goal.returns-then-j-eq0
-unfolding number
-returns-then-j-eq0 c =
-    none_taken _ c.first_message-j.ensures _ c.if-j-eq0.true (poll_refused c.refuse.ensures _)
+pub returns-in-Some : goal.returns-in-Some
+returns-in-Some c = let h = c.in-Some.ensures in message_taken _ h.0 _ h.1 h.2 c.gives.ensures
 
-pub returns : goal.returns
-returns c =
-    message_taken _ c.first_message-j.ensures _ c.if-j-eq0.false c.receive.ensures c.gives.ensures
+pub returns-in-None : goal.returns-in-None
+unfolding number
+returns-in-None c = let h = c.in-None.ensures in rw (h.1, h.2) (none_taken _ refl _ h.0 (poll_refused c.refuse.ensures _))

@@ -1,9 +1,8 @@
--- `call_pools::first_block` meets its contract. By its test. Assumes nothing.
-use Rattle.call_pools.proofs.PoolCalls.{block_none, block_some}
+-- `call_pools::first_block` meets its contract. Assumes nothing.
+use mathlib.Core.Path.{◌∙◌}
+use Rattle.call_objects.specs.Waiting.{first_block}
 use Rattle.call_pools.proofs.first_block.Goals as goal
 
-pub returns-then-x-before : goal.returns-then-x-before
-returns-then-x-before c = block_none _ _ c.free_anchor.ensures c.first-x.ensures c.block_node-before.ensures c.if-x-before.true
-
-pub returns-else-x-before : goal.returns-else-x-before
-returns-else-x-before c = block_some _ _ c.free_anchor.ensures c.first-x.ensures c.block_node-before.ensures
+pub returns : goal.returns
+unfolding first_block
+returns c = c.saturating_sub.ensures ∙ rw (c.first.ensures, c.free_anchor.ensures, c.block_node.ensures)

@@ -3,10 +3,10 @@ use borrow.Author.Tests.{le-leb, lt-leb}
 use Rattle.call_reading.specs.Reading.{wakeups_at}
 use Rattle.call_reading.proofs.stored.Goals as goal
 
-pub returns-then-system-i : goal.returns-then-system-i
+pub returns-then-get-i : goal.returns-then-get-i
 unfolding wakeups_at
-returns-then-system-i c = rw (← c.system.ensures, lt-leb _ _ c.if-system-i.true)
+returns-then-get-i c = rw (← c.get.ensures, lt-leb _ _ c.if-get-i.true)
 
-pub returns-else-system-i : goal.returns-else-system-i
+pub returns-else-get-i : goal.returns-else-get-i
 unfolding wakeups_at
-returns-else-system-i c = rw (← c.system.ensures, le-leb _ _ c.if-system-i.false) c.wakeups.ensures
+returns-else-get-i c = rw (← c.get.ensures, le-leb _ _ c.if-get-i.false) c.get-else-get-i.ensures

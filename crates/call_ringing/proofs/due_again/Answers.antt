@@ -7,4 +7,4 @@ returns-then-period-eq0 c = again_once _ c.if-period-eq0.true
 
 pub returns : goal.returns
 returns c =
-    again_more _ c.if-period-eq0.false c.counter-count.ensures c.counter-size.ensures c.due_after.ensures
+    again_more _ c.if-period-eq0.false c.get-count.ensures c.get-size.ensures c.due_after.ensures

@@ -10,4 +10,4 @@ returns-then-not-is_due c = record { performs_on_words = fire_not _ _ c.is_due.e
 
 pub returns : goal.returns
 returns c =
-    record { performs_on_words = fire_done _ _ c.is_due.ensures (not_from_true _ c.if-not-is_due.false) c.alarm_period-period.ensures c.due_again-due.ensures c.strike-s.ensures (rw (signed _ c.struct_told-1.given.0.1) at c.unsigned-kept.ensures) c.set_alarm.ensures c.at_most.ensures.0; upper_bound = c.at_most.ensures.1 }
+    record { performs_on_words = fire_done _ _ c.is_due.ensures (not_from_true _ c.if-not-is_due.false) c.get-period.ensures c.due_again-due.ensures c.strike-s.ensures (rw (signed _ c.struct_told-1.given.0.1) at c.unsigned-kept.ensures) c.set_alarm.ensures c.at_most.ensures.0; upper_bound = c.at_most.ensures.1 }

@@ -2,8 +2,8 @@
 use Rattle.call_ringing.proofs.Firing.{due_idle, due_now}
 use Rattle.call_ringing.proofs.is_due.Goals as goal
 
-pub returns-then-due-eq0 : goal.returns-then-due-eq0
-returns-then-due-eq0 c = due_idle _ _ c.alarm_due-due.ensures c.if-due-eq0.true
+pub returns-then-due-ne0 : goal.returns-then-due-ne0
+returns-then-due-ne0 c = due_now _ _ c.get-due.ensures c.if-due-ne0.true c.get.ensures
 
-pub returns : goal.returns
-returns c = due_now _ _ c.alarm_due-due.ensures c.if-due-eq0.false c.counter.ensures
+pub returns-else-due-ne0 : goal.returns-else-due-ne0
+returns-else-due-ne0 c = rw c.if-due-ne0.false (due_idle _ _ c.get-due.ensures c.if-due-ne0.false)

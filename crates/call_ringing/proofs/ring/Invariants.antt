@@ -1,10 +1,6 @@
-use Prim.Native.Nat.{◌+◌, ◌<◌}
-use mathlib.Core.Path.{◌≡◌}
+use Prim.Native.Nat.{◌-◌, ◌<◌}
 use Rattle.call_ringing.proofs.Ringing.{AllLeft}
 use Rattle.call_ringing.proofs.ring.Given as goal
 
-abbrev pub invariant-loop-left : goal.invariant-loop-left
-invariant-loop-left l = AllLeft l.initial.words l.count l.left l.k l.words × (l.k + l.left ≡ 9) × (l.count < l.k)
-
-abbrev pub decreases-loop-left : goal.decreases-loop-left
-decreases-loop-left l = l.left
+abbrev pub invariant-loop-k : goal.invariant-loop-k
+invariant-loop-k l = AllLeft l.initial.words l.count (9 - l.k) l.k l.words × (l.count < l.k)

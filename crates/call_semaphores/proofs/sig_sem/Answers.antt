@@ -10,8 +10,8 @@ returns-then-x-ne0 c =
 pub returns-then-n-ge-MOST_COUNT : goal.returns-then-n-ge-MOST_COUNT
 unfolding number
 returns-then-n-ge-MOST_COUNT c =
-    sig_full _ c.first_waiter-x.ensures c.semaphore-n.ensures c.if-x-ne0.false c.if-n-ge-MOST_COUNT.true c.refuse.ensures
+    sig_full _ c.first_waiter-x.ensures c.get-n.ensures c.if-x-ne0.false c.if-n-ge-MOST_COUNT.true c.refuse.ensures
 
 pub returns : goal.returns
 returns c =
-    sig_counts _ c.first_waiter-x.ensures c.semaphore-n.ensures c.if-x-ne0.false c.if-n-ge-MOST_COUNT.false c.set_semaphore.ensures c.done.ensures
+    sig_counts _ c.first_waiter-x.ensures c.get-n.ensures c.if-x-ne0.false c.if-n-ge-MOST_COUNT.false c.set.ensures c.done.ensures

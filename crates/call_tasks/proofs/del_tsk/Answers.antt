@@ -3,11 +3,11 @@ use Rattle.rules.specs.Codes.{number}
 use Rattle.call_tasks.proofs.TaskCalls.{del_alive, del_done}
 use Rattle.call_tasks.proofs.del_tsk.Goals as goal
 
-pub returns-then-status-ne-DORMANT : goal.returns-then-status-ne-DORMANT
+pub returns-then-get-ne-DORMANT : goal.returns-then-get-ne-DORMANT
 unfolding number
-returns-then-status-ne-DORMANT c =
-    del_alive _ c.status.ensures c.if-status-ne-DORMANT.true c.refuse.ensures
+returns-then-get-ne-DORMANT c =
+    del_alive _ c.get.ensures c.if-get-ne-DORMANT.true c.refuse.ensures
 
 pub returns : goal.returns
 returns c =
-    del_done _ c.status.ensures c.if-status-ne-DORMANT.false c.delete.ensures c.done.ensures
+    del_done _ c.get.ensures c.if-get-ne-DORMANT.false c.delete.ensures c.done.ensures

@@ -4,4 +4,4 @@ use Rattle.call_tasks.proofs.get_tim.Goals as goal
 
 pub returns : goal.returns
 returns c =
-    tim_done c.system-high.ensures c.system-low.ensures c.gives.ensures
+    tim_done c.get-high.ensures c.get-low.ensures c.gives.ensures

@@ -4,4 +4,4 @@ use Rattle.call_tasks.proofs.tsk_sts.Goals as goal
 
 pub returns : goal.returns
 returns c =
-    sts_done _ c.state_number-s.ensures c.priority-p.ensures c.gives.ensures
+    sts_done _ c.state_number-s.ensures c.get-p.ensures c.gives.ensures

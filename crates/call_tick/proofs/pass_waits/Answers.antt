@@ -5,7 +5,7 @@ use Rattle.call_tick.proofs.pass_waits.Goals as goal
 
 pub returns-then-any_left : goal.returns-then-any_left
 returns-then-any_left c =
-    let s = c.system.ensures in
+    let s = c.get.ensures in
     let n = c.at_most-n.ensures.0 in
     let w = c.end_waits-count.ensures in
     record { words_after = pass_some _ s n w.words_after c.age_all.ensures; value = (pass_count _ s n w.value.0, w.value.1) }

@@ -4,4 +4,4 @@ use Rattle.call_wakeups.proofs.can_wup.Goals as goal
 
 pub returns : goal.returns
 returns c =
-    can_done _ c.wakeups-n.ensures c.set_wakeups.ensures c.gives.ensures
+    can_done _ c.get-n.ensures c.set.ensures c.gives.ensures

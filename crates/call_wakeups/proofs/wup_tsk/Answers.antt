@@ -10,8 +10,8 @@ returns-then-is_sleeping c =
 pub returns-then-n-ge-MOST_WAKEUPS : goal.returns-then-n-ge-MOST_WAKEUPS
 unfolding number
 returns-then-n-ge-MOST_WAKEUPS c =
-    wup_full _ c.is_sleeping.ensures c.if-is_sleeping.false c.wakeups-n.ensures c.if-n-ge-MOST_WAKEUPS.true c.refuse.ensures
+    wup_full _ c.is_sleeping.ensures c.if-is_sleeping.false c.get-n.ensures c.if-n-ge-MOST_WAKEUPS.true c.refuse.ensures
 
 pub returns : goal.returns
 returns c =
-    wup_counts _ c.is_sleeping.ensures c.if-is_sleeping.false c.wakeups-n.ensures c.if-n-ge-MOST_WAKEUPS.false c.set_wakeups.ensures c.done.ensures
+    wup_counts _ c.is_sleeping.ensures c.if-is_sleeping.false c.get-n.ensures c.if-n-ge-MOST_WAKEUPS.false c.set.ensures c.done.ensures

@@ -1,37 +1,35 @@
--- `check_damage::first_broken` meets its contract. What is left of the rules, and of the ids of one, tells what all of them do. Assumes nothing.
-use mathlib.Core.Path.{ap, ◌∙◌}
-use native.Mathlib.Omega.{arith}
-use Rattle.check_ranges.proofs.Steps.{failed, passed}
-use Rattle.check_damage.specs.Damage.{Told}
-use Rattle.check_damage.proofs.Steps.{trying_starts, no_rule, looking_starts, no_id, id_broken, id_kept}
-use mir.Facts.{to_z-of_z}
-use mir.Syntax.{w32}
+-- `check_damage::first_broken` meets its contract: by the rules before, and the one that is broken. Assumes nothing.
+use mathlib.Core.Path.{◌≡◌, ◌∙◌}
+use Rattle.check_damage.specs.Damage.{told, told_by}
+use Rattle.check_damage.proofs.Steps.{rule_kept, rule_broken, last_rule, from_served, from_twice, from_free, in_order}
 use borrow.Author.Rules.{rules}
 use Rattle.check_damage.proofs.first_broken.Goals as goal
 
-pub rules-init : goal.rules-init
-rules-init c = trying_starts _
+pub returns-in_err-keeps : goal.returns-in_err-keeps
+returns-in_err-keeps c =
+    let b = c.args.words.now in
+    let e : told_by c.from_residual.result ≡ told c.in_err-keeps.field-0.0.code c.in_err-keeps.field-0.0.id = search rules in
+    e ∙ rule_broken _ _ (from_served b) c.in_err-keeps.ensures c.few.ensures.0 (λ i t g. search rules) ∙ in_order b
 
-pub loop-id-init : goal.loop-id-init
-loop-id-init c = looking_starts _ _ c.rules.invariant c.if-rule-ge-RULES.false c.ids_of-n.ensures.0
+pub returns-in_err-keeps-2 : goal.returns-in_err-keeps-2
+returns-in_err-keeps-2 c =
+    let b = c.args.words.now in
+    let e : told_by c.from_residual-in_err-keeps-2.result ≡ told c.in_err-keeps-2.field-0.0.code c.in_err-keeps-2.field-0.0.id = search rules in
+    e ∙ rule_broken _ _ (from_twice b) c.in_err-keeps-2.ensures c.few-2.ensures.0 (λ i t g. search rules)
+    ∙ rule_kept _ _ (from_served b) c.in_ok-keeps.ensures c.few.ensures.0 (λ i t g. search rules) ∙ in_order b
 
-pub overflow_add-id : goal.overflow_add-id
-overflow_add-id c = omega (arith, c.ids_of-n.ensures.1, c.loop-id-test.true)
+pub returns-in_err-keeps-3 : goal.returns-in_err-keeps-3
+returns-in_err-keeps-3 c =
+    let b = c.args.words.now in
+    let e : told_by c.from_residual-in_err-keeps-3.result ≡ told c.in_err-keeps-3.field-0.0.code c.in_err-keeps-3.field-0.0.id = search rules in
+    e ∙ rule_broken _ _ (from_free b) c.in_err-keeps-3.ensures c.few-3.ensures.0 (λ i t g. search rules)
+    ∙ rule_kept _ _ (from_twice b) c.in_ok-keeps-2.ensures c.few-2.ensures.0 (λ i t g. search rules)
+    ∙ rule_kept _ _ (from_served b) c.in_ok-keeps.ensures c.few.ensures.0 (λ i t g. search rules) ∙ in_order b
 
-pub loop-id-smaller : goal.loop-id-smaller
-loop-id-smaller c = omega (arith, c.loop-id-test.true)
-
-pub loop-id-preserved : goal.loop-id-preserved
-loop-id-preserved c = id_kept _ c.rules.rule _ _ c.loop-id.invariant c.loop-id-test.true (passed c.keeps.ensures (search rules))
-
-pub rules-smaller : goal.rules-smaller
-rules-smaller c = omega (arith, c.if-rule-ge-RULES.false)
-
-pub rules-preserved : goal.rules-preserved
-rules-preserved c = no_id _ _ _ _ c.loop-id.invariant c.loop-id-test.false c.if-rule-ge-RULES.false
-
-pub returns-then-rule-ge-RULES : goal.returns-then-rule-ge-RULES
-returns-then-rule-ge-RULES c = let e = no_rule _ _ c.rules.invariant c.if-rule-ge-RULES.true in (ap (λ (t : Told). t.code) e, ap (λ (t : Told). t.id) e)
-
-pub returns-then-not-keeps : goal.returns-then-not-keeps
-returns-then-not-keeps c = let e = id_broken _ c.rules.rule _ _ c.loop-id.invariant c.loop-id-test.true (failed c.keeps.ensures (search rules)) in (to_z-of_z {w = w32} (record { sfits = c.code_of.type_inv }) ∙ c.code_of.ensures ∙ ap (λ (c : Told). c.code) e, ap (λ (c : Told). c.id) e)
+pub returns : goal.returns
+returns c =
+    let b = c.args.words.now in
+    last_rule _ _ c.keeps-4.result c.keeps-4.ensures c.few-4.ensures.0 (λ i t g. search rules)
+    ∙ rule_kept _ _ (from_free b) c.in_ok-keeps-3.ensures c.few-3.ensures.0 (λ i t g. search rules)
+    ∙ rule_kept _ _ (from_twice b) c.in_ok-keeps-2.ensures c.few-2.ensures.0 (λ i t g. search rules)
+    ∙ rule_kept _ _ (from_served b) c.in_ok-keeps.ensures c.few.ensures.0 (λ i t g. search rules) ∙ in_order b

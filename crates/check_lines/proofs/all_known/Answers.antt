@@ -1,17 +1,10 @@
--- `check_lines::all_known` meets its contract. The lines that have not been looked at decide as all of them do. Assumes nothing.
-use borrow.Author.Rules.{rules}
-use Rattle.check_ranges.proofs.Steps.{failed, passed}
-use Rattle.check_ranges.proofs.Loops.{passing_none, passing_all, passing_fail, passing_on}
+-- `check_lines::all_known` meets its contract. Assumes nothing.
+use Rattle.std.proofs.Common.{◌+◌, refl, rules, tests}
+use Rattle.memory_rings.specs.Links.{nexts}
+use Rattle.memory_rings.specs.Rings.{line_of}
+use Rattle.check_ranges.proofs.Loops.{all_from_zero}
+use Rattle.check_lines.specs.Lists.{known}
 use Rattle.check_lines.proofs.all_known.Goals as goal
 
-pub loop-o-init : goal.loop-o-init
-loop-o-init c = passing_none _ _
-
-pub returns-then-not-line_known : goal.returns-then-not-line_known
-returns-then-not-line_known c = passing_fail _ _ _ c.loop-o.invariant c.loop-o-test.true (failed c.line_known.ensures (search rules))
-
-pub loop-o-preserved : goal.loop-o-preserved
-loop-o-preserved c = passing_on _ _ _ c.loop-o.invariant c.loop-o-test.true (passed c.line_known.ensures (search rules))
-
 pub returns : goal.returns
-returns c = passing_all _ _ _ c.loop-o.invariant c.loop-o-test.false
+returns c = let a = c.args in all_from_zero (λ o. known 0 a.n (line_of a.n (nexts a.links.now) (a.before + o))) a.count c.all.ensures.ran refl (λ x b q k. search (rules, tests))

@@ -1,9 +1,6 @@
 -- `check_lines::at_most_once` meets its contract. The lines that are left decide as all of them do. Assumes nothing.
-use Rattle.check_lines.proofs.Walks.{summing_starts, sum_done, sum_fails, sum_on}
+use Rattle.check_lines.proofs.Walks.{sum_done, sum_fails, sum_on}
 use Rattle.check_lines.proofs.at_most_once.Goals as goal
-
-pub loop-o-init : goal.loop-o-init
-loop-o-init c = summing_starts _ _ _ _ _
 
 pub returns-then-found-gt1 : goal.returns-then-found-gt1
 returns-then-found-gt1 c = sum_fails _ _ _ _ _ _ _ c.loop-o.invariant c.loop-o-test.true c.times_in-found.ensures.0 c.if-found-gt1.true

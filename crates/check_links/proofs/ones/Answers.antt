@@ -1,27 +1,18 @@
--- `check_links::ones` meets its contract. The invariant: the count is that of the ids of the masks passed. Assumes nothing.
-use Rattle.std.proofs.Common.{◌≡◌, ℕ, ◌*◌, length, refl, ap, ◌∙◌, arith}
+-- `check_links::ones` meets its contract. Assumes nothing.
+use Rattle.std.proofs.Common.{◌≡◌, ◌*◌, length, ◌∙◌, rules, tests, arith}
+use lib.Count.{ones}
+use Rattle.std.proofs.lemmas.Iterator.{YieldsList-from_slice, YieldsList-from_map}
+use Rattle.std.proofs.lemmas.Iterator.Consumers.{sum_by_from_yields_List}
 use Rattle.check_links.specs.declared.Table.TheVariants.{Masks}
 use Rattle.check_links.specs.Survey.{counted, bits, housed}
-use Rattle.check_links.proofs.Bits.{ones_on, ones_few}
+use Rattle.check_links.proofs.Bits.{ones_are}
+use Rattle.check_links.proofs.Counts.{counted_few}
 use Rattle.check_links.proofs.ones.Goals as goal
-
-pub loop-i-init : goal.loop-i-init
-unfolding counted
-loop-i-init c = (refl, omega arith, omega arith)
-
-pub overflow_add-n : goal.overflow_add-n
-overflow_add-n c = let l = c.loop-i in omega (arith, ones_few _ (c.shared_slice_known-1.given l.i).fits)
-
-pub loop-i-preserved : goal.loop-i-preserved
-loop-i-preserved c =
-    let l = c.loop-i in
-    let m = (c.shared_slice_known-1.given l.i).fits in
-    let w = c.args.masks.now in
-    (ones_on w l.i m l.invariant.0, omega (arith, ones_few _ m), omega arith)
 
 pub returns : goal.returns
 returns c =
-    let l = c.loop-i in
     let w = c.args.masks.now in
-    let e : l.i ≡ length w = omega arith in
-    (l.invariant.0 ∙ ap (λ (j : ℕ). counted (bits * j) (housed Masks w)) e, omega arith)
+    let e : c.sum.result ≡ counted (bits * length w) (housed Masks w) =
+    sum_by_from_yields_List ones w c.map.result _ c.sum.ensures.ran (YieldsList-from_map _ ones (YieldsList-from_slice w cc) c.map.ensures.closure (λ x r q k. search (rules, tests)))
+    ∙ ones_are w (λ i. (c.type_inv.masks i).fits) in
+    (e, omega (arith, e, counted_few (bits * length w) (housed Masks w)))

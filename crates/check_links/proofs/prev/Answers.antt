@@ -1,7 +1,6 @@
 -- `check_links::prev` meets its contract. The node is read from the second half. Assumes nothing.
-use Rattle.std.proofs.Common.{◌∙◌}
 use Rattle.memory_rings.proofs.Halves.{prev_at}
 use Rattle.check_links.proofs.prev.Goals as goal
 
 pub returns : goal.returns
-returns c = c.wide.ensures ∙ prev_at _ _ c.requires
+returns c = prev_at _ _ c.requires

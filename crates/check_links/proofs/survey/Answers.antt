@@ -1,7 +1,6 @@
 -- `check_links::survey` meets its contract. The invariant: the rings from b on, from the budget as it is, are all the rings from the budget at the start. Assumes nothing.
-use Rattle.std.proofs.Common.{refl, ◌∙◌, subst, arith, rules}
-use Rattle.check_links.proofs.Steps.{Surveying, survey_start, survey_left, anchor_node, anchor_covered, survey_next, survey_ends, ring_empty, ring_open, range_long, range_ids, range_over, range_bare}
-use Rattle.check_links.specs.Survey.{covers, ranged}
+use Rattle.std.proofs.Common.{refl, ◌∙◌, rules}
+use Rattle.check_links.proofs.Steps.{survey_start, survey_left, anchor_node, anchor_covered, survey_next, survey_ends, ring_empty, ring_open, range_long, range_ids, range_over, range_bare}
 use Rattle.check_links.proofs.survey.Goals as goal
 
 pub returns-then-words-gt-MOST : goal.returns-then-words-gt-MOST
@@ -11,20 +10,15 @@ pub returns-then-half-ids : goal.returns-then-half-ids
 returns-then-half-ids c = range_ids _ _ _ _ _ _ c.ids.ensures c.if-half-ids.true
 
 pub returns-then-half-e : goal.returns-then-half-e
-returns-then-half-e c =
-    range_over _ _ _ _ _ _ (omega (arith, c.if-half-e.true, c.wide-first.ensures, c.wide-n.ensures))
+returns-then-half-e c = range_over _ _ _ _ _ _ c.if-half-e.true
 
 pub returns-then-not-is_covered : goal.returns-then-not-is_covered
-returns-then-not-is_covered c =
-    let g = c.args in
-    range_bare _ g.table g.words.now _ _ _ (c.is_covered.ensures ∙ (λ z. covers g.table g.words.now (c.wide-first.ensures z) (c.wide-n.ensures z))) (search rules)
+returns-then-not-is_covered c = let g = c.args in range_bare _ g.table g.words.now _ _ _ c.is_covered.ensures (search rules)
 
 pub loop-b-init : goal.loop-b-init
 loop-b-init c =
     let g = c.args in
-    subst (Surveying g.links.now g.table g.words.now c.wide-first.result c.wide-n.result c.wide-first.result g.budget)
-    (λ z. ranged g.links.now g.table g.words.now (c.wide-first.ensures z) (c.wide-n.ensures z) g.budget)
-    (survey_start _ g.table g.words.now _ _ _ c.if-words-gt-MOST.false c.ids.ensures c.if-half-ids.false c.if-half-e.false c.is_covered.ensures (search rules))
+    survey_start _ g.table g.words.now _ _ _ c.if-words-gt-MOST.false c.ids.ensures c.if-half-ids.false c.if-half-e.false c.is_covered.ensures (search rules)
 
 pub next-requires : goal.next-requires
 next-requires c = anchor_node _ _ _ _ _ _ _ _ c.loop-b.invariant c.loop-b-test.true

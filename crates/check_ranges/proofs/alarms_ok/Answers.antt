@@ -1,16 +1,9 @@
--- `check_ranges::alarms_ok` meets its contract. What was said of the alarms passed, and those that are left, decide as all of them do.
--- Assumes nothing.
-use mathlib.Core.Bool.{◌&&◌}
-use mathlib.Core.Path.{refl, ◌∙◌}
-use Rattle.check_ranges.proofs.Loops.{said_all, said_on}
+-- `check_ranges::alarms_ok` meets its contract. Assumes nothing.
+use Rattle.std.proofs.Common.{refl, rules, tests}
+use Rattle.memory_columns.specs.Layout.{max_alarms}
+use Rattle.check_ranges.specs.Ranges.{alarm_ok}
+use Rattle.check_ranges.proofs.Loops.{fold_is_every}
 use Rattle.check_ranges.proofs.alarms_ok.Goals as goal
 
-pub loop-left-init : goal.loop-left-init
-loop-left-init c = (refl, refl)
-
-pub loop-left-preserved : goal.loop-left-preserved
-loop-left-preserved c =
-    said_on _ _ _ _ c.loop-left.fine c.loop-left.invariant c.loop-left-test.true (c.both-fine.ensures ∙ (λ z. c.loop-left.fine && c.alarm_ok.ensures z))
-
 pub returns : goal.returns
-returns c = said_all _ _ _ _ c.loop-left.fine c.loop-left.invariant c.loop-left-test.false
+returns c = fold_is_every (alarm_ok c.args.words.now c.args.size) max_alarms c.fold.ensures.ran refl (λ a x b q k. search (rules, tests))

@@ -1,18 +1,13 @@
--- `check_ranges::messages_ok` meets its contract. What was said of the messages passed, and those that are left, decide as all of them do.
--- Assumes nothing.
-use mathlib.Core.Bool.{◌&&◌}
-use mathlib.Core.Path.{refl, ◌∙◌}
-use native.Mathlib.Omega.{arith}
-use lib.Dec.{leb}
-use Rattle.check_ranges.proofs.Loops.{said_all, said_on}
+-- `check_ranges::messages_ok` meets its contract. Assumes nothing.
+use Rattle.std.proofs.Common.{take, leb, ◌∙◌, arith, rules, tests}
+use Rattle.std.proofs.lemmas.Iterator.{YieldsList-from_slice}
+use Rattle.memory_columns.specs.Layout as Layout
+use Rattle.check_ranges.specs.Ranges.{many}
+use Rattle.check_ranges.proofs.Loops.{fold_is_all, every_of}
 use Rattle.check_ranges.proofs.messages_ok.Goals as goal
 
-pub loop-left-init : goal.loop-left-init
-loop-left-init c = (refl, omega arith)
-
-pub loop-left-preserved : goal.loop-left-preserved
-loop-left-preserved c =
-    said_on _ _ _ _ c.loop-left.fine c.loop-left.invariant c.loop-left-test.true (c.both-fine.ensures ∙ (λ z. c.loop-left.fine && leb (c.mark_of.ensures z) (c.system-mailboxes.ensures z)))
-
 pub returns : goal.returns
-returns c = said_all _ _ _ _ c.loop-left.fine c.loop-left.invariant c.loop-left-test.false
+returns c =
+    let a = c.args in
+    let f = λ (m : _). leb m (many a.words.now Layout.mailboxes) in
+    fold_is_all f c.fold.ensures.ran (YieldsList-from_slice (take a.n a.messages.now) cc) (λ a x b q k. search (rules, tests)) ∙ every_of f a.messages.now a.n (search (rules, arith))

@@ -1,19 +1,8 @@
--- `check_ranges::objects_ok` meets its contract. The ids that are left decide as all of them do. Assumes nothing.
-use mathlib.Core.Path.{refl}
-use native.Mathlib.Omega.{arith}
-use Rattle.check_ranges.proofs.Steps.{failed, passed}
-use Rattle.check_ranges.proofs.Loops.{going_done, going_fail, going_on}
-use borrow.Author.Rules.{rules}
+-- `check_ranges::objects_ok` meets its contract. Assumes nothing.
+use Rattle.std.proofs.Common.{refl, rules, tests}
+use Rattle.check_ranges.specs.Ranges.{object_ok}
+use Rattle.check_ranges.proofs.Loops.{all_is_every}
 use Rattle.check_ranges.proofs.objects_ok.Goals as goal
 
-pub loop-left-init : goal.loop-left-init
-loop-left-init c = (refl, omega arith)
-
-pub returns-then-not-object_ok : goal.returns-then-not-object_ok
-returns-then-not-object_ok c = going_fail _ _ _ _ c.loop-left.invariant c.loop-left-test.true (failed c.object_ok.ensures (search rules))
-
-pub loop-left-preserved : goal.loop-left-preserved
-loop-left-preserved c = going_on _ _ _ _ c.loop-left.invariant c.loop-left-test.true (passed c.object_ok.ensures (search rules))
-
 pub returns : goal.returns
-returns c = going_done _ _ _ _ c.loop-left.invariant c.loop-left-test.false
+returns c = all_is_every (object_ok c.args.words.now c.args.kind) c.args.n c.all.ensures.ran refl (λ x b q k. search (rules, tests))

@@ -4,4 +4,4 @@ use Rattle.run_compare_text.proofs.Laid.{written_within}
 use Rattle.compare.proofs.main.Goals as goal
 
 pub show-requires : goal.show-requires
-show-requires c = omega (arith, written_within c.compare-told.ensures _ c.in-Written.is, c.compare-told.auto)
+show-requires c = omega (arith, written_within c.compare.ensures _ c.in-Ok.is, c.compare.auto)

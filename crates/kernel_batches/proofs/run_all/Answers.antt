@@ -1,10 +1,9 @@
 -- `kernel_batches::run_all` meets its contract: by the check and the running task. Assumes nothing.
 use Rattle.memory_picture.specs.Picture.{memory}
-use Rattle.kernel_serving.proofs.Served.{known_first}
 use Rattle.kernel_batches.specs.Batches.{lent}
 use Rattle.kernel_batches.proofs.Batches.{fit_room}
 use Rattle.kernel_batches.proofs.run_all.Goals as goal
 
 pub returns : goal.returns
 returns c =
-    c.serve_all.ensures (known_first _ _ c.judged-found.ensures c.running_task-me.ensures) (fit_room _ (lent (memory c.args.words.now c.args.messages.now) c.args.codes.now c.args.answers.now) c.requires)
+    c.serve_all.ensures c.look-known.ensures (fit_room _ (lent (memory c.args.words.now c.args.messages.now) c.args.codes.now c.args.answers.now) c.requires)

@@ -1,12 +1,6 @@
-use mathlib.Core.Path.{◌≡◌}
-use Prim.Native.Nat.{◌-◌, ◌≤◌}
-use lib.ListN.{length}
 use Rattle.call_reading.specs.Reading.{number_at}
 use Rattle.kernel_cells.specs.Promises.{Listed}
 use Rattle.kernel_cells.proofs.list_states.Given as goal
 
 abbrev pub invariant-loop-i : goal.invariant-loop-i
-invariant-loop-i l = Listed (number_at l.words) l.i l.initial.out l.out × (l.i ≤ l.n) × (length l.out ≡ length l.initial.out)
-
-abbrev pub decreases-loop-i : goal.decreases-loop-i
-decreases-loop-i l = l.n - l.i
+invariant-loop-i l = Listed (number_at l.words) l.i l.initial.out l.out

@@ -12,24 +12,15 @@ serve_one-runs-requires c =
     let Q = c.count-n.ensures in
     (omega (arith, c.loop-i-test.true, Q.0), omega (arith, c.loop-i-test.true, Q.1, c.loop-i.invariant.codes), omega (arith, c.loop-i-test.true, Q.2, c.loop-i.invariant.answers))
 
-pub loop-i-smaller : goal.loop-i-smaller
-loop-i-smaller c = omega arith
-
 pub loop-i-preserved : goal.loop-i-preserved
 loop-i-preserved c =
     let h = c.loop-i.invariant in
     let Q = c.count-n.ensures in
     record {
-      running = λ K P. let R = h.running K P in goes_on P (omega (arith, c.loop-i-test.true, Q.0)) R (c.serve_one-runs.ensures R.known);
-      codes = omega (arith, c.codes-1.given, h.codes);
-      answers = omega (arith, c.answers-1.given, h.answers);
+      running = λ K P. let R = h.running K P in goes_on P (omega (arith, c.loop-i-test.true, Q.0)) R (c.serve_one-runs.ensures R.known) c.and-now.ensures;
+      codes = omega (arith, h.codes);
+      answers = omega (arith, h.answers);
     }
-
-pub shape_of-codes : goal.shape_of-codes
-shape_of-codes c = c.loop-i.invariant.codes
-
-pub shape_of-answers : goal.shape_of-answers
-shape_of-answers c = c.loop-i.invariant.answers
 
 pub returns : goal.returns
 returns c =

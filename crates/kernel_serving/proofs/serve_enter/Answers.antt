@@ -1,13 +1,13 @@
 -- `kernel_serving::serve_enter` meets its contract. By what is known, and the entry. Assumes nothing.
-use mathlib.Core.Path.{◌∙◌}
-use Rattle.kernel_serving.proofs.Served.{unsound_step, not_sound, enter_done}
-use Rattle.kernel_steps.proofs.Codes.{word_sound, word_damaged}
+use mathlib.Core.Path.{refl}
+use borrow.Author.Rules.{rules}
+use Rattle.rules.specs.Events.{enter}
+use Rattle.rules.specs.Handling.{entered}
+use Rattle.rules.specs.Table.{judge}
+use Rattle.call_words.specs.Naming.{Runs}
+use Rattle.kernel_serving.proofs.Served.{acts_step}
 use Rattle.kernel_serving.proofs.serve_enter.Goals as goal
 
-pub returns-then-found-ne-SOUND : goal.returns-then-found-ne-SOUND
-returns-then-found-ne-SOUND c =
-    λ K. unsound_step _ _ _ tt (not_sound K (word_damaged _ c.if-found-ne-SOUND.true)) (c.damaged.ensures ∙ K.2 (not_sound K (word_damaged _ c.if-found-ne-SOUND.true)))
-
 pub returns : goal.returns
-returns c =
-    rw c.answer_of.ensures (λ K. enter_done K (word_sound _ c.struct_told-1.given.0.1 c.if-found-ne-SOUND.false) c.running_task-runs.ensures c.enter-o.ensures)
+unfolding judge
+returns c = acts_step enter Runs entered (λ v. refl) tt (λ me v r. r) (λ x y me o g. search rules) c.args.known c.serve_act.ensures

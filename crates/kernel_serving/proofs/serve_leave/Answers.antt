@@ -1,13 +1,13 @@
 -- `kernel_serving::serve_leave` meets its contract. By what is known, and the return. Assumes nothing.
-use mathlib.Core.Path.{◌∙◌}
-use Rattle.kernel_serving.proofs.Served.{unsound_step, not_sound, leave_done}
-use Rattle.kernel_steps.proofs.Codes.{word_sound, word_damaged}
+use mathlib.Core.Path.{refl}
+use borrow.Author.Rules.{rules}
+use Rattle.rules.specs.Events.{exit}
+use Rattle.rules.specs.Handling.{exited}
+use Rattle.rules.specs.Table.{judge}
+use Rattle.call_words.specs.Doing.{Anything}
+use Rattle.kernel_serving.proofs.Served.{acts_step}
 use Rattle.kernel_serving.proofs.serve_leave.Goals as goal
 
-pub returns-then-found-ne-SOUND : goal.returns-then-found-ne-SOUND
-returns-then-found-ne-SOUND c =
-    λ K. unsound_step _ _ _ tt (not_sound K (word_damaged _ c.if-found-ne-SOUND.true)) (c.damaged.ensures ∙ K.2 (not_sound K (word_damaged _ c.if-found-ne-SOUND.true)))
-
 pub returns : goal.returns
-returns c =
-    rw c.answer_of.ensures (λ K. leave_done K (word_sound _ c.struct_told-1.given.0.1 c.if-found-ne-SOUND.false) c.running_task-next.ensures c.leave-o.ensures)
+unfolding judge
+returns c = acts_step exit (λ me. Anything) exited (λ v. refl) tt (λ me v r. tt) (λ x y me o g. search rules) c.args.known c.serve_act.ensures

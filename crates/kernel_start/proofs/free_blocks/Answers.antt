@@ -1,15 +1,10 @@
 -- Invariant: what is left, from here, is the whole from the start.
-use mathlib.Core.Path.{refl, ◌∙◌}
-use native.Mathlib.Omega.{arith}
+use mathlib.Core.Path.{◌∙◌}
 use Rattle.kernel_fresh.proofs.Steps.{turn_none, turn_step}
 use Rattle.kernel_start.proofs.free_blocks.Goals as goal
 
-pub loop-left-init : goal.loop-left-init
-loop-left-init c = (refl, omega arith)
-
-pub loop-left-preserved : goal.loop-left-preserved
-loop-left-preserved c =
-    (turn_step _ _ _ _ c.loop-left-test.true c.mark_block.ensures ∙ c.loop-left.invariant.0, omega arith)
+pub loop-i-preserved : goal.loop-i-preserved
+loop-i-preserved c = turn_step _ _ _ _ c.loop-i-test.true c.mark_block.ensures ∙ c.loop-i.invariant
 
 pub returns : goal.returns
-returns c = turn_none _ _ _ _ c.loop-left-test.false ∙ c.loop-left.invariant.0
+returns c = turn_none _ _ _ _ c.loop-i-test.false ∙ c.loop-i.invariant

@@ -1,15 +1,12 @@
-use borrow.Author.Tests.{le-leb, lt-leb}
+use native.Mathlib.Omega.{arith}
+use Rattle.std.proofs.lemmas.Bool.Decides.{nat_tests}
 use Rattle.memory_queues.specs.Moves.{wait_anchor}
 use Rattle.memory_queues.proofs.wait_anchor.Goals as goal
 
-pub returns-then-kind-gt-POOL : goal.returns-then-kind-gt-POOL
+pub returns-then-object-le-MAX_OBJECTS : goal.returns-then-object-le-MAX_OBJECTS
 unfolding wait_anchor
-returns-then-kind-gt-POOL c = simp (lt-leb _ _ c.if-kind-gt-POOL.true)
+returns-then-object-le-MAX_OBJECTS c = grind (arith, nat_tests)
 
-pub returns-then-object-gt-MAX_OBJECTS : goal.returns-then-object-gt-MAX_OBJECTS
+pub returns-else-kind-le-POOL : goal.returns-else-kind-le-POOL
 unfolding wait_anchor
-returns-then-object-gt-MAX_OBJECTS c = simp (le-leb _ _ c.if-kind-gt-POOL.false, lt-leb _ _ c.if-object-gt-MAX_OBJECTS.true)
-
-pub returns : goal.returns
-unfolding wait_anchor
-returns c = simp (le-leb _ _ c.if-kind-gt-POOL.false, le-leb _ _ c.if-object-gt-MAX_OBJECTS.false)
+returns-else-kind-le-POOL c = grind (arith, nat_tests)

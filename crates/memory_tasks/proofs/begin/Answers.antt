@@ -5,4 +5,4 @@ use Rattle.memory_tasks.proofs.begin.Goals as goal
 pub returns : goal.returns
 unfolding started
 returns c =
-    c.make_ready.ensures ∙ rw (c.write_cell.ensures, c.set_priority.ensures, c.start-p.ensures)
+    c.make_ready.ensures ∙ rw (c.write_cell.ensures, c.set.ensures, c.get-p.ensures)

@@ -4,4 +4,4 @@ use Rattle.memory_tasks.proofs.make_ready.Goals as goal
 
 pub returns : goal.returns
 unfolding readied
-returns c = c.rotate.ensures ∙ rw c.set_status.ensures
+returns c = c.rotate.ensures ∙ rw c.set.ensures

@@ -5,4 +5,4 @@ use Rattle.memory_tasks.proofs.retire.Goals as goal
 pub returns : goal.returns
 unfolding retired
 returns c =
-    c.leave.ensures ∙ rw (c.set_ticks.ensures, c.set_wakeups.ensures, c.set_priority.ensures, c.set_status.ensures, c.start-p.ensures)
+    c.leave.ensures ∙ rw (c.set-4.ensures, c.set-3.ensures, c.set-2.ensures, c.set.ensures, c.get-p.ensures)

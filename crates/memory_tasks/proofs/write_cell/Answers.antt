@@ -2,4 +2,4 @@ use mathlib.Core.Path.{◌∙◌}
 use Rattle.memory_tasks.proofs.write_cell.Goals as goal
 
 pub returns : goal.returns
-returns c = c.set_word.ensures ∙ rw c.set_code.ensures
+returns c = c.set-2.ensures ∙ rw c.set.ensures

@@ -5,4 +5,4 @@ use Rattle.memory_tasks.proofs.write_task.Goals as goal
 pub returns : goal.returns
 unfolding ranked
 returns c =
-    c.set_wakeups.ensures ∙ rw (c.set_start.ensures, c.set_priority.ensures, c.set_status.ensures)
+    c.set-4.ensures ∙ rw (c.set-3.ensures, c.set-2.ensures, c.set.ensures)

@@ -2,4 +2,4 @@ use mathlib.Core.Path.{◌∙◌}
 use Rattle.memory_waits.proofs.end_wait.Goals as goal
 
 pub returns : goal.returns
-returns c = c.set_ticks.ensures ∙ rw c.write_cell.ensures
+returns c = c.set.ensures ∙ rw c.write_cell.ensures

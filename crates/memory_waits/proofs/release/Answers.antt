@@ -1,18 +1,17 @@
 use mathlib.Core.Path.{◌∙◌}
-use borrow.Author.Tests.{eq-eqb, ne_eqb}
+use native.Mathlib.Omega.{arith}
+use borrow.Author.Tests.{ne_eqb}
 use Rattle.memory_waits.specs.Waits.{released}
 use Rattle.memory_waits.proofs.release.Goals as goal
 
-pub returns-then-s-eq-WAIT : goal.returns-then-s-eq-WAIT
+pub returns-in-3 : goal.returns-in-3
 unfolding released
-returns-then-s-eq-WAIT c =
-    simp (← c.status-s.ensures, eq-eqb _ _ c.if-s-eq-WAIT.true) (c.make_ready.ensures ∙ rw c.end_wait.ensures)
+returns-in-3 c = simp (← c.get.ensures, c.in-3.is) (c.make_ready.ensures ∙ rw c.end_wait.ensures)
 
-pub returns-then-s-eq-WAIT_SUSPEND : goal.returns-then-s-eq-WAIT_SUSPEND
+pub returns-in-5 : goal.returns-in-5
 unfolding released
-returns-then-s-eq-WAIT_SUSPEND c =
-    simp (← c.status-s.ensures, ne_eqb _ _ c.if-s-eq-WAIT.false, eq-eqb _ _ c.if-s-eq-WAIT_SUSPEND.true) (c.leave.ensures ∙ rw (c.set_status.ensures, c.end_wait-then-s-eq-WAIT_SUSPEND.ensures))
+returns-in-5 c = simp (← c.get.ensures, c.in-5.is) (c.leave.ensures ∙ rw (c.set.ensures, c.end_wait-in-5.ensures))
 
-pub returns-else-s-eq-WAIT_SUSPEND : goal.returns-else-s-eq-WAIT_SUSPEND
+pub returns-in_default : goal.returns-in_default
 unfolding released
-returns-else-s-eq-WAIT_SUSPEND c = simp (← c.status-s.ensures, ne_eqb _ _ c.if-s-eq-WAIT.false, ne_eqb _ _ c.if-s-eq-WAIT_SUSPEND.false)
+returns-in_default c = simp (← c.get.ensures, ne_eqb c.get.result 3 (omega arith), ne_eqb c.get.result 5 (omega arith))

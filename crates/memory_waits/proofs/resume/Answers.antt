@@ -1,17 +1,16 @@
-use borrow.Author.Tests.{eq-eqb, ne_eqb}
+use native.Mathlib.Omega.{arith}
+use borrow.Author.Tests.{ne_eqb}
 use Rattle.memory_waits.specs.Waits.{resumed}
 use Rattle.memory_waits.proofs.resume.Goals as goal
 
-pub returns-then-s-eq-SUSPEND : goal.returns-then-s-eq-SUSPEND
+pub returns-in-4 : goal.returns-in-4
 unfolding resumed
-returns-then-s-eq-SUSPEND c =
-    simp (← c.status-s.ensures, eq-eqb _ _ c.if-s-eq-SUSPEND.true) c.make_ready.ensures
+returns-in-4 c = simp (← c.get.ensures, c.in-4.is) c.make_ready.ensures
 
-pub returns-then-s-eq-WAIT_SUSPEND : goal.returns-then-s-eq-WAIT_SUSPEND
+pub returns-in-5 : goal.returns-in-5
 unfolding resumed
-returns-then-s-eq-WAIT_SUSPEND c =
-    simp (← c.status-s.ensures, ne_eqb _ _ c.if-s-eq-SUSPEND.false, eq-eqb _ _ c.if-s-eq-WAIT_SUSPEND.true) c.set_status.ensures
+returns-in-5 c = simp (← c.get.ensures, c.in-5.is) c.set.ensures
 
-pub returns-else-s-eq-WAIT_SUSPEND : goal.returns-else-s-eq-WAIT_SUSPEND
+pub returns-in_default : goal.returns-in_default
 unfolding resumed
-returns-else-s-eq-WAIT_SUSPEND c = simp (← c.status-s.ensures, ne_eqb _ _ c.if-s-eq-SUSPEND.false, ne_eqb _ _ c.if-s-eq-WAIT_SUSPEND.false)
+returns-in_default c = simp (← c.get.ensures, ne_eqb c.get.result 4 (omega arith), ne_eqb c.get.result 5 (omega arith))

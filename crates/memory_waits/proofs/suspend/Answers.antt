@@ -1,18 +1,17 @@
 use mathlib.Core.Path.{◌∙◌}
-use borrow.Author.Tests.{eq-eqb, ne_eqb}
+use native.Mathlib.Omega.{arith}
+use borrow.Author.Tests.{ne_eqb}
 use Rattle.memory_waits.specs.Waits.{halted}
 use Rattle.memory_waits.proofs.suspend.Goals as goal
 
-pub returns-then-s-eq-READY : goal.returns-then-s-eq-READY
+pub returns-in-1 : goal.returns-in-1
 unfolding halted
-returns-then-s-eq-READY c =
-    simp (← c.status-s.ensures, eq-eqb _ _ c.if-s-eq-READY.true) (c.leave.ensures ∙ rw c.set_status.ensures)
+returns-in-1 c = simp (← c.get.ensures, c.in-1.is) (c.leave.ensures ∙ rw c.set.ensures)
 
-pub returns-then-s-eq-WAIT : goal.returns-then-s-eq-WAIT
+pub returns-in-3 : goal.returns-in-3
 unfolding halted
-returns-then-s-eq-WAIT c =
-    simp (← c.status-s.ensures, ne_eqb _ _ c.if-s-eq-READY.false, eq-eqb _ _ c.if-s-eq-WAIT.true) c.set_status-then-s-eq-WAIT.ensures
+returns-in-3 c = simp (← c.get.ensures, c.in-3.is) c.set-in-3.ensures
 
-pub returns-else-s-eq-WAIT : goal.returns-else-s-eq-WAIT
+pub returns-in_default : goal.returns-in_default
 unfolding halted
-returns-else-s-eq-WAIT c = simp (← c.status-s.ensures, ne_eqb _ _ c.if-s-eq-READY.false, ne_eqb _ _ c.if-s-eq-WAIT.false)
+returns-in_default c = simp (← c.get.ensures, ne_eqb c.get.result 1 (omega arith), ne_eqb c.get.result 3 (omega arith))

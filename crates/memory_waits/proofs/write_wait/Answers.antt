@@ -5,4 +5,4 @@ use Rattle.memory_waits.proofs.write_wait.Goals as goal
 pub returns : goal.returns
 unfolding awaiting
 returns c =
-    c.set_ticks.ensures ∙ rw (c.set_mode.ensures, c.set_wish.ensures, c.set_object.ensures, c.set_kind.ensures, c.set_status.ensures)
+    c.set-6.ensures ∙ rw (c.set-5.ensures, c.set-4.ensures, c.set-3.ensures, c.set-2.ensures, c.set.ensures)

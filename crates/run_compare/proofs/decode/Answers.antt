@@ -1,7 +1,6 @@
 -- `decode`: the words so far stand in front. Assumes nothing.
-use mathlib.Core.Path.{refl, ap, ◌∙◌}
+use mathlib.Core.Path.{ap, ◌∙◌}
 use native.Mathlib.Omega.{arith}
-use lib.ListN.{length-set}
 use mir.Syntax.{w32}
 use mir.Facts.{to_z-of_z}
 use Rattle.run_reading.specs.Recorded.{signed_word}
@@ -9,21 +8,15 @@ use Rattle.run_compare.proofs.Words.{decode_next, decode_none, decode_all}
 use Rattle.run_compare.proofs.decode.Goals as goal
 
 pub loop-i-init : goal.loop-i-init
-loop-i-init c = (omega arith, refl, decode_none _ _ _)
-
-pub loop-i-smaller : goal.loop-i-smaller
-loop-i-smaller c = omega arith
+loop-i-init c = decode_none _ _ _
 
 pub loop-i-preserved : goal.loop-i-preserved
 loop-i-preserved c =
     let l = c.loop-i in
     let e = c.signed.ensures ∙ ap signed_word c.word.ensures in
-    (omega (arith, c.loop-i-test.true), simp length-set l.invariant.1, rw (to_z-of_z {w = w32} (record { sfits = c.signed.type_inv }) ∙ e, l.invariant.2) (decode_next _ _ _ _ (omega arith)))
-
-pub shape_of-events : goal.shape_of-events
-shape_of-events c = c.loop-i.invariant.1
+    rw (to_z-of_z {w = w32} (record { sfits = c.signed.type_inv }) ∙ e, l.invariant) (decode_next _ _ _ _ (omega arith))
 
 pub returns : goal.returns
 returns c =
     let l = c.loop-i in
-    decode_all _ _ _ _ _ _ l.invariant.0 c.loop-i-test.false l.invariant.2
+    decode_all _ _ _ _ _ (omega arith) c.loop-i-test.false l.invariant

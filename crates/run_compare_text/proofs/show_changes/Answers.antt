@@ -7,11 +7,11 @@ use Rattle.run_compare_text.proofs.show_changes.Goals.{After-lent-k}
 
 -- how many are shown
 lent_of : (c : After-lent-k) → let a = c.args in
-    Lent c.lent-k.result a.codes1.now a.answers1.now a.codes2.now a.answers2.now
-    × (lent_in a.n a.codes1.now a.answers1.now a.codes2.now a.answers2.now ≡ c.lent-k.result)
+    Lent c.lent-k.result a.first.codes.now a.first.words.now a.second.codes.now a.second.words.now
+    × (lent_in a.n a.first.codes.now a.first.words.now a.second.codes.now a.second.words.now ≡ c.lent-k.result)
 lent_of c =
     let a = c.args in
-    (both_lent a.n a.codes1.now a.answers1.now a.codes2.now a.answers2.now c.lent-m.ensures c.lent-k.ensures, lent_is a.n a.codes1.now a.answers1.now a.codes2.now a.answers2.now c.lent-m.ensures c.lent-k.ensures)
+    (both_lent a.n a.first.codes.now a.first.words.now a.second.codes.now a.second.words.now c.lent.ensures c.lent-k.ensures, lent_is a.n a.first.codes.now a.first.words.now a.second.codes.now a.second.words.now c.lent.ensures c.lent-k.ensures)
 
 pub text_of-needed-requires : goal.text_of-needed-requires
 text_of-needed-requires c = (lent_of (goal.at.text_of-needed-requires c).After-lent-k).0

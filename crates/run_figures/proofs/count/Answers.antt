@@ -1,31 +1,23 @@
 -- `count`: byte by byte. Assumes nothing.
 use mathlib.Core.Path.{ap}
-use Prim.Native.Nat.{ℕ, ◌+◌, ◌^◌, ◌<◌}
-use native.Mathlib.Omega.{arith}
+use Prim.Native.Nat.{ℕ}
 use lib.ListN.{get_or}
-use Rattle.kernel_serving.proofs.Served.{known_first}
 use Rattle.run_stream.specs.Lent.{said}
-use Rattle.run_figures.proofs.Going.{reached_none, reached_next, take_next, reached_all}
+use Rattle.run_figures.proofs.Going.{reached_none, reached_item, reached_refusal, take_next}
 use Rattle.run_figures.proofs.count.Goals as goal
-use Rattle.run_figures.proofs.count.Goals.{In-loop-i}
+use Rattle.run_figures.proofs.count.Goals.{in-Ok, in-Err}
 
-next_fits : (c : In-loop-i) → c.loop-i.i + 1 < 2 ^ 64
-next_fits c = omega arith
+pub loop-b-init : goal.loop-b-init
+loop-b-init c =
+    reached_none _ _ _ c.look-known.ensures (ap (λ (n : ℕ). said n 0) (c.first_number.ensures _))
 
-pub loop-i-init : goal.loop-i-init
-loop-i-init c =
-    (reached_none _ _ _ (known_first _ _ c.judged.ensures c.running_task.ensures) (ap (λ (n : ℕ). said n 0) (c.first_number.ensures _)), omega arith)
-
-pub count_item-next-requires : goal.count_item-next-requires
-count_item-next-requires c = c.take_byte-item.ensures.sized
-
-pub overflow_add-i : goal.overflow_add-i
-overflow_add-i c = record { fits = next_fits (goal.at.overflow_add-i c).In-loop-i }
-
-pub loop-i-preserved : goal.loop-i-preserved
-loop-i-preserved c =
+pub loop-b-preserved : goal.loop-b-preserved
+loop-b-preserved c =
     let bytes = c.args.bytes.now in
-    (rw (take_next bytes c.loop-i.i c.loop-i-test.true) (reached_next _ _ c.loop-i.invariant.0 (get_or bytes c.loop-i.i 0) c.take_byte-item.ensures c.count_item-next.ensures), omega (arith, c.loop-i-test.true))
-
-pub returns : goal.returns
-returns c = reached_all _ _ c.loop-i.i c.loop-i-test.false c.loop-i.t c.loop-i.invariant.0
+    let R = c.loop-b.invariant in
+    let b = get_or bytes c.loop-b.b-index 0 in
+    rw (take_next bytes c.loop-b.b-index c.loop-b-test.true)
+    (elim c.match-take_byte.branch [
+      | in-Ok w ↦ rw (w.words-is, w.messages-is, w.table-is, w.codes-is, w.known-is, w.said-is) (reached_item _ _ R b c.take_byte.ensures w.in-Ok.is w.count_item-known.ensures)
+      | in-Err w ↦ rw (w.words-is, w.messages-is, w.table-is, w.codes-is, w.known-is, w.said-is) (reached_refusal _ _ R b c.take_byte.ensures w.in-Err.is w.from.ensures)
+    ])

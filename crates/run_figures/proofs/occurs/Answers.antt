@@ -7,6 +7,5 @@ use Rattle.run_figures.proofs.occurs.Goals as goal
 
 pub returns : goal.returns
 returns c =
-    let a = c.serve_held-r.result in
-    let r = reply_of a in
-    λ i. told_occurs _ _ _ c.args.held.now i {r = r} c.serve_held-r.ensures (rw (to_z-of_z {w = w32} (record { sfits = c.struct_told-1.given.0.1 })) at c.count_event.ensures)
+    let r = reply_of c.serve_held-r.result in
+    rw c.and.ensures (λ i. told_occurs _ _ _ c.args.held.now i {r = r} c.serve_held-r.ensures (rw (to_z-of_z {w = w32} (record { sfits = c.struct_told-1.given.0.1 })) at c.count_event.ensures))

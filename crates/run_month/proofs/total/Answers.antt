@@ -26,11 +26,11 @@ sum_start : (l : List Record) → total_from none l ≡ total_of l
 unfolding total_of
 sum_start l = refl
 
-pub loop-k-init : goal.loop-k-init
-loop-k-init c = rw c.none-t.ensures (sum_start _)
+pub loop-r-init : goal.loop-r-init
+loop-r-init c = rw c.none-t.ensures (sum_start _)
 
-pub loop-k-preserved : goal.loop-k-preserved
-loop-k-preserved c = sum_next c.loop-k.t _ c.args.records.now c.loop-k.k _ (omega arith) c.plus-t.ensures c.loop-k.invariant
+pub loop-r-preserved : goal.loop-r-preserved
+loop-r-preserved c = sum_next c.loop-r.t _ c.args.records.now c.loop-r.r-index _ (omega arith) c.plus-t.ensures c.loop-r.invariant
 
 pub returns : goal.returns
-returns c = sum_end _ c.args.records.now c.loop-k.k (omega arith) c.loop-k.invariant
+returns c = sum_end _ c.args.records.now c.loop-r.r-index (omega arith) c.loop-r.invariant

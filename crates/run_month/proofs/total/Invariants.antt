@@ -1,10 +1,7 @@
--- What the records from k on add to the total so far is what all records give.
-use Rattle.std.proofs.Common.{◌≡◌, length, drop, ◌-◌}
+-- What the records from the next on add to the total so far is what all records give.
+use Rattle.std.proofs.Common.{◌≡◌, drop}
 use Rattle.run_month.specs.Capped.{total_from, total_of}
 use Rattle.run_month.proofs.total.Given as goal
 
-abbrev pub invariant-loop-k : goal.invariant-loop-k
-invariant-loop-k l = total_from l.t (drop l.k l.records) ≡ total_of l.records
-
-abbrev pub decreases-loop-k : goal.decreases-loop-k
-decreases-loop-k l = length l.records - l.k
+abbrev pub invariant-loop-r : goal.invariant-loop-r
+invariant-loop-r l = total_from l.t (drop l.r-index l.records) ≡ total_of l.records

@@ -6,7 +6,6 @@ use Rattle.run_recorder.proofs.occurs.Goals as goal
 
 pub returns : goal.returns
 returns c =
-    let a = c.serve_held-r.result in
-    let r = reply_of a in
+    let r = reply_of c.serve_held-r.result in
     let W = rw (signed _ c.struct_told-1.given.0.1) at c.event_line-written.ensures in
-    plays_occurs c.args.held.now _ _ _ _ _ {r = r} c.serve_held-r.ensures W
+    rw c.and.ensures (plays_occurs c.args.held.now _ _ _ _ {r = r} c.serve_held-r.ensures W)

@@ -21,9 +21,9 @@ slice_bounds-event-end c = omega (arith, length-take 20 c.args.held.now, c.all-1
 pub returns : goal.returns
 returns c =
     rw (
-      read c.signed-kind.type_inv c.signed-kind.ensures c.word.ensures,
-      read c.signed-number.type_inv c.signed-number.ensures c.word-2.ensures,
-      read c.signed-a.type_inv c.signed-a.ensures c.word-3.ensures,
-      read c.signed-b.type_inv c.signed-b.ensures c.word-4.ensures,
-      read c.signed-c.type_inv c.signed-c.ensures c.word-5.ensures,
+      read c.signed.type_inv c.signed.ensures c.word.ensures,
+      read c.signed-2.type_inv c.signed-2.ensures c.word-2.ensures,
+      read c.signed-3.type_inv c.signed-3.ensures c.word-3.ensures,
+      read c.signed-4.type_inv c.signed-4.ensures c.word-4.ensures,
+      read c.signed-5.type_inv c.signed-5.ensures c.word-5.ensures,
     ) at c.serve.ensures

@@ -1,4 +1,5 @@
 -- `event_byte`: by how many events are done and how many bytes are held. Assumes nothing.
+use mathlib.Core.Path.{refl}
 use native.Mathlib.Omega.{arith}
 use lib.ListN.{length}
 use Prim.Native.Nat.{◌≤◌}
@@ -9,11 +10,11 @@ use Rattle.run_stream.proofs.event_byte.Goals.{After-hold}
 
 -- the bytes that may be held
 room : (c : After-hold) → head_bytes ≤ length c.hold.new.held
-room c = omega (arith, c.hold-arg-1.given.0.1, c.hold.auto.held)
+room c = omega (arith, c.told-held, c.hold.auto.held)
 
 pub returns-then-total-done : goal.returns-then-total-done
 returns-then-total-done c =
-    takes_with c.write.ensures (event_left_over _ _ _ c.requires c.if-total-done.true c.place-p.ensures.0)
+    takes_with c.write.ensures (event_left_over _ _ _ c.requires c.if-total-done.true c.place_of_next-place.ensures.0)
 
 pub returns-then-n-lt-EVENT : goal.returns-then-n-lt-EVENT
 returns-then-n-lt-EVENT c =
@@ -21,4 +22,4 @@ returns-then-n-lt-EVENT c =
 
 pub returns : goal.returns
 returns c =
-    takes_with c.write-2.ensures (event_whole _ _ _ c.requires c.if-total-done.false _ c.held_count-n.ensures.0 _ (room (goal.at.returns c).After-hold) c.hold.ensures c.if-n-lt-EVENT.false c.succ-number.ensures)
+    takes_with c.write-2.ensures (event_whole _ _ _ c.requires c.if-total-done.false _ c.held_count-n.ensures.0 _ (room (goal.at.returns c).After-hold) c.hold.ensures c.if-n-lt-EVENT.false refl)

@@ -17,12 +17,12 @@ at_next t out i w r j h = elim (ℕ_discrete j i) [
 ]
 
 pub loop-i-init : goal.loop-i-init
-loop-i-init c = (λ j h. absurd (omega (arith, h)), omega arith, refl)
+loop-i-init c = (λ j h. absurd (omega (arith, h)), refl)
 
 pub loop-i-preserved : goal.loop-i-preserved
 loop-i-preserved c =
     let w = c.loop-i.invariant in
-    (λ j h. at_next c.args.table c.loop-i.out c.loop-i.i w.0 (omega (arith, w.1, w.2, c.loop-i-test.true)) j h, omega (arith, c.loop-i-test.true), simp length-set w.2)
+    (λ j h. at_next c.args.table c.loop-i.out c.loop-i.i w.0 (omega (arith, w.1, c.loop-i-test.true)) j h, simp length-set w.1)
 
 pub returns : goal.returns
 returns c =

@@ -1,5 +1,5 @@
 -- `table_counted`: the rows before i are counted. Assumes nothing.
-use mathlib.Core.Path.{sym, ap, ◌∙◌}
+use mathlib.Core.Path.{refl, sym, ap, ◌∙◌}
 use Prim.Native.Nat.{ℕ, ◌<◌}
 use native.Mathlib.Omega.{arith}
 use lib.ListN.{get_or}
@@ -9,22 +9,20 @@ use Rattle.run_tally.proofs.table_counted.Goals as goal
 use Rattle.run_tally.proofs.table_counted.Goals.{then-s-lt-STATES, else-s-lt-STATES}
 
 pub loop-i-init : goal.loop-i-init
-loop-i-init c = (onward_start _ _ _, omega arith)
+loop-i-init c = onward_start _ _ _
 
 pub loop-i-preserved : goal.loop-i-preserved
 loop-i-preserved c =
     let A = c.args in
     let f : ℕ → ℕ = λ k. get_or A.states.now k 0 in
-    let h : c.loop-i.i < c.rows-m.result = c.loop-i-test.true in
-    let e = c.wide-s.ensures in (
-      elim c.if-s-lt-STATES.branch [
-        | then-s-lt-STATES w ↦ rw (w.t-is, w.more.ensures) (onward_next c.loop-i.i c.rows-m.result f c.loop-i.t h e w.if-s-lt-STATES.true)
-        | else-s-lt-STATES w ↦ rw w.t-is (onward_skip c.loop-i.i c.rows-m.result f c.loop-i.t h e w.if-s-lt-STATES.false)
-      ] ∙ c.loop-i.invariant.0,
-      omega (arith, h),
-    )
+    let m = c.min-m.result in
+    let h : c.loop-i.i < m = c.loop-i-test.true in
+    elim c.if-s-lt-STATES.branch [
+      | then-s-lt-STATES w ↦ rw (w.t-is, w.more.ensures) (onward_next c.loop-i.i m f c.loop-i.t h refl w.if-s-lt-STATES.true)
+      | else-s-lt-STATES w ↦ rw w.t-is (onward_skip c.loop-i.i m f c.loop-i.t h refl w.if-s-lt-STATES.false)
+    ] ∙ c.loop-i.invariant
 
 pub returns : goal.returns
 returns c =
-    let m = c.rows-m in
-    sym (onward_end c.loop-i.i m.result _ c.loop-i.t c.loop-i-test.false) ∙ c.loop-i.invariant.0 ∙ ap (λ (k : ℕ). table_counted k (λ i. get_or c.args.states.now i 0) c.args.table) m.ensures.0
+    let m = c.min-m in
+    sym (onward_end c.loop-i.i m.result _ c.loop-i.t c.loop-i-test.false) ∙ c.loop-i.invariant ∙ ap (λ (k : ℕ). table_counted k (λ i. get_or c.args.states.now i 0) c.args.table) (omega (arith, m.ensures))

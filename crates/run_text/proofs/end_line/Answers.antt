@@ -2,9 +2,5 @@
 use Rattle.run_text.proofs.Laid.{wrote_byte}
 use Rattle.run_text.proofs.end_line.Goals as goal
 
--- src/text.rt:73:5
--- src/text.rt:74:5
--- src/text.rt:69:1
--- src/text.rt:69:1
 pub returns : goal.returns
 returns c = wrote_byte 10 _ _ c.put.ensures

@@ -3,9 +3,5 @@ use mathlib.Core.Path.{sym}
 use Rattle.run_text.proofs.Laid.{set_behind}
 use Rattle.run_text.proofs.put.Goals as goal
 
--- src/text.rt:17:9
--- src/text.rt:13:1
--- src/text.rt:13:1
--- src/text.rt:13:1
 pub returns-else-at-text : goal.returns-else-at-text
 returns-else-at-text c = sym (set_behind _ _ _ c.if-at-text.false)

@@ -3,6 +3,7 @@ use mathlib.Core.Path.{◌≡◌, sym, ◌∙◌}
 use Rattle.rules.specs.Setup.{word_at, counters, read_section, read_setup}
 use Rattle.setup_sections.specs.Judging.{judged_of, on_good}
 use Rattle.setup_sections.specs.Judging.{onward}
+use Rattle.setup_sections.proofs.Judging.{passed}
 use Rattle.setup.proofs.Whole.{eight_judged}
 use Rattle.setup.proofs.judge.Goals as goal
 use Rattle.setup.proofs.judge.Goals.{After-judge_seven}
@@ -12,9 +13,9 @@ behind : (c : After-judge_seven) → let a = c.args in
 unfolding read_setup
 behind c = eight_judged _ read_section _ ∙ simp c.judge_seven.ensures
 
-pub returns-in-Bad : goal.returns-in-Bad
-returns-in-Bad c = sym (behind (goal.at.returns-in-Bad c).After-judge_seven ∙ simp c.in-Bad.is)
+pub returns-in_err-next : goal.returns-in_err-next
+returns-in_err-next c = passed _ _ c.from_residual.ensures.1 ∙ sym (behind (goal.at.returns-in_err-next c).After-judge_seven ∙ simp c.in_err-next.was)
 
-pub returns-in-Good : goal.returns-in-Good
-returns-in-Good c =
-    c.judge_counters.ensures ∙ sym (behind (goal.at.returns-in-Good c).After-judge_seven ∙ simp (c.in-Good.is, c.task_count.ensures))
+pub returns : goal.returns
+returns c =
+    c.judge_counters.ensures ∙ sym (behind (goal.at.returns c).After-judge_seven ∙ simp (c.in_ok-next.was, c.task_count.ensures))

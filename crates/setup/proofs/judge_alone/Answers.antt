@@ -4,6 +4,7 @@ use borrow.Author.Tests.{le-leb, lt-leb}
 use Rattle.rules.specs.Setup.{word_at, counters, read_with, perhaps}
 use Rattle.setup_sections.specs.Judging.{judged_of, on_good}
 use Rattle.setup_sections.specs.Judging.{onward}
+use Rattle.setup_sections.proofs.Judging.{passed}
 use Rattle.setup.proofs.Whole.{eight_judged}
 use Rattle.setup.proofs.judge_alone.Goals as goal
 use Rattle.setup.proofs.judge_alone.Goals.{After-judge_seven}
@@ -15,12 +16,12 @@ behind c = eight_judged _ perhaps _ ∙ simp c.judge_seven.ensures
 pub returns-then-bytes-next : goal.returns-then-bytes-next
 unfolding perhaps
 returns-then-bytes-next c =
-    sym (behind (goal.at.returns-then-bytes-next c).After-judge_seven ∙ simp (c.in-Good.is, le-leb _ _ c.if-bytes-next.true))
+    sym (behind (goal.at.returns-then-bytes-next c).After-judge_seven ∙ simp (c.in_ok-next.was, le-leb _ _ c.if-bytes-next.true))
 
-pub returns-in-Bad : goal.returns-in-Bad
-returns-in-Bad c = sym (behind (goal.at.returns-in-Bad c).After-judge_seven ∙ simp c.in-Bad.is)
+pub returns-in_err-next : goal.returns-in_err-next
+returns-in_err-next c = passed _ _ c.from_residual.ensures.1 ∙ sym (behind (goal.at.returns-in_err-next c).After-judge_seven ∙ simp c.in_err-next.was)
 
-pub returns-else-bytes-next : goal.returns-else-bytes-next
+pub returns : goal.returns
 unfolding perhaps
-returns-else-bytes-next c =
-    c.judge_counters.ensures ∙ sym (behind (goal.at.returns-else-bytes-next c).After-judge_seven ∙ simp (c.in-Good.is, lt-leb _ _ c.if-bytes-next.false, c.task_count.ensures))
+returns c =
+    c.judge_counters.ensures ∙ sym (behind (goal.at.returns c).After-judge_seven ∙ simp (c.in_ok-next.was, lt-leb _ _ c.if-bytes-next.false, c.task_count.ensures))

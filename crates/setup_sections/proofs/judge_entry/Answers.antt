@@ -4,7 +4,7 @@ use Prim.Native.Nat.{◌-◌}
 use lib.ListN.{replicate}
 use Rattle.rules.specs.Setup.{S3, to, read_entry}
 use Rattle.setup_sections.specs.Judging.{judged_of, on_good, ranges_of}
-use Rattle.setup_sections.proofs.Judging.{nothing_judged, entry_judged, word_told}
+use Rattle.setup_sections.proofs.Judging.{nothing_judged, entry_judged, passed, word_told}
 use Rattle.setup_sections.proofs.judge_entry.Goals as goal
 use Rattle.setup_sections.proofs.judge_entry.Goals.{After-judge_word}
 
@@ -17,9 +17,9 @@ behind c = entry_judged _ _ _ _ _ c.if-e-eq0.false ∙ simp (word_told _ _ S3 _ 
 pub returns-then-e-eq0 : goal.returns-then-e-eq0
 returns-then-e-eq0 c = rw c.if-e-eq0.true (sym (nothing_judged _ _))
 
-pub returns-in-Bad : goal.returns-in-Bad
-returns-in-Bad c = sym (behind (goal.at.returns-in-Bad c).After-judge_word ∙ simp c.in-Bad.is)
+pub returns-in_err-next : goal.returns-in_err-next
+returns-in_err-next c =
+    passed _ _ c.from_residual.ensures.1 ∙ sym (behind (goal.at.returns-in_err-next c).After-judge_word ∙ simp (c.in_err-next.was))
 
-pub returns-in-Good : goal.returns-in-Good
-returns-in-Good c =
-    c.judge_words.ensures ∙ sym (behind (goal.at.returns-in-Good c).After-judge_word ∙ simp c.in-Good.is)
+pub returns : goal.returns
+returns c = c.judge_words.ensures ∙ sym (behind (goal.at.returns c).After-judge_word ∙ simp (c.in_ok-next.was))

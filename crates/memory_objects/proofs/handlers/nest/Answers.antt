@@ -4,4 +4,4 @@ use Rattle.memory_objects.proofs.handlers.nest.Goals as goal
 
 pub returns : goal.returns
 unfolding nested
-returns c = c.set_handling-2.ensures ∙ rw c.set_handling.ensures
+returns c = c.set-2.ensures ∙ rw c.set.ensures

@@ -1,9 +1,0 @@
--- `bench_sheet::turns::replayed`: ends.
-use Rattle.std.proofs.Common.{◌-◌, ◌≤◌}
-use Rattle.bench_sheet.proofs.turns.replayed.Given as goal
-
-abbrev pub invariant-loop-i : goal.invariant-loop-i
-invariant-loop-i l = l.i ≤ 128
-
-abbrev pub decreases-loop-i : goal.decreases-loop-i
-decreases-loop-i l = 128 - l.i

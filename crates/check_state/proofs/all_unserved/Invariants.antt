@@ -1,9 +1,0 @@
-use Rattle.check_state.specs.Unserved.{unserved_ok}
-use Rattle.check_ranges.proofs.Loops.{Going}
-use Rattle.check_state.proofs.all_unserved.Given as goal
-
-abbrev pub invariant-loop-left : goal.invariant-loop-left
-invariant-loop-left l = Going (unserved_ok l.words) l.n l.i l.left
-
-abbrev pub decreases-loop-left : goal.decreases-loop-left
-decreases-loop-left l = l.left

@@ -1,6 +1,0 @@
--- `kernel_events::tick` meets its contract: by the check and the running task. Assumes nothing.
-use Rattle.kernel_serving.proofs.Served.{known_first}
-use Rattle.kernel_events.proofs.tick.Goals as goal
-
-pub returns : goal.returns
-returns c = c.serve_tick.ensures (known_first _ _ c.judged-found.ensures c.running_task-now.ensures)
