@@ -32,9 +32,9 @@ struct Point {
 }
 
 // The point behind the first i.
-fn point_at(curve: Curve, i: usize) -> Point
+fn point_at(curve: &Curve, i: usize) -> Point
     requires { i < 16 }
-    ensures { result ≡ point_at curve i }
+    ensures { result ≡ point_at curve.now i }
 {
     Point {
         lux: curve.lux[i],
@@ -65,12 +65,12 @@ pub fn judge(curve: Curve) -> Result<(), BadPoint>
     if count < 1 || MAX_POINTS < count {
         return Err(BadPoint(0));
     }
-    let mut last = point_at(curve, 0);
+    let mut last = point_at(&curve, 0);
     if !in_range(last) {
         return Err(BadPoint(1));
     }
     for k in 1..count {
-        let next = point_at(curve, k as usize);
+        let next = point_at(&curve, k as usize);
         if !goes_on(last, next) {
             return Err(BadPoint(k + 1));
         }
@@ -102,12 +102,12 @@ fn level_on(curve: Curve, lux: u32) -> u32
     requires { judged_of curve ≡ good }
     ensures { result ≡ level_on curve lux }
 {
-    let mut p = point_at(curve, 0);
+    let mut p = point_at(&curve, 0);
     if lux < p.lux {
         return p.level;
     }
     for k in 1..curve.count {
-        let q = point_at(curve, k as usize);
+        let q = point_at(&curve, k as usize);
         if lux < q.lux {
             return step_up(p, q, lux);
         }
