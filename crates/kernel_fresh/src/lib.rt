@@ -18,11 +18,18 @@ use memory_columns::{
 use memory_queues::clear;
 use setup_plan::Plan;
 
-// The word `k` bytes behind an offset, 0 past the end, also where their sum is no offset.
+// The word `k` bytes behind an offset, 0 past the end, also where their sum is no offset. It is laid into none of its callers: a recorder
+// starts a kernel in its loop over bytes, which then had no room for serving an event.
+#[inline(never)]
 pub fn word_at(bytes: &[u8], at: usize, k: usize) -> u32
     ensures { result ≡ word_at bytes.now (at + k) }
 {
-    setup_sections::word(bytes, at.saturating_add(k))
+    let end = bytes.len();
+    if end <= at || end - at <= k {
+        0
+    } else {
+        setup_sections::word(bytes, at + k)
+    }
 }
 
 // How many there are of each; the clock is 0.

@@ -11,7 +11,8 @@ use Rattle.rules.proofs.Accepted.{from_read}
 use Rattle.std.specs.Prelude.{Result, Ok, Err}
 use Rattle.std.specs.Result.{IsErrAnd}
 use Rattle.std.proofs.lemmas.Result.{err_from_is_err_and}
-use Rattle.setup_sections.specs.Judging.{refusal, coded, judged_of, told_as, on_good, ranges}
+use Rattle.setup_sections.specs.Judging.{refusal, coded, judged_of, told_as, told_by, on_good, ranges}
+use Rattle.setup_sections.specs.declared.Fault.{Fault as Code}
 use Rattle.setup_sections.specs.declared.Refusal.{Refusal}
 use Rattle.setup_sections.proofs.Reading.{word_lies}
 
@@ -103,6 +104,19 @@ module _ (s : List ℕ) where
       (λ n j q. ap (λ m. judged_of (read_entries s t.entry m j)) (from_read _ _ n j q (word_lies s t.count S2 i)).0)
 
 -- ---- a word
+
+-- a word out of range may be told by any fault
+pub told_so : (s : List ℕ) (r : Range) (d : Code) (i : ℕ) → told_by (refusal S1 i) (record { fault = d; place = i }) (read_word s r S3 i) ≡ told_as d (read_word s r S3 i)
+unfolding read_word
+told_so s r d i = go (leb (i + 4) (length s)) (within r (word_at s i))
+  where
+    read : Bool → Bool → Read ℕ
+    read t u = cond t (cond u (got (word_at s i) (i + 4)) (refused S3 i)) (refused S1 i)
+
+    go : (t u : Bool) → told_by (refusal S1 i) (record { fault = d; place = i }) (read t u) ≡ told_as d (read t u)
+    go true true = refl
+    go true false = refl
+    go false u = refl
 
 -- told by the digit of a fault, it is the word read with that fault
 pub word_told : (s : List ℕ) (r : Range) (f : Fault) (i : ℕ) {j : Result ℕ Refusal} → j ≡ told_as (coded f) (read_word s r S3 i) → j ≡ judged_of (read_word s r f i)

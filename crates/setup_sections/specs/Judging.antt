@@ -40,6 +40,14 @@ told_as d (refused S2 place) = Err (refusal S2 place)
 told_as d (refused S3 place) = Err (record { fault = d; place = place })
 told_as d (refused S4 place) = Err (refusal S4 place)
 
+-- the same of a word, with whatever errors a caller has for one that is not whole and for one out of range
+abbrev pub told_by : {A E : Type 0} → E → E → Read A → Result ℕ E
+told_by short outside (got a next) = Ok next
+told_by short outside (refused S1 place) = Err short
+told_by short outside (refused S2 place) = Err outside
+told_by short outside (refused S3 place) = Err outside
+told_by short outside (refused S4 place) = Err outside
+
 -- an earlier fault stays
 abbrev pub on_good : Result ℕ Refusal → (ℕ → Result ℕ Refusal) → Result ℕ Refusal
 on_good (Ok i) f = f i

@@ -4,15 +4,21 @@
 
 ghost use Rattle.std.specs.Prelude.{◌≡◌, ◌+◌, ◌<◌, leb, length, get_or, replicate};
 ghost use Rattle.rules.specs.Setup.{S3, word_at, to, section, read_word, read_entry, read_entries, read_section};
-ghost use Rattle.setup_sections.specs.Judging.{onward, digit_of, judged_of, told_as, ranges_of};
+ghost use Rattle.setup_sections.specs.Judging.{onward, digit_of, judged_of, told_as, told_by, ranges_of};
 
 // ---- words
 
-// The byte `k` behind an offset, 0 past the end, also where their sum is no offset.
+// The byte `k` behind an offset, 0 past the end, also where their sum is no offset. Not by `get` of a sum that saturates: where a word is
+// known to be whole, its bytes are read without a test.
 fn byte(bytes: &[u8], at: usize, k: usize) -> u32
     ensures { (result ≡ get_or bytes.now (at + k) 0) × (result < 256) }
 {
-    bytes.get(at.saturating_add(k)).map_or(0, |b| u32::from(*b))
+    let end = bytes.len();
+    if end <= at || end - at <= k {
+        0
+    } else {
+        u32::from(bytes[at + k])
+    }
 }
 
 // The word at any offset, with zeros past the end.
@@ -97,21 +103,36 @@ pub struct Shape {
     pub others: Span,
 }
 
+// The word at an offset is whole, or has the error `short`; and it lies within its range, or has the error `outside`. A caller's errors may
+// be of any type.
+pub fn word_within<E: Drop>(
+    bytes: &[u8],
+    r: Span,
+    at: usize,
+    short: E,
+    outside: E,
+) -> Result<usize, E>
+    ensures { result ≡ told_by short outside (read_word bytes.now (to r.least r.most) S3 at) }
+{
+    if !has_word(bytes, at) {
+        return Err(short);
+    }
+    let w = word(bytes, at);
+    if w < r.least || r.most < w {
+        return Err(outside);
+    }
+    Ok(at + 4)
+}
+
 // The word at an offset is whole, or has the fault S1; and it lies within its range, or has the fault that is given.
 pub fn judge_word(bytes: &[u8], r: Span, fault: Fault, at: usize) -> Result<usize, Refusal>
     ensures { result ≡ told_as fault (read_word bytes.now (to r.least r.most) S3 at) }
 {
-    if !has_word(bytes, at) {
-        return Err(Refusal {
-            fault: Fault::S1,
-            place: at,
-        });
-    }
-    let w = word(bytes, at);
-    if w < r.least || r.most < w {
-        return Err(Refusal { fault, place: at });
-    }
-    Ok(at + 4)
+    let short = Refusal {
+        fault: Fault::S1,
+        place: at,
+    };
+    word_within(bytes, r, at, short, Refusal { fault, place: at })
 }
 
 // `n` words in a range.
