@@ -1,5 +1,5 @@
 -- The refusals before a call's own rule: the code of the first that applies, if one does.
-use Rattle.std.specs.Prelude.{Bool, false, cond, List, [], ◌∷◌, ◌++◌, ◌≡◌, ℕ, eqb, pos, Option, None, Some, Result, Ok, Err}
+use Rattle.std.specs.Prelude.{Bool, false, cond, List, [], ◌∷◌, ◌++◌, ◌≡◌, ℕ, zero, suc, eqb, pos, Option, None, Some, Result, Ok, Err}
 use Rattle.rules.specs.Codes.{Code, E-CTX, E-NOEXS, E-SELF, E-DMT, E-TPRI, E-ILTIME, H-PAR}
 use Rattle.rules.specs.State.{Kind}
 use Rattle.rules.specs.View.{View}
@@ -36,6 +36,13 @@ told (Err e) = Some (code_of e)
 abbrev pub context_of : Declared.Context → Context
 context_of TaskOnly = T
 context_of Both = both
+
+-- by a number, whatever it is
+abbrev pub numbered : ℕ → Named.Target
+numbered zero = Unnamed
+numbered (suc zero) = Anyone
+numbered (suc (suc zero)) = Alive
+numbered (suc (suc (suc n))) = Another
 
 -- of task i
 abbrev pub target_of : Named.Target → ℕ → Target

@@ -11,7 +11,7 @@ ghost use Rattle.rules.specs.State.{alarm_count};
 ghost use Rattle.rules.specs.Table as Table;
 ghost use Rattle.memory_columns.specs.Layout as Layout;
 ghost use Rattle.memory_columns.specs.Layout.{entry};
-ghost use Rattle.call_judging.specs.Judging.{code_of, context_of, target_of, absent_if, dormant_if, told, common_code, Judges, JudgesObject};
+ghost use Rattle.call_judging.specs.Judging.{code_of, context_of, numbered, target_of, absent_if, dormant_if, told, common_code, Judges, JudgesObject};
 
 use call_words::codes::{E_CTX, E_DMT, E_ILTIME, E_NOEXS, E_SELF, E_TPRI, H_PAR};
 use call_words::named;
@@ -72,7 +72,21 @@ pub enum Target {
     Another,
 }
 
-// Who calls: an open handler, or not; and the running task, 0 if none.
+// By a number: 0 none, 1 one that is there, 2 one that is not dormant either, any other one that is not oneself either.
+impl From<u32> for Target {
+    ghost from_gives = { λ n t. t ≡ numbered n };
+
+    fn from(n: u32) -> Target {
+        match n {
+            0 => Target::Unnamed,
+            1 => Target::Anyone,
+            2 => Target::Alive,
+            _ => Target::Another,
+        }
+    }
+}
+
+// Who calls: an open handler, or not; and the task that calls, 0 if none does.
 #[derive(Clone, Copy)]
 pub struct Caller {
     pub handler: bool,
