@@ -25,6 +25,6 @@ fn write_run(out: &impl Print, run: &Run) {
 fn main(rt: HostRuntime) {
     match count_file(&mut rt.stdin()) {
         Ok(run) => write_run(&rt.stdout(), &run),
-        Err(failure) => fail(&rt.stderr(), b"standard input", failure),
+        Err(unread) => fail(&rt.stderr(), b"standard input", unread.failure),
     }
 }

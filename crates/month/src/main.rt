@@ -43,7 +43,7 @@ fn run_at(files: &impl Files, path: &[u8]) -> Result<Run, Error> {
     let Ok(name) = str::from_utf8(path) else {
         return Err(Error::from_raw_os_error(NO_TEXT));
     };
-    count_file(&mut fs::open(files, name)?)
+    count_file(&mut fs::open(files, name)?).map_err(|unread| unread.failure)
 }
 
 // The run of the file that argument i names. Where it can't be read, it is named on standard error.

@@ -22,6 +22,13 @@ pub struct Run {
     pub refusal: Option<Counted>,
 }
 
+// Why not all of a file was read, and what its run came to up to there.
+#[derive(Clone, Copy)]
+pub struct Unread {
+    pub failure: Error,
+    pub run: Run,
+}
+
 // How many events ran: each counts once among the codes. The sum of so few words does not wrap.
 fn events(codes: &[u32; CODES]) -> u64 {
     codes
@@ -40,8 +47,8 @@ fn at_last(numbers: &[u32; NUMBERS], held: &[u8; HEAD]) -> Option<Counted> {
     }
 }
 
-// Counts a run to the end of its file or to its refusal. An error is that not all of it could be read.
-pub fn count_file(file: &mut impl Read) -> Result<Run, Error> {
+// Counts a run to the end of its file or to its refusal. Where not all of it could be read, what came before is counted all the same.
+pub fn count_file(file: &mut impl Read) -> Result<Run, Unread> {
     let mut numbers = [0u32; NUMBERS];
     begin(&mut numbers);
     let mut held = [0u8; HEAD];
@@ -50,12 +57,18 @@ pub fn count_file(file: &mut impl Read) -> Result<Run, Error> {
     let mut table = [[0u32; STATES]; TASKS];
     let mut codes = [0u32; CODES];
     let mut buffer = [0u8; BUFFER];
-    let mut refusal = None;
+    let mut refused = None;
+    let mut failed = None;
     // A loop has to end and nothing says that a file does: no run uses up so many turns.
     for _ in 0..u64::MAX {
-        let n = file.read(&mut buffer)?;
+        let n = match file.read(&mut buffer) {
+            Ok(n) => n,
+            Err(failure) => {
+                failed = Some(failure);
+                0
+            }
+        };
         if n == 0 {
-            refusal = at_last(&numbers, &held);
             break;
         }
         let said = count(
@@ -68,14 +81,18 @@ pub fn count_file(file: &mut impl Read) -> Result<Run, Error> {
             &buffer[..n],
         );
         if said.number != 0 {
-            refusal = Some(said);
+            refused = Some(said);
             break;
         }
     }
-    Ok(Run {
+    let run = Run {
         record: flat(table, codes),
         events: events(&codes),
         tasks: Column::System.get(&words, memory_columns::TASKS),
-        refusal,
-    })
+        refusal: refused.or(at_last(&numbers, &held)),
+    };
+    match failed {
+        None => Ok(run),
+        Some(failure) => Err(Unread { failure, run }),
+    }
 }
