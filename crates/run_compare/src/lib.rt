@@ -107,23 +107,24 @@ fn run_both(input: &[u8], second: usize, at: usize, n: usize, work: &mut Work)
 pub fn compare(input: &[u8], text: &mut [u8]) -> Result<usize, Short>
     ensures { Shown (difference_of input.now) result text.old text.new }
 {
+    // Filled before the input is judged: a local is cleared where its function is entered, and behind a call the compiler would do it twice.
+    let mut work = Work {
+        words: [0; STATE_WORDS],
+        messages: [0; MESSAGE_WORDS],
+        events: [0; EVENT_WORDS],
+        first: Lent {
+            codes: [0; EVENTS],
+            answers: [0; ANSWER_WORDS],
+        },
+        second: Lent {
+            codes: [0; EVENTS],
+            answers: [0; ANSWER_WORDS],
+        },
+    };
     match run_compare_reading::judge(input) {
         Err(refusal) => show_refusal(text, u32::from(refusal.fault), refusal.place),
         Ok(places) => {
             let n = setup_sections::word(input, places.events) as usize;
-            let mut work = Work {
-                words: [0; STATE_WORDS],
-                messages: [0; MESSAGE_WORDS],
-                events: [0; EVENT_WORDS],
-                first: Lent {
-                    codes: [0; EVENTS],
-                    answers: [0; ANSWER_WORDS],
-                },
-                second: Lent {
-                    codes: [0; EVENTS],
-                    answers: [0; ANSWER_WORDS],
-                },
-            };
             run_both(input, places.second, places.events, n, &mut work);
             let first = Answers {
                 codes: &work.first.codes,
