@@ -291,6 +291,32 @@ struct Place {
     width: usize,
 }
 
+impl Place {
+    // Entry i of the words there, 0 where there is none.
+    fn read(self, words: &[u32; STATE_WORDS], i: u32) -> u32
+        requires { self.at + self.width ≤ state_words }
+        ensures { result ≡ get_or (col self.at self.width words.now) i 0 }
+    {
+        let k = i as usize;
+        if k < self.width {
+            words[self.at + k]
+        } else {
+            0
+        }
+    }
+
+    // Entry i becomes v; where there is none nothing is written.
+    fn write(self, words: &mut [u32; STATE_WORDS], i: u32, v: u32)
+        requires { self.at + self.width ≤ state_words }
+        ensures { words.new ≡ store self.at self.width i v words.old }
+    {
+        let k = i as usize;
+        if k < self.width {
+            words[self.at + k] = v;
+        }
+    }
+}
+
 impl Column {
     fn place(self) -> Place
         ensures lies { (result.at ≡ (column_of self).at) × (result.width ≡ (column_of self).width) }
@@ -329,24 +355,14 @@ impl Column {
     pub fn get(self, words: &[u32; STATE_WORDS], i: u32) -> u32
         ensures { result ≡ entry (column_of self) words.now i }
     {
-        let place = self.place();
-        let k = i as usize;
-        if k < place.width {
-            words[place.at + k]
-        } else {
-            0
-        }
+        self.place().read(words, i)
     }
 
     // Entry i becomes v; where there is none nothing is written.
     pub fn set(self, words: &mut [u32; STATE_WORDS], i: u32, v: u32)
         ensures { words.new ≡ put (column_of self) i v words.old }
     {
-        let place = self.place();
-        let k = i as usize;
-        if k < place.width {
-            words[place.at + k] = v;
-        }
+        self.place().write(words, i, v);
     }
 }
 
