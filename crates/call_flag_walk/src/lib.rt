@@ -58,12 +58,15 @@ fn serve(words: &mut [u32; STATE_WORDS], i: u32, pattern: u32) -> Walked
         cleared: false,
     };
     for _ in 0..n {
-        if n < x || w.cleared {
+        if n < x {
             break;
         }
         // A release changes the links of x.
         let behind = follow(words, Rings::Tasks, x);
         w = look(words, x, pattern, w);
+        if w.cleared {
+            return w;
+        }
         x = behind;
     }
     w
