@@ -1,10 +1,10 @@
 // The figures of a month: the records of up to 64 runs summed, number by number. A record is a struct, and the month a
-// lent slice of them: `total` and `month` are thin and walked by hand, and leave the sums to functions on plain
+// lent slice of them: `added`, `total` and `month` are thin and walked by hand, and leave the sums to functions on plain
 // numbers. The contract of `month` cites `totals`, the exact sums.
 #![tactic(auto)]
 
 ghost use Rattle.std.specs.Prelude.{◌≡◌, true, length};
-ghost use Rattle.run_month.specs.Capped.{capped, none, plus_of, total_of};
+ghost use Rattle.run_month.specs.Capped.{capped, none, plus_of, total_from, total_of};
 ghost use Rattle.run_month.specs.Monthly.{fits, digit, refusal, report_of, Reported};
 
 // The numbers of a record: of each of 32 tasks the seven states, then the 29 codes.
@@ -108,15 +108,22 @@ pub fn report(t: Sum, records: usize, out: &mut [u32]) -> Result<(), Unreported>
 
 // ---- over the slice of records
 
-// The sums of all records.
-fn total(records: &[Record]) -> Sum
-    ensures { result ≡ total_of records.now }
+// So many records more, one after the other.
+fn added(mut t: Sum, records: &[Record]) -> Sum
+    ensures { result ≡ total_from t records.now }
 {
-    let mut t = none();
     for r in records {
         t = plus(t, *r);
     }
     t
+}
+
+// The sums of all records.
+#[tactic(auto, unfolding(crate::specs::Capped::total_of))]
+fn total(records: &[Record]) -> Sum
+    ensures { result ≡ total_of records.now }
+{
+    added(none(), records)
 }
 
 // The totals of a month in the output: of each task, by id, the states 0 to 6, then the codes. A refusal leaves the output as it was.
