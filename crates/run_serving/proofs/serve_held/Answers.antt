@@ -1,4 +1,5 @@
 -- `serve_held`: the words of the bytes held. Assumes nothing.
+use borrow.Author.Rules.{rules}
 use native.Mathlib.Omega.{arith}
 use mathlib.Core.Path.{◌≡◌, ap, ◌∙◌}
 use Prim.Native.Nat.{ℕ, ◌<◌, ◌^◌}
@@ -19,11 +20,12 @@ pub slice_bounds-event-end : goal.slice_bounds-event-end
 slice_bounds-event-end c = omega (arith, length-take 20 c.args.held.now, c.all-1.given)
 
 pub returns : goal.returns
-returns c =
-    rw (
+returns c = λ k.
+    (rw (
       read c.signed.type_inv c.signed.ensures c.word.ensures,
       read c.signed-2.type_inv c.signed-2.ensures c.word-2.ensures,
       read c.signed-3.type_inv c.signed-3.ensures c.word-3.ensures,
       read c.signed-4.type_inv c.signed-4.ensures c.word-4.ensures,
       read c.signed-5.type_inv c.signed-5.ensures c.word-5.ensures,
-    ) at c.serve.ensures
+    ) at c.serve.ensures)
+    (search rules)
