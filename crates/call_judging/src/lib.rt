@@ -11,6 +11,7 @@ ghost use Rattle.rules.specs.State.{alarm_count};
 ghost use Rattle.rules.specs.Table as Table;
 ghost use Rattle.memory_columns.specs.Layout as Layout;
 ghost use Rattle.memory_columns.specs.Layout.{entry};
+ghost use Rattle.call_judging.specs.declared.Target.{Target};
 ghost use Rattle.call_judging.specs.Judging.{code_of, context_of, numbered, target_of, absent_if, dormant_if, told, common_code, Judges, JudgesObject};
 
 use call_words::codes::{E_CTX, E_DMT, E_ILTIME, E_NOEXS, E_SELF, E_TPRI, H_PAR};
@@ -83,6 +84,31 @@ impl From<u32> for Target {
             2 => Target::Alive,
             _ => Target::Another,
         }
+    }
+}
+
+// What a caller may give for a target: one itself, or any number.
+pub trait IntoTarget {
+    // the target that it stands for
+    ghost target: { Self → Target };
+
+    fn into_target(self) -> Target
+        ensures { result ≡ target self };
+}
+
+impl IntoTarget for Target {
+    ghost target = { λ t. t };
+
+    fn into_target(self) -> Target {
+        self
+    }
+}
+
+impl IntoTarget for u32 {
+    ghost target = { numbered };
+
+    fn into_target(self) -> Target {
+        Target::from(self)
     }
 }
 
@@ -195,16 +221,17 @@ pub fn on_nothing(
 }
 
 // Task i.
-pub fn on_task(
+pub fn on_task<T: IntoTarget>(
     words: &[u32; STATE_WORDS],
     context: Context,
-    target: Target,
+    target: T,
     caller: Caller,
     i: u32,
 ) -> Result<(), Reason>
-    ensures { Judges (λ v. task_id v (pos i) ∷ []) (context_of context) (target_of target i) caller.handler caller.me
-        (told result) words.now }
+    ensures { Judges (λ v. task_id v (pos i) ∷ []) (context_of context) (target_of (T.target target) i)
+        caller.handler caller.me (told result) words.now }
 {
+    let target = target.into_target();
     if is_outside(i, Column::System.get(words, TASKS)) {
         return Err(Reason::Absent);
     }
@@ -212,17 +239,18 @@ pub fn on_task(
 }
 
 // Task i and priority p.
-pub fn on_priority(
+pub fn on_priority<T: IntoTarget>(
     words: &[u32; STATE_WORDS],
     context: Context,
-    target: Target,
+    target: T,
     caller: Caller,
     i: u32,
     p: u32,
 ) -> Result<(), Reason>
-    ensures { Judges (λ v. task_id v (pos i) ∷ priority v (pos p) ∷ []) (context_of context) (target_of target i)
-        caller.handler caller.me (told result) words.now }
+    ensures { Judges (λ v. task_id v (pos i) ∷ priority v (pos p) ∷ []) (context_of context)
+        (target_of (T.target target) i) caller.handler caller.me (told result) words.now }
 {
+    let target = target.into_target();
     if is_outside(i, Column::System.get(words, TASKS)) {
         return Err(Reason::Absent);
     }
