@@ -5,7 +5,7 @@
 ghost use Rattle.std.specs.Prelude.{◌≡◌};
 ghost use Rattle.kernel_batches.specs.Batches.{batch_number};
 ghost use Rattle.run_month.specs.Monthly.{digit};
-ghost use Rattle.export_numbers.specs.Numbers.{start_number, start_place, told_number, told_length};
+ghost use Rattle.export_numbers.specs.Numbers.{number_by, start_place, told_number, told_length};
 ghost use Rattle.export_numbers.specs.Brightness.{judged_number, judged_point, leveled_number, leveled_value, DisplayTold};
 
 use brightness_curve::BadPoint;
@@ -13,7 +13,7 @@ use brightness_light::{Light, News, Shown};
 use kernel_batches::Unfit;
 use run_compare_text::Short;
 use run_month::Unreported;
-use setup_sections::Refusal;
+use setup_sections::{FaultName, Refusal};
 
 // ---- a fresh state, and many events
 
@@ -25,8 +25,8 @@ pub struct Outcome {
     pub place: usize,
 }
 
-pub fn start_outcome(started: Result<(), Refusal>) -> Outcome
-    ensures { (result.number ≡ start_number started) × (result.place ≡ start_place started) }
+pub fn start_outcome<F: FaultName>(started: Result<(), Refusal<F>>) -> Outcome
+    ensures { (result.number ≡ number_by F.digit started) × (result.place ≡ start_place started) }
 {
     match started {
         Ok(()) => Outcome {
@@ -34,7 +34,7 @@ pub fn start_outcome(started: Result<(), Refusal>) -> Outcome
             place: 0,
         },
         Err(refusal) => Outcome {
-            number: u32::from(refusal.fault),
+            number: refusal.fault.digit(),
             place: refusal.place,
         },
     }

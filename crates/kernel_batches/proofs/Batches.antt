@@ -11,7 +11,7 @@ use lib.ListN.{length}
 use Rattle.std.specs.Prelude.{Result, Ok, Err}
 use Rattle.rules.specs.Setup.{Read, got, refused, Setup, setup}
 use Rattle.memory_picture.specs.Picture.{Memory}
-use Rattle.setup_sections.specs.declared.Refusal.{Refusal}
+use Rattle.setup_sections.specs.Judging.{Refusal}
 use Rattle.kernel_start.specs.Starting.{StartsAs, Starts}
 use Rattle.kernel_steps.specs.Written.{Lent, lent, RanThrough, Room}
 use Rattle.kernel_batches.specs.declared.Unfit.{Unfit}

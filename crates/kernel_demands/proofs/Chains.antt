@@ -16,7 +16,7 @@ use Rattle.rules.proofs.Events.{cell_reads}
 use Rattle.memory_picture.specs.Picture.{Memory, view_in}
 use Rattle.kernel_start.specs.Starting.{Starts, Holds}
 use Rattle.std.specs.Prelude.{Result}
-use Rattle.setup_sections.specs.declared.Refusal.{Refusal}
+use Rattle.setup_sections.specs.Judging.{Refusal}
 use Rattle.kernel_cells.specs.Promises.{Runs}
 use Rattle.kernel_steps.specs.Steps.{Reply, told, Step, Link, Chain, last_memory}
 use Rattle.kernel_demands.specs.Demands.{CellIs}

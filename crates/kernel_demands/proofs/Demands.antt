@@ -31,7 +31,7 @@ use Rattle.rules.proofs.OnlyBroken.{only_rel_wai, never_answered}
 use Rattle.memory_picture.specs.Picture.{Memory, view_in, SoundIn}
 use Rattle.kernel_start.specs.Starting.{Starts, Holds}
 use Rattle.std.specs.Prelude.{Result}
-use Rattle.setup_sections.specs.declared.Refusal.{Refusal}
+use Rattle.setup_sections.specs.Judging.{Refusal}
 use Rattle.kernel_steps.specs.Steps.{Reply, told, unsound, Step, Link, Chain}
 use Rattle.kernel_demands.specs.Demands.{Same, seen, Demand3OnCode, Balanced, OutNotGranted, BlocksOnce, seen_all, WornEvenlyOnCode, state_in, StaysBrokenOnCode, BrokenOnCode, OnlyRelWaiOnCode}
 use Rattle.kernel_demands.proofs.Chains.{start_holds, chain_words, runs_is, cell_is, step_holds, step_says}

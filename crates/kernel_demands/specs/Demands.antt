@@ -17,7 +17,7 @@ use Rattle.memory_columns.specs.Layout as Layout
 use Rattle.memory_columns.specs.Layout.{put}
 use Rattle.memory_picture.specs.Picture.{Memory, memory, view_in, SoundIn}
 use Rattle.kernel_start.specs.Starting.{Starts}
-use Rattle.setup_sections.specs.declared.Refusal.{Refusal}
+use Rattle.setup_sections.specs.Judging.{Refusal}
 use Rattle.kernel_cells.specs.Promises.{Reads, Runs}
 use Rattle.kernel_steps.specs.Steps.{Reply, told, Link, Chain, last_memory}
 

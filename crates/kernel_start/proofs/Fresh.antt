@@ -24,8 +24,7 @@ use Rattle.rules.proofs.Accepted.{GoodSetup, setup_good, idle_sound, all_there}
 use Rattle.rules.proofs.Calls.{AllThere, start_there}
 use Rattle.setup_plan.specs.declared.Plan.{Plan}
 use Rattle.std.specs.Prelude.{Result, Ok, Err}
-use Rattle.setup_sections.specs.declared.Refusal.{Refusal}
-use Rattle.setup_sections.specs.Judging.{judged_of}
+use Rattle.setup_sections.specs.Judging.{Refusal, judged_of}
 use Rattle.setup_plan.specs.Layout.{plan_of, PlanShows}
 use Rattle.setup_plan.proofs.Plans.{whole_plan_law, plan_fits}
 use Rattle.memory_columns.specs.Layout.{state_words, max_messages, max_blocks, at_most}

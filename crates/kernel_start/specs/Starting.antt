@@ -8,8 +8,7 @@ use Rattle.memory_columns.specs.Layout.{max_blocks, at_most}
 use Rattle.memory_tasks.specs.Moves.{started}
 use Rattle.memory_objects.specs.Moves.{marked}
 use Rattle.memory_picture.specs.Picture.{Memory, view_in, SoundIn}
-use Rattle.setup_sections.specs.Judging.{refusal}
-use Rattle.setup_sections.specs.declared.Refusal.{Refusal}
+use Rattle.setup_sections.specs.Judging.{Refusal, refusal}
 use Rattle.kernel_fresh.specs.Laying.{in_turn, word_of_id, laid}
 
 -- ---- the contract

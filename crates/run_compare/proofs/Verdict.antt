@@ -7,8 +7,7 @@ use lib.IntN.{ℤ}
 use lib.ListN.{length, take}
 use Rattle.std.proofs.Common.{Result, Ok, Err}
 use Rattle.rules.specs.Setup.{Fault, S1, S2, S3, S4, digit, word_at}
-use Rattle.setup_sections.specs.declared.Refusal.{Refusal}
-use Rattle.setup_sections.specs.Judging.{coded, digit_of}
+use Rattle.setup_sections.specs.Judging.{Refusal, coded, digit_of}
 use Rattle.run_text.specs.Lines.{refusal}
 use Rattle.run_compare_reading.specs.Compared.{input_bytes, Refuses, Lies, Judges}
 use Rattle.run_compare_reading.specs.declared.Places.{Places}

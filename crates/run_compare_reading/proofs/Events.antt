@@ -5,12 +5,11 @@ use Prim.Native.Nat.{ℕ, zero, suc, ◌+◌, ◌*◌, ◌≤◌}
 use native.Mathlib.Omega.{arith}
 use lib.IntN.{ℤ}
 use lib.ListN.{length, replicate, length-replicate}
-use Rattle.rules.specs.Setup.{S2, S3, Read, got, refused, and_then, word_at, Range, to, read_word, read_entry, read_entries, read_section, at_end}
+use Rattle.rules.specs.Setup.{S2, S3, S4, Read, got, refused, and_then, word_at, Range, to, read_word, read_entry, read_entries, read_section, at_end}
 use Rattle.rules.proofs.Accepted.{Reads, reads_both, reads_then}
-use Rattle.setup_sections.specs.Judging.{judged_of, on_good}
+use Rattle.setup_sections.specs.Judging.{Refusal, coded, judged_of, on_good}
 use Rattle.setup.specs.Whole.{ended_at}
 use Rattle.std.specs.Prelude.{Result}
-use Rattle.setup_sections.specs.declared.Refusal.{Refusal}
 use Rattle.setup_sections.proofs.Reading.{WordAt, word_lies}
 use Rattle.setup_sections.proofs.Judging.{map_judged}
 use Rattle.setup.proofs.Whole.{end_judged}
@@ -94,6 +93,6 @@ module _ (s : List ℕ) where
 
   -- ---- what is judged
 
-  pub events_judged : (i : ℕ) → judged_of (at_end s (read_events s i)) ≡ on_good (judged_of (read_section s events i)) (ended_at (length s))
+  pub events_judged : (i : ℕ) → judged_of (at_end s (read_events s i)) ≡ on_good (judged_of (read_section s events i)) (ended_at (coded S4) (length s))
   unfolding read_events
-  events_judged i = end_judged s (read_events s i) ∙ ap (λ (x : Result ℕ Refusal). on_good x (ended_at (length s))) (map_judged (read_section s events i) _)
+  events_judged i = end_judged s (read_events s i) ∙ ap (λ (x : Result ℕ Refusal). on_good x (ended_at (coded S4) (length s))) (map_judged (read_section s events i) _)

@@ -9,9 +9,8 @@ use lib.IntN.{ℤ}
 use lib.ListN.{length}
 use Rattle.rules.specs.Setup.{Fault, S4, Read, got, refused, and_then, Setup, read_setup, at_end}
 use Rattle.rules.proofs.Accepted.{Reads, reads_itself, reads_then, from_read}
-use Rattle.setup_sections.specs.Judging.{judged_of}
+use Rattle.setup_sections.specs.Judging.{Refusal, judged_of}
 use Rattle.std.specs.Prelude.{Result, Ok, Err}
-use Rattle.setup_sections.specs.declared.Refusal.{Refusal}
 use Rattle.setup_sections.proofs.Judging.{good_read, bad_read}
 use Rattle.run_compare_reading.specs.Compared.{Compared, read_events, compared, Refuses, Lies}
 use Rattle.run_compare_reading.proofs.Events.{Lie, events_lie}

@@ -4,8 +4,7 @@ use Rattle.std.specs.Prelude.{List, [], ◌∷◌, map, ◌≡◌, ℕ, zero, su
 use Rattle.rules.specs.Setup.{Fault, Read, got, refused, and_then, word_at, Range, to, Section, section, read_section, Setup, read_setup, at_end}
 use Rattle.rules.specs.Writing.{joined}
 use Rattle.run_reading.specs.Recorded.{head_bytes, event_bytes, signed_word}
-use Rattle.setup_sections.specs.Judging.{coded}
-use Rattle.setup_sections.specs.declared.Refusal.{Refusal}
+use Rattle.setup_sections.specs.Judging.{Refusal, coded}
 use Rattle.run_compare_reading.specs.declared.Places.{Places}
 
 -- ---- the input

@@ -12,8 +12,7 @@ use Rattle.rules.specs.Kernel.{fresh}
 use Rattle.memory_picture.specs.Picture.{tasks_shown, Memory, memory}
 use Rattle.check_damage.specs.declared.Breach.{Breach}
 use Rattle.kernel_start.specs.Starting.{Starts, Holds}
-use Rattle.setup_sections.specs.declared.Refusal.{Refusal}
-use Rattle.setup_sections.specs.Judging.{coded, digit_of}
+use Rattle.setup_sections.specs.Judging.{Refusal, coded, digit_of}
 use Rattle.kernel_steps.specs.Steps.{Reply, Link}
 use Rattle.kernel_steps.specs.Serving.{Known, Serves}
 use Rattle.kernel_serving.proofs.Served.{known_on}

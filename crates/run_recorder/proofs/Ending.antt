@@ -12,8 +12,7 @@ use Rattle.rules.specs.Setup.{Fault, S1, S2, S3, S4, digit, Read, got, refused}
 use Rattle.memory_picture.specs.Picture.{Memory}
 use Rattle.run_reading.specs.Recorded.{Head, read_head, event_bytes, event_in, Item, begins, occurs, refuses}
 use Rattle.run_reading.specs.Recorder.{Recorder, heading, running, stopped, ended, is_ended, on_end, at_input_end}
-use Rattle.setup_sections.specs.declared.Refusal.{Refusal}
-use Rattle.setup_sections.specs.Judging.{digit_of}
+use Rattle.setup_sections.specs.Judging.{Refusal, digit_of}
 use Rattle.run_stream.specs.declared.Item.{Item as Completed}
 use Rattle.run_stream.specs.declared.Item.TheVariants.{Nothing, Begins, Occurs}
 use Rattle.run_stream.specs.Lent.{recorder_of, Is, Tells}

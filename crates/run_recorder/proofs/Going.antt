@@ -14,8 +14,7 @@ use Rattle.rules.specs.Setup.{S1, S2, S3, S4, Read, got, refused, digit}
 use Rattle.std.proofs.Common.{Result, Option, None, Some}
 use Rattle.setup_sections.specs.declared.Fault.{Fault as Code}
 use Rattle.setup_sections.specs.declared.Fault.TheVariants as code
-use Rattle.setup_sections.specs.declared.Refusal.{Refusal}
-use Rattle.setup_sections.specs.Judging.{digit_of}
+use Rattle.setup_sections.specs.Judging.{Refusal, digit_of}
 use Rattle.memory_picture.specs.Picture.{Memory}
 use Rattle.check_damage.specs.declared.Breach.{Breach}
 use Rattle.kernel_steps.specs.Serving.{Known}

@@ -13,8 +13,7 @@ use Rattle.memory_picture.specs.Picture.{Memory, memory}
 use Rattle.memory_running.specs.Running.{running_of}
 use Rattle.memory_running.proofs.Running.{running_law}
 use Rattle.check_damage.specs.declared.Breach.{Breach}
-use Rattle.setup_sections.specs.declared.Refusal.{Refusal}
-use Rattle.setup_sections.specs.Judging.{coded, digit_of}
+use Rattle.setup_sections.specs.Judging.{Refusal, coded, digit_of}
 use Rattle.kernel_start.specs.Starting.{Starts, Holds}
 use Rattle.kernel_steps.specs.Steps.{Reply}
 use Rattle.kernel_steps.specs.Serving.{Known, Serves}

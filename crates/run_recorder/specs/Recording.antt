@@ -6,8 +6,7 @@ use Rattle.check_damage.specs.declared.Breach.{Breach}
 use Rattle.kernel_steps.specs.Serving.{Known}
 use Rattle.run_reading.specs.Recorded.{Item, begins, occurs, refuses}
 use Rattle.run_reading.specs.Recorder.{Recorder, closed, is_ended, ended, eat, items, after, at_input_end}
-use Rattle.setup_sections.specs.declared.Refusal.{Refusal}
-use Rattle.setup_sections.specs.Judging.{digit_of}
+use Rattle.setup_sections.specs.Judging.{Refusal, digit_of}
 use Rattle.run_stream.specs.declared.Item.{Item as Completed}
 use Rattle.run_stream.specs.Lent.{recorder_of, Is, Tells, Said, said}
 use Rattle.run_text.specs.Lines.{refusal, longest_line}

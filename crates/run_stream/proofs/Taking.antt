@@ -12,9 +12,8 @@ use borrow.Author.Tests.{le-leb, lt-leb}
 use Rattle.rules.specs.Setup.{Fault, S1, S2, S3, S4, Read, got, refused, word_at}
 use Rattle.rules.proofs.Accepted.{from_read}
 use Rattle.std.specs.Prelude.{Result, Ok, Err}
-use Rattle.setup_sections.specs.Judging.{coded, refusal, judged_of}
+use Rattle.setup_sections.specs.Judging.{Refusal, coded, refusal, judged_of}
 use Rattle.setup_sections.specs.declared.Fault.TheVariants as code
-use Rattle.setup_sections.specs.declared.Refusal.{Refusal}
 use Rattle.setup_sections.proofs.Judging.{good_read, bad_read}
 use Rattle.run_reading.specs.Recorded.{head_bytes, event_bytes, event_in, Head, read_head, begins, occurs, refuses}
 use Rattle.run_reading.specs.Recorder.{heading, running, stopped, ended, begun, closed, is_ended, Fed, fed, on_fault, on_head, eat, on_end, at_input_end}

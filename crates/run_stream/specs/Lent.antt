@@ -3,8 +3,7 @@ use Rattle.std.specs.Prelude.{Bool, List, [], ◌∷◌, ◌≡◌, ℕ, zero, s
 use Rattle.rules.specs.Setup.{Fault, got, setup}
 use Rattle.run_reading.specs.Recorded.{head_bytes, event_bytes, event_in, Head, Item, begins, occurs, refuses}
 use Rattle.run_reading.specs.Recorder.{Recorder, heading, running, stopped, ended, eat}
-use Rattle.setup_sections.specs.Judging.{coded}
-use Rattle.setup_sections.specs.declared.Refusal.{Refusal}
+use Rattle.setup_sections.specs.Judging.{Refusal, coded}
 use Rattle.run_stream.specs.declared.Item.{Item as Completed}
 use Rattle.run_stream.specs.declared.Item.TheVariants.{Nothing, Begins, Occurs}
 

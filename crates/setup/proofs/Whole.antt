@@ -10,8 +10,7 @@ use lib.ListN.{length}
 use Rattle.rules.specs.Setup.{S2, S3, S4, Read, got, refused, and_then, word_at, to, read_word, Section, priorities, sections, alarm_ranges, counters, read_entry, read_entries, read_section, read_sections, entries_of, setup_of, read_with, perhaps, at_end, setup}
 use Rattle.rules.proofs.Accepted.{Reads, reads_then, from_read, Within, SectionFits, word_reads, section_reads}
 use Rattle.std.specs.Prelude.{Result, Ok, Err}
-use Rattle.setup_sections.specs.Judging.{refusal, onward, judged_of, on_good}
-use Rattle.setup_sections.specs.declared.Refusal.{Refusal}
+use Rattle.setup_sections.specs.Judging.{Refusal, refusal, coded, onward, judged_of, on_good}
 use Rattle.setup_sections.proofs.Reading.{RowsAt, word_lies, section_lies}
 use Rattle.setup_sections.proofs.Judging.{then_judged, map_judged, on_good_lem, on_same, on_twice, words_judged, pair_judged, entries_judged, no_entries_judged}
 use Rattle.setup.specs.Whole.{left_out, ended_at}
@@ -112,7 +111,7 @@ module _ (s : List ℕ) where
 
   -- ---- nothing may follow
 
-  pub end_judged : {A : Type 0} (r : Read A) → judged_of (at_end s r) ≡ on_good (judged_of r) (ended_at (length s))
+  pub end_judged : {A : Type 0} (r : Read A) → judged_of (at_end s r) ≡ on_good (judged_of r) (ended_at (coded S4) (length s))
   unfolding at_end
   end_judged {A} (got a i) = pick (leb (length s) i)
     where
@@ -121,6 +120,6 @@ module _ (s : List ℕ) where
       pick false = refl
   end_judged (refused d i) = refl
 
-  pub whole_judged : judged_of (setup s) ≡ on_good (judged_of (read_with perhaps s 0)) (ended_at (length s))
+  pub whole_judged : judged_of (setup s) ≡ on_good (judged_of (read_with perhaps s 0)) (ended_at (coded S4) (length s))
   unfolding setup
   whole_judged = end_judged (read_with perhaps s 0)

@@ -3,13 +3,13 @@
 #![tactic(auto)]
 
 ghost use Rattle.std.specs.Prelude.{◌≡◌, [], ◌∷◌};
-ghost use Rattle.rules.specs.Setup.{word_at, to, section, counters, read_entry, read_section};
+ghost use Rattle.rules.specs.Setup.{S4, word_at, to, section, counters, read_entry, read_section};
 ghost use Rattle.rules.specs.Setup.{read_with, read_setup, perhaps, setup};
-ghost use Rattle.setup_sections.specs.Judging.{onward, judged_of, on_good, ranges_of};
+ghost use Rattle.setup_sections.specs.Judging.{onward, coded, judged_of, on_good, ranges_of};
 ghost use Rattle.setup.specs.Whole.{left_out, ended_at};
 
 use setup_sections::{
-    Fault, Refusal, Shape, Span, judge_entries, judge_section, judge_word, onward, word,
+    Fault, FaultName, Refusal, Shape, Span, judge_entries, judge_section, judge_word, onward, word,
 };
 
 // The largest counts.
@@ -155,13 +155,16 @@ fn judge_alone(bytes: &[u8]) -> Result<usize, Refusal>
 }
 
 // Nothing may follow what was judged, of so many bytes.
-pub fn at_end(length: usize, judged: Result<usize, Refusal>) -> Result<usize, Refusal>
-    ensures { result ≡ on_good judged (ended_at length) }
+pub fn at_end<F: FaultName>(
+    length: usize,
+    judged: Result<usize, Refusal<F>>,
+) -> Result<usize, Refusal<F>>
+    ensures { result ≡ on_good judged (ended_at (F.name (coded S4)) length) }
 {
     let end = judged?;
     if end < length {
         return Err(Refusal {
-            fault: Fault::S4,
+            fault: F::name(Fault::S4),
             place: end,
         });
     }

@@ -11,9 +11,7 @@ use Rattle.rules.proofs.Accepted.{from_read}
 use Rattle.std.specs.Prelude.{Result, Ok, Err}
 use Rattle.std.specs.Result.{IsErrAnd}
 use Rattle.std.proofs.lemmas.Result.{err_from_is_err_and}
-use Rattle.setup_sections.specs.Judging.{refusal, coded, judged_of, told_as, told_by, on_good, ranges}
-use Rattle.setup_sections.specs.declared.Fault.{Fault as Code}
-use Rattle.setup_sections.specs.declared.Refusal.{Refusal}
+use Rattle.setup_sections.specs.Judging.{Refusal, refusal, coded, judged_of, told_as, told_by, on_good, ranges}
 use Rattle.setup_sections.proofs.Reading.{word_lies}
 
 module _ {A B : Type 0} where
@@ -105,25 +103,25 @@ module _ (s : List ℕ) where
 
 -- ---- a word
 
--- a word out of range may be told by any fault
-pub told_so : (s : List ℕ) (r : Range) (d : Code) (i : ℕ) → told_by (refusal S1 i) (record { fault = d; place = i }) (read_word s r S3 i) ≡ told_as d (read_word s r S3 i)
+-- a word out of range may be told by any fault; n: the name of each fault
+pub told_so : {F : Type 0} (n : Fault → F) (s : List ℕ) (r : Range) (d : F) (i : ℕ) → told_by (record { fault = n S1; place = i }) (record { fault = d; place = i }) (read_word s r S3 i) ≡ told_as n d (read_word s r S3 i)
 unfolding read_word
-told_so s r d i = go (leb (i + 4) (length s)) (within r (word_at s i))
+told_so {F} n s r d i = go (leb (i + 4) (length s)) (within r (word_at s i))
   where
     read : Bool → Bool → Read ℕ
     read t u = cond t (cond u (got (word_at s i) (i + 4)) (refused S3 i)) (refused S1 i)
 
-    go : (t u : Bool) → told_by (refusal S1 i) (record { fault = d; place = i }) (read t u) ≡ told_as d (read t u)
+    go : (t u : Bool) → told_by (record { fault = n S1; place = i }) (record { fault = d; place = i }) (read t u) ≡ told_as n d (read t u)
     go true true = refl
     go true false = refl
     go false u = refl
 
 -- told by the digit of a fault, it is the word read with that fault
-pub word_told : (s : List ℕ) (r : Range) (f : Fault) (i : ℕ) {j : Result ℕ Refusal} → j ≡ told_as (coded f) (read_word s r S3 i) → j ≡ judged_of (read_word s r f i)
+pub word_told : (s : List ℕ) (r : Range) (f : Fault) (i : ℕ) {j : Result ℕ Refusal} → j ≡ told_as coded (coded f) (read_word s r S3 i) → j ≡ judged_of (read_word s r f i)
 unfolding read_word
 word_told s r f i e = e ∙ go (leb (i + 4) (length s)) (within r (word_at s i))
   where
-    go : (t u : Bool) → told_as (coded f) (cond t (cond u (got (word_at s i) (i + 4)) (refused S3 i)) (refused S1 i)) ≡ judged_of (cond t (cond u (got (word_at s i) (i + 4)) (refused f i)) (refused S1 i))
+    go : (t u : Bool) → told_as coded (coded f) (cond t (cond u (got (word_at s i) (i + 4)) (refused S3 i)) (refused S1 i)) ≡ judged_of (cond t (cond u (got (word_at s i) (i + 4)) (refused f i)) (refused S1 i))
     go true true = refl
     go true false = refl
     go false u = refl

@@ -3,7 +3,7 @@ use Rattle.std.specs.Prelude.{List, [], ◌∷◌, ℕ, zero, suc, ◌+◌, min,
 use Rattle.rules.specs.Setup.{Fault, S1, S2, S3, S4, digit, Read, got, refused, Range, to}
 use Rattle.setup_sections.specs.declared.Fault.{Fault as Code}
 use Rattle.setup_sections.specs.declared.Fault.TheVariants as code
-use Rattle.setup_sections.specs.declared.Refusal.{Refusal}
+use Rattle.setup_sections.specs.declared.Refusal.{Refusal as RefusalBy}
 use Rattle.setup_sections.specs.declared.Shape.{Shape}
 
 -- n bytes behind i, at most the end
@@ -24,6 +24,10 @@ digit_of code.S2 = digit S2
 digit_of code.S3 = digit S3
 digit_of code.S4 = digit S4
 
+-- of a fault by its name
+abbrev pub Refusal : Type 0
+Refusal = RefusalBy Code
+
 abbrev pub refusal : Fault → ℕ → Refusal
 refusal f i = record { fault = coded f; place = i }
 
@@ -32,13 +36,13 @@ abbrev pub judged_of : {A : Type 0} → Read A → Result ℕ Refusal
 judged_of (got a next) = Ok next
 judged_of (refused f place) = Err (refusal f place)
 
--- the same of a word, whose fault S3 is told as another
-abbrev pub told_as : {A : Type 0} → Code → Read A → Result ℕ Refusal
-told_as d (got a next) = Ok next
-told_as d (refused S1 place) = Err (refusal S1 place)
-told_as d (refused S2 place) = Err (refusal S2 place)
-told_as d (refused S3 place) = Err (record { fault = d; place = place })
-told_as d (refused S4 place) = Err (refusal S4 place)
+-- the same of a word, whose fault S3 is told as another, whatever that is; n: the name of each fault
+abbrev pub told_as : {A F : Type 0} → (Fault → F) → F → Read A → Result ℕ (RefusalBy F)
+told_as n d (got a next) = Ok next
+told_as n d (refused S1 place) = Err (record { fault = n S1; place = place })
+told_as n d (refused S2 place) = Err (record { fault = n S2; place = place })
+told_as n d (refused S3 place) = Err (record { fault = d; place = place })
+told_as n d (refused S4 place) = Err (record { fault = n S4; place = place })
 
 -- the same of a word, with whatever errors a caller has for one that is not whole and for one out of range
 abbrev pub told_by : {A E : Type 0} → E → E → Read A → Result ℕ E
@@ -49,7 +53,7 @@ told_by short outside (refused S3 place) = Err outside
 told_by short outside (refused S4 place) = Err outside
 
 -- an earlier fault stays
-abbrev pub on_good : Result ℕ Refusal → (ℕ → Result ℕ Refusal) → Result ℕ Refusal
+abbrev pub on_good : {E : Type 0} → Result ℕ E → (ℕ → Result ℕ E) → Result ℕ E
 on_good (Ok i) f = f i
 on_good (Err e) f = Err e
 

@@ -2,9 +2,9 @@
 // cite the rules' own reader, for any bytes and any offset.
 #![tactic(auto)]
 
-ghost use Rattle.std.specs.Prelude.{◌≡◌, ◌+◌, ◌<◌, leb, length, get_or, replicate};
+ghost use Rattle.std.specs.Prelude.{◌≡◌, ℕ, ◌+◌, ◌<◌, leb, length, get_or, replicate};
 ghost use Rattle.rules.specs.Setup.{S3, word_at, to, section, read_word, read_entry, read_entries, read_section};
-ghost use Rattle.setup_sections.specs.Judging.{onward, digit_of, judged_of, told_as, told_by, ranges_of};
+ghost use Rattle.setup_sections.specs.Judging.{onward, coded, digit_of, judged_of, told_as, told_by, ranges_of};
 
 // ---- words
 
@@ -72,10 +72,54 @@ impl From<Fault> for u32 {
     }
 }
 
+// What names a fault: one of the four, or a number, whatever number it is.
+pub trait FaultName: Copy {
+    ghost use Rattle.setup_sections.specs.declared.Fault.{Fault};
+
+    // Of one of the four.
+    ghost name: { Fault → Self };
+
+    ghost digit: { Self → ℕ };
+
+    fn name(fault: Fault) -> Self
+        ensures { result ≡ name fault };
+
+    fn digit(self) -> u32
+        ensures { result ≡ digit self };
+}
+
+impl FaultName for Fault {
+    ghost name = { λ f. f };
+
+    ghost digit = { digit_of };
+
+    fn name(fault: Fault) -> Fault {
+        fault
+    }
+
+    fn digit(self) -> u32 {
+        u32::from(self)
+    }
+}
+
+impl FaultName for u32 {
+    ghost name = { digit_of };
+
+    ghost digit = { λ d. d };
+
+    fn name(fault: Fault) -> u32 {
+        u32::from(fault)
+    }
+
+    fn digit(self) -> u32 {
+        self
+    }
+}
+
 // The first fault and its place. What is judged without one is told by the offset behind what was read.
 #[derive(Clone, Copy)]
-pub struct Refusal {
-    pub fault: Fault,
+pub struct Refusal<F = Fault> {
+    pub fault: F,
     pub place: usize,
 }
 
@@ -125,11 +169,16 @@ pub fn word_within<E: Drop>(
 }
 
 // The word at an offset is whole, or has the fault S1; and it lies within its range, or has the fault that is given.
-pub fn judge_word(bytes: &[u8], r: Span, fault: Fault, at: usize) -> Result<usize, Refusal>
-    ensures { result ≡ told_as fault (read_word bytes.now (to r.least r.most) S3 at) }
+pub fn judge_word<F: FaultName>(
+    bytes: &[u8],
+    r: Span,
+    fault: F,
+    at: usize,
+) -> Result<usize, Refusal<F>>
+    ensures { result ≡ told_as (λ f. F.name (coded f)) fault (read_word bytes.now (to r.least r.most) S3 at) }
 {
     let short = Refusal {
-        fault: Fault::S1,
+        fault: F::name(Fault::S1),
         place: at,
     };
     word_within(bytes, r, at, short, Refusal { fault, place: at })
